@@ -1,0 +1,223 @@
+//! What is timed: each operation at 128 and at 1,024 corners, on a handful of
+//! parts of different shapes.
+
+use crate::library;
+#[cfg(feature = "read_chart")]
+use bend_tests::draw::chart_of;
+#[cfg(feature = "draw")]
+use bend_tests::draw::draw_sheet;
+#[cfg(feature = "edits")]
+use bend_tests::edit::{edit_sheet, Edit};
+use bend_tests::part::{Corner, Part};
+#[cfg(feature = "plan")]
+use bend_tests::plan::plan_sheet;
+use bend_tests::random::Random;
+#[cfg(feature = "read_chart")]
+use bend_tests::reader::read_chart;
+use bend_tests::shapes::{part, SHAPES};
+#[allow(unused_imports)] // unused if charts alone are timed
+use bend_tests::sheet;
+use std::hint::black_box;
+use std::rc::Rc;
+
+/// Calls an operation once on every input, each time with the same output.
+pub type Pass = Box<dyn Fn(&mut [u8])>;
+
+/// One line of the table.
+pub struct Case {
+    pub operation: &'static str,
+    pub corners: Corner,
+    pub inputs: usize,
+    pub ours: Pass,
+    pub model: Pass,
+}
+
+/// Room for the longest result of any operation.
+pub const ROOM: usize = 32_000;
+
+/// A part of each shape, with part number.
+fn parts(corners: Corner) -> Vec<Part> {
+    let mut random = Random::new(u64::from(corners));
+    SHAPES
+        .iter()
+        .map(|&shape| Part {
+            number: Some(42),
+            ..part(shape, corners, &mut random)
+        })
+        .collect()
+}
+
+/// The parts' sheets in normal order.
+#[cfg(any(feature = "normalize", feature = "plan", feature = "draw"))]
+fn normal_sheets(corners: Corner) -> Vec<Vec<u8>> {
+    parts(corners).iter().map(sheet::normal).collect()
+}
+
+/// The parts' sheets with pairs in any order, either corner first.
+#[cfg(feature = "normalize")]
+fn shuffled_sheets(corners: Corner) -> Vec<Vec<u8>> {
+    let mut random = Random::new(7);
+    let mut shuffled = |part: &Part| {
+        let mut pairs = part.diagonals.clone();
+        random.shuffle(&mut pairs);
+        for pair in pairs.iter_mut().step_by(2) {
+            *pair = (pair.1, pair.0);
+        }
+        sheet::with_pairs(part.n, &pairs, part.number)
+    };
+    parts(corners).iter().map(&mut shuffled).collect()
+}
+
+/// A case of an operation whose two sides take an input and lent output.
+fn case<I: 'static, A: 'static, B: 'static>(
+    operation: &'static str,
+    corners: Corner,
+    inputs: Vec<I>,
+    ours: impl Fn(&I, &mut [u8]) -> A + 'static,
+    model: impl Fn(&I, &mut [u8]) -> B + 'static,
+) -> Case {
+    let inputs = Rc::new(inputs);
+    Case {
+        operation,
+        corners,
+        inputs: inputs.len(),
+        ours: pass(inputs.clone(), ours),
+        model: pass(inputs, model),
+    }
+}
+
+fn pass<I: 'static, A: 'static>(
+    inputs: Rc<Vec<I>>,
+    call: impl Fn(&I, &mut [u8]) -> A + 'static,
+) -> Pass {
+    Box::new(move |out| {
+        for input in inputs.iter() {
+            black_box(call(black_box(input), out));
+        }
+    })
+}
+
+/// The parts' sheets with the edit that `choose` gives for each.
+#[cfg(feature = "edits")]
+fn edits(corners: Corner, choose: impl Fn(&Part) -> Edit) -> Vec<(Vec<u8>, Edit)> {
+    parts(corners)
+        .iter()
+        .map(|part| (sheet::normal(part), choose(part)))
+        .collect()
+}
+
+/// A corner of the part at which no diagonal ends.
+#[cfg(feature = "edits")]
+fn ear(part: &Part) -> Corner {
+    let ends = |k: Corner| part.diagonals.iter().any(|&(a, b)| a == k || b == k);
+    (0..part.n)
+        .rev()
+        .find(|&k| !ends(k))
+        .expect("every part has ears")
+}
+
+/// The library's function for the edit.
+#[cfg(feature = "edits")]
+fn edit(sheet: &[u8], edit: Edit, out: &mut [u8]) -> u64 {
+    match edit {
+        Edit::Add { side } => library::add_ear(sheet, side as usize, out),
+        Edit::TakeOff { corner } => library::remove_ear(sheet, corner as usize, out),
+        Edit::Turn { a, b } => library::flip(sheet, a as usize, b as usize, out),
+    }
+}
+
+/// All cases, each operation's two sizes next to each other.
+pub fn all() -> Vec<Case> {
+    let mut cases = Vec::new();
+    let sizes = [128, 1024];
+    #[cfg(feature = "normalize")]
+    {
+        cases.extend(sizes.map(|n| {
+            let sheets = normal_sheets(n);
+            case(
+                "normalize, in order",
+                n,
+                sheets,
+                |sheet, out| library::normalize(sheet, out),
+                |sheet, out| sheet::set_in_order(sheet, out),
+            )
+        }));
+        cases.extend(sizes.map(|n| {
+            let sheets = shuffled_sheets(n);
+            case(
+                "normalize, shuffled",
+                n,
+                sheets,
+                |sheet, out| library::normalize(sheet, out),
+                |sheet, out| sheet::set_in_order(sheet, out),
+            )
+        }));
+    }
+    #[cfg(feature = "edits")]
+    {
+        let edit_case = |operation, n, inputs: Vec<(Vec<u8>, Edit)>| {
+            case(
+                operation,
+                n,
+                inputs,
+                |(sheet, chosen), out| edit(sheet, *chosen, out),
+                |(sheet, chosen), out| edit_sheet(sheet, *chosen, out),
+            )
+        };
+        // A part of 1,024 corners takes no more: the corner is added one below.
+        cases.extend(sizes.map(|n| {
+            let side = |part: &Part| Edit::Add {
+                side: u64::from(part.n / 3),
+            };
+            edit_case("add a corner, to", n, edits(n - 1, side))
+        }));
+        cases.extend(sizes.map(|n| {
+            let corner = |part: &Part| Edit::TakeOff {
+                corner: u64::from(ear(part)),
+            };
+            edit_case("take off a corner", n, edits(n, corner))
+        }));
+        cases.extend(sizes.map(|n| {
+            let diagonal = |part: &Part| {
+                let (a, b) = part.diagonals[part.diagonals.len() / 2];
+                Edit::Turn {
+                    a: a.into(),
+                    b: b.into(),
+                }
+            };
+            edit_case("turn a diagonal", n, edits(n, diagonal))
+        }));
+    }
+    #[cfg(feature = "plan")]
+    cases.extend(sizes.map(|n| {
+        case(
+            "plan",
+            n,
+            normal_sheets(n),
+            |sheet, _| library::plan(sheet),
+            |sheet, _| plan_sheet(sheet),
+        )
+    }));
+    #[cfg(feature = "draw")]
+    cases.extend(sizes.map(|n| {
+        case(
+            "draw",
+            n,
+            normal_sheets(n),
+            |sheet, out| library::draw(sheet, out),
+            |sheet, out| draw_sheet(sheet, out),
+        )
+    }));
+    #[cfg(feature = "read_chart")]
+    cases.extend(sizes.map(|n| {
+        let charts = parts(n).iter().map(|part| chart_of(part).bytes()).collect();
+        case(
+            "read a chart",
+            n,
+            charts,
+            |chart: &Vec<u8>, out| library::read_chart(chart, out),
+            |chart, out| read_chart(chart, out),
+        )
+    }));
+    cases
+}

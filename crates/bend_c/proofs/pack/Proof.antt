@@ -1,0 +1,29 @@
+-- By the two cases of an answer.
+use borrow.Author.Needs.{needs}
+use native.Mathlib.Omega.{arith}
+use Rattle.codec.proofs.Answers.{packed-bytes, packed-refused, packed-fits}
+use Rattle.bend_c.proofs.pack.Statement.{statement}
+use Rattle.bend_c.proofs.pack.Tie as tie
+use Rattle.bend_c.proofs.pack.Reads as reads
+use Rattle.bend_c.proofs.pack.Lts as lts
+
+enum-known-w : tie.Need-enum-known-w
+enum-known-w c = search needs
+
+mul-result : tie.Need-mul-result
+mul-result c = omega (arith, packed-fits (c .before .before .before .args .w) _ (c .before .before .before .pre) (c .before .w .given .1))
+
+enum-known-w-2 : tie.Need-enum-known-w-2
+enum-known-w-2 c = search needs
+
+cast-result : tie.Need-cast-result
+cast-result c = search needs
+
+returns : tie.Need-returns
+returns c = packed-bytes (c .before .before .before .args .w) _ (c .before .w .given .1)
+
+returns-2 : tie.Need-returns-2
+returns-2 c = packed-refused (c .before .before .before .args .w) _ (c .before .w2 .given .1)
+
+pub pack-spec : {M : Type 1} → statement M
+pack-spec = tie.close (tie.spec enum-known-w mul-result enum-known-w-2 cast-result returns returns-2)

@@ -1,0 +1,28 @@
+// Every operation without record lists, for C: numbers and byte runs in, one number out. include/bend.h declares them.
+// The low 16 bits of an answer are the number, 0 or that of a refusal; the length of what was written stands above it.
+ghost use mathlib.Core.Path.{_≡_};
+ghost use mathlib.Core.List.{List};
+ghost use Prim.Native.Nat.{ℕ};
+ghost use Rattle.codec.specs.Answer.{written, answered, packed, Packable};
+ghost use Rattle.sheet.specs.Sheet.{ordered};
+use codec::Written;
+
+// The answer in one number.
+fn pack(w: Written) -> u64
+    requires { ⌜ Packable w ⌝ }
+    ensures { λ r. ⌜ ((out : List ℕ) → r ≡ packed (answered w out)) ⌝ }
+{
+    match w {
+        Written::Bytes(k) => k as u64 * 65536,
+        Written::Refused(k) => k as u64,
+    }
+}
+
+// Set in order.
+#[no_mangle]
+pub extern "C" fn bend_normalize(sheet: &[u8], out: &mut [u8]) -> u64
+    ensures { λ r. ⌜ r ≡ packed (written (ordered (now (sheet .entry))) (now (out .entry))) ⌝ }
+    ensures { λ r. ⌜ now (out .exit) ≡ written (ordered (now (sheet .entry))) (now (out .entry)) .bytes ⌝ }
+{
+    pack(sheet::normalize(sheet, out))
+}

@@ -1,0 +1,86 @@
+-- The loop's invariant is `Scanned`.
+use mathlib.Core.Path.{_≡_, refl, ap, sym, _∙_}
+use Prim.Native.Nat.{ℕ, _-_}
+use borrow.Author.Needs.{needs}
+use native.Mathlib.Omega.{arith}
+use lib.ListN.{length}
+use Rattle.keys.proofs.Apexes.{Scanned, tops-begin, scanned-next, scanned-end, diagonal-at}
+use Rattle.keys.proofs.cross.apexes.Statement.{statement}
+use Rattle.keys.proofs.cross.apexes.Tie as tie
+use Rattle.keys.proofs.cross.apexes.Reads as reads
+use Rattle.keys.proofs.cross.apexes.Lts as lts
+use Rattle.keys.proofs.cross.begin.Reads as begin-reads
+use Rattle.keys.proofs.high.Reads as high-reads
+use Rattle.keys.proofs.low.Reads as low-reads
+
+abbrev Inv-loop : tie.InvT-loop
+Inv-loop keys n top₀ apex₀ j₀ top apex j = Scanned n keys (length apex₀) top apex j
+
+abbrev μ-loop : tie.MeasureT-loop
+μ-loop keys n top₀ apex₀ j₀ top apex j = length keys - j
+
+begin-requires : tie.Need-begin-requires Inv-loop μ-loop
+begin-requires c κs = c .before .before .before .before .pre .1 .1
+
+loop-holds : tie.Need-loop-holds Inv-loop μ-loop
+loop-holds c = record { upto = omega arith; tops-size = c .before .before .begin .kept .0 ∙ c .before .before .before .before .before .before .before .pre .1 .1; apex-size = refl; tops = tops-begin (c .before .before .before .before .before .before .before .args .n) (c .before .before .begin .last .0) (c .before .before .before .before .before .before .before .pre .1 .0) (c .before .before .begin .ensures); apexes = λ i h. absurd (omega arith) }
+
+mul-low : tie.Need-mul-low Inv-loop μ-loop
+mul-low c = omega arith
+
+shared-slice-read-low : tie.Need-shared-slice-read-low Inv-loop μ-loop
+shared-slice-read-low c = omega arith
+
+low-requires : tie.Need-low-requires Inv-loop μ-loop
+low-requires c κs = omega arith
+
+mul-apex : tie.Need-mul-apex Inv-loop μ-loop
+mul-apex c = omega (arith, c .low .ensures, c .before .shared-slice-known2 .given (c .before .before .before .loop .j))
+
+slice-read-apex : tie.Need-slice-read-apex Inv-loop μ-loop
+slice-read-apex c = omega (arith, c .before .low .ensures, diagonal-at (c .before .before .before .before .before .before .before .before .before .before .before .before .args .n) (c .before .before .before .before .before .before .before .before .before .before .before .before .args .keys .now) (c .before .before .before .before .before .before .before .before .before .before .before .before .pre .0) (c .before .before .before .before .loop .j) (c .before .before .before .loop-test .taken), c .before .before .before .before .before .before .before .before .before .before .before .before .pre .1 .0, c .before .before .before .before .loop .inv .tops-size)
+
+mul-apex-2 : tie.Need-mul-apex-2 Inv-loop μ-loop
+mul-apex-2 c = omega arith
+
+slice-write-apex : tie.Need-slice-write-apex Inv-loop μ-loop
+slice-write-apex c = omega (arith, c .before .before .before .before .loop .inv .apex-size, c .before .before .before .before .before .before .before .before .before .before .before .before .pre .1 .2)
+
+mul-high : tie.Need-mul-high Inv-loop μ-loop
+mul-high c = omega arith
+
+shared-slice-read-high : tie.Need-shared-slice-read-high Inv-loop μ-loop
+shared-slice-read-high c = omega arith
+
+high-requires : tie.Need-high-requires Inv-loop μ-loop
+high-requires c κs = omega arith
+
+cast-top : tie.Need-cast-top Inv-loop μ-loop
+cast-top c = omega arith
+
+mul-top : tie.Need-mul-top Inv-loop μ-loop
+mul-top c = omega (arith, c .before .before .before .low .ensures, c .before .before .before .before .shared-slice-known2 .given (c .before .before .before .before .before .before .loop .j))
+
+slice-write-top : tie.Need-slice-write-top Inv-loop μ-loop
+slice-write-top c = omega (arith, c .before .before .before .low .ensures, diagonal-at (c .before .before .before .before .before .before .before .before .before .before .before .before .before .before .args .n) (c .before .before .before .before .before .before .before .before .before .before .before .before .before .before .args .keys .now) (c .before .before .before .before .before .before .before .before .before .before .before .before .before .before .pre .0) (c .before .before .before .before .before .before .loop .j) (c .before .before .before .before .before .loop-test .taken), c .before .before .before .before .before .before .before .before .before .before .before .before .before .before .pre .1 .0, c .before .before .before .before .before .before .loop .inv .tops-size)
+
+add-j : tie.Need-add-j Inv-loop μ-loop
+add-j c = omega arith
+
+loop-less : tie.Need-loop-less Inv-loop μ-loop
+loop-less c = omega arith
+
+loop-again : tie.Need-loop-again Inv-loop μ-loop
+loop-again c = rw (c .before .before .before .low .ensures, c .high .ensures .0) (scanned-next (c .before .before .before .before .before .before .before .before .before .before .before .before .before .before .args .n) (c .before .before .before .before .before .before .before .before .before .before .before .before .before .before .args .keys .now) (c .before .before .before .before .before .before .before .before .before .before .before .before .before .before .pre .0) (c .before .before .before .before .before .before .loop .j) (c .before .before .before .before .before .loop-test .taken) (length (c .before .before .before .before .before .before .before .before .before .before .before .before .before .before .args .apex .now)) (c .before .before .before .before .before .before .loop .top) (c .before .before .before .before .before .before .loop .apex) (c .before .before .before .before .before .before .loop .inv) (c .before .before .before .before .before .before .before .before .before .before .before .before .before .before .pre .1 .0) (c .before .before .before .before .before .before .before .before .before .before .before .before .before .before .pre .1 .2))
+
+same-length : tie.Need-same-length Inv-loop μ-loop
+same-length c = c .before .loop .inv .tops-size ∙ sym (c .before .before .before .before .before .before .before .before .before .pre .1 .1)
+
+same-length-2 : tie.Need-same-length-2 Inv-loop μ-loop
+same-length-2 c = c .before .loop .inv .apex-size
+
+returns : tie.Need-returns Inv-loop μ-loop
+returns c = scanned-end _ (c .before .before .before .before .before .before .before .before .before .args .keys .now) _ _ _ (c .before .loop .j) (c .before .loop .inv) (c .loop-test .left)
+
+pub apexes-spec : {M : Type 1} → statement M
+apexes-spec = tie.close (tie.spec Inv-loop μ-loop begin-requires loop-holds mul-low shared-slice-read-low low-requires mul-apex slice-read-apex mul-apex-2 slice-write-apex mul-high shared-slice-read-high high-requires cast-top mul-top slice-write-top add-j loop-less loop-again same-length same-length-2 returns)

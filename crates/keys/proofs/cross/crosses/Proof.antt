@@ -1,0 +1,38 @@
+-- The test on the tables, by the laws of Crosses.antt.
+use Prim.Native.Nat.{_+_, _<_}
+use mathlib.Core.Path.{_∙_}
+use borrow.Author.Needs.{needs}
+use borrow.Author.Tests.{not-true, not-false}
+use native.Mathlib.Omega.{arith}
+use lib.ListN.{length}
+use Rattle.keys.proofs.Crosses.{apex-below, reaches-free, fails-cross}
+use Rattle.keys.proofs.cross.crosses.Statement.{statement}
+use Rattle.keys.proofs.cross.crosses.Tie as tie
+use Rattle.keys.proofs.cross.crosses.Reads as reads
+use Rattle.keys.proofs.cross.crosses.Lts as lts
+use Rattle.keys.proofs.cross.apexes.Reads as apexes-reads
+use Rattle.keys.proofs.cross.reaches.Reads as reaches-reads
+
+slice-aggregate-apexes : tie.Need-slice-aggregate-apexes
+slice-aggregate-apexes c = search needs
+
+slice-aggregate-apexes-2 : tie.Need-slice-aggregate-apexes-2
+slice-aggregate-apexes-2 c = search needs
+
+apexes-requires : tie.Need-apexes-requires
+apexes-requires c κs = search needs
+
+slice-aggregate-reaches : tie.Need-slice-aggregate-reaches
+slice-aggregate-reaches c = search needs
+
+slice-aggregate-reaches-2 : tie.Need-slice-aggregate-reaches-2
+slice-aggregate-reaches-2 c = search needs
+
+reaches-requires : tie.Need-reaches-requires
+reaches-requires c κs = (λ j h. omega (arith, apex-below (c .before .before .before .before .before .before .before .before .args .n) (c .before .before .before .before .before .before .before .before .args .keys .now) (c .before .before .before .before .before .before .before .before .pre .0) (c .before .before .before .before .apexes .last .1 .1 .0) (c .before .before .before .before .apexes .last .1 .1 .1 .0) (c .before .before .before .before .apexes .ensures .0) (c .before .before .before .before .apexes .ensures .1) j h, c .before .before .before .before .apexes .kept .1 .1 .0), omega (arith, c .before .before .before .before .apexes .kept .1 .1 .1 .0))
+
+returns : tie.Need-returns
+returns c = (λ h. reaches-free (c .before .before .before .before .before .before .before .before .before .args .n) (c .before .before .before .before .before .before .before .before .before .args .keys .now) (c .before .before .before .before .before .before .before .before .before .pre .0) (c .before .before .before .before .before .apexes .last .1 .1 .0) (c .before .before .before .before .before .apexes .last .1 .1 .1 .0) (c .before .before .before .before .before .apexes .ensures .0) (c .before .before .before .before .before .apexes .ensures .1) (c .reaches .ensures .0 (not-false _ h)), λ h. fails-cross (c .before .before .before .before .before .before .before .before .before .args .n) (c .before .before .before .before .before .before .before .before .before .args .keys .now) (c .before .before .before .before .before .before .before .before .before .pre .0) (c .before .before .before .before .before .apexes .last .1 .1 .0) (c .before .before .before .before .before .apexes .last .1 .1 .1 .0) (c .before .before .before .before .before .apexes .ensures .0) (c .before .before .before .before .before .apexes .ensures .1) (c .before .before .before .before .before .before .before .before .before .pre .1 .1) (c .reaches .ensures .1 (not-true _ h)))
+
+pub crosses-spec : {M : Type 1} → statement M
+crosses-spec = tie.close (tie.spec slice-aggregate-apexes slice-aggregate-apexes-2 apexes-requires slice-aggregate-reaches slice-aggregate-reaches-2 reaches-requires returns)

@@ -1,0 +1,31 @@
+// Diagonals as keys in the code: the edge (a,b), lower corner first, is the number a * 1,024 + b, so that keys ascend as edges do.
+// sort.rt puts keys in order, cross.rt finds out whether two diagonals cross.
+ghost use mathlib.Core.Path.{_≡_};
+ghost use Prim.Native.Nat.{_+_, _*_, _/_, _%_, _<_};
+ghost use Rattle.keys.specs.Keys.{keyOf};
+ghost use Rattle.polygon.specs.Polygon.{_—_};
+
+pub mod cross;
+pub mod sort;
+
+// The key of the edge (a,b).
+pub fn key(a: usize, b: usize) -> u32
+    requires { ⌜ (a < 1024) × (b < 1024) ⌝ }
+    ensures { λ r. ⌜ r ≡ keyOf (a — b) ⌝ }
+{
+    (a * 1024 + b) as u32
+}
+
+// The lower corner of a key's edge.
+pub fn low(k: u32) -> usize
+    ensures { λ r. ⌜ r ≡ k / 1024 ⌝ }
+{
+    (k / 1024) as usize
+}
+
+// The higher corner of a key's edge.
+pub fn high(k: u32) -> usize
+    ensures { λ r. ⌜ (r ≡ k % 1024) × (r < 1024) ⌝ }
+{
+    (k % 1024) as usize
+}

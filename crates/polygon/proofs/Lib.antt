@@ -1,0 +1,14 @@
+pub mod Lists
+pub mod Order
+pub mod Sort
+pub mod Far
+pub mod Chords
+pub mod Every
+pub mod TreeOf
+pub mod TreeTheorem
+pub mod Triangle
+pub mod Piece
+pub mod Crossing
+pub mod Scan
+pub mod Reading
+pub mod Theorems

@@ -1,0 +1,39 @@
+-- The theorems of this crate in one place. To be read with specs/Polygon.antt (what a polygon is) and specs/Tree.antt (`Tree`, `span`, `inner`, `treeOf`, `far`).
+use mathlib.Core.Path.{_≡_, ap, sym}
+use mathlib.Core.Logic.{_↔_}
+use mathlib.Core.List.{List}
+use mathlib.Core.Option.{none}
+use Prim.Native.Nat.{ℕ, suc, _+_, _-_, _≤_}
+use native.Mathlib.Omega.{arith}
+use lib.ListN.{length}
+use Rattle.polygon.specs.Lists.{Sub, All}
+use Rattle.polygon.specs.Polygon.{Edge, Ascending, NoneCross, Diagonal, Polygon, Valid}
+use Rattle.polygon.specs.Tree.{Tree, span, inner, far, treeOf}
+use Rattle.polygon.proofs.TreeTheorem.{tree-of, tree-unique, tree-triangulates}
+use Rattle.polygon.proofs.Crossing as crossing
+use Rattle.polygon.proofs.Reading.{same-set}
+
+-- A valid polygon is exactly one tree: the one that treeOf computes has its n - 1 sides and its diagonals, and no other tree has.
+pub polygon-is-tree : (p : Polygon) → Valid p
+    → (suc (span (treeOf (p .n) (p .ds))) ≡ p .n)
+    × (inner 0 (treeOf (p .n) (p .ds)) ≡ p .ds)
+    × ((t : Tree) → suc (span t) ≡ p .n → inner 0 t ≡ p .ds → t ≡ treeOf (p .n) (p .ds))
+polygon-is-tree p v =
+    let T = tree-of (p .n) (p .ds) (v .triangulated) in
+    (T .size, T .same, λ t h e. sym (tree-unique (p .n) (p .ds) t (v .least) (record { size = h; same = e })))
+
+-- A tree of span 2 to 1,023 is a valid polygon: one corner more than its span, with its inner edges as diagonals.
+pub tree-is-polygon : (t : Tree) → 2 ≤ span t → span t ≤ 1023 → Valid (record { n = suc (span t); ds = inner 0 t; number = none })
+tree-is-polygon t h k = record { least = omega arith; most = omega arith; triangulated = tree-triangulates t h; numbered = tt }
+
+-- n - 3 different diagonals of n corners: no two cross exactly when for each (u,v) of them, and for the root edge (0, n-1),
+-- the farthest corner c short of v that u is joined to is itself joined to v and to no corner above v.
+pub crossing-test : (n : ℕ) (ds : List Edge) → Ascending ds → All (Diagonal n) ds → length ds + 3 ≡ n
+    → NoneCross ds ↔ ((far (far 0 (n - 1) ds) n ds ≡ n - 1) × All (λ e. far (far (e .0) (e .1) ds) n ds ≡ e .1) ds)
+crossing-test = crossing.crossing-test
+
+-- Two valid polygons with the same set of diagonals have the same corners and the same list.
+pub same-diagonals : (p q : Polygon) → Valid p → Valid q → Sub (p .ds) (q .ds) → Sub (q .ds) (p .ds) → (p .n ≡ q .n) × (p .ds ≡ q .ds)
+same-diagonals p q A B f g =
+    let e = same-set (p .n) (q .n) (p .ds) (q .ds) (A .triangulated) (B .triangulated) f g in
+    (omega (arith, ap length e, A .triangulated .full, B .triangulated .full), e)

@@ -1,0 +1,4 @@
+pub mod Lists
+pub mod Polygon
+pub mod Order
+pub mod Tree

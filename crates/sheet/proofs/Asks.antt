@@ -1,0 +1,131 @@
+-- The tests of a sheet: which facts refuse it by which number, and the facts of a sheet that is held.
+use mathlib.Core.Path.{_≡_, refl, _∙_}
+use mathlib.Core.List.{List}
+use Prim.Native.Nat.{ℕ, _+_, _*_, _-_, _≤_, _<_}
+use native.Mathlib.Omega.{arith}
+use lib.ListN.{length, getD}
+use Rattle.polygon.specs.Lists.{All, all?}
+use Rattle.polygon.specs.Polygon.{Edge, NoneCross, Diagonal, Polygon}
+use Rattle.polygon.specs.Order.{diagonal?, Distinct, distinct?, none-cross?, sort}
+use Rattle.codec.specs.Numbers.{get16, get32}
+use Rattle.sheet.specs.Sheet.{Reading, refused, held, ask, bit0, bit1, bit2, sheetLength, pairs, partNumber, more, readSheet}
+use Rattle.sheet.specs.Framed.{Framed}
+
+-- a test that is passed, and one that is not
+pub ask-yes : {P : Type 0} (k : ℕ) (d : Dec P) (r : Reading) → P → ask k d r ≡ r
+unfolding ask
+ask-yes k (yes p) r h = refl
+ask-yes k (no p) r h = absurd (p h)
+
+pub ask-no : {P : Type 0} (k : ℕ) (d : Dec P) (r : Reading) → ¬ P → ask k d r ≡ refused k
+unfolding ask
+ask-no k (yes p) r h = absurd (h p)
+ask-no k (no p) r h = refl
+
+past : {P : Type 0} {t : Reading} (k : ℕ) (d : Dec P) (r : Reading) → P → r ≡ t → ask k d r ≡ t
+past k d r h e = ask-yes k d r h ∙ e
+
+asked : {P : Type 0} {p : Polygon} (k : ℕ) (d : Dec P) (r : Reading) → ask k d r ≡ held p → P × (r ≡ held p)
+unfolding ask
+asked k (yes h) r e = (h, e)
+asked k (no h) r e = absurd (let z : _≡_ {A = ℕ} 0 1 = cc in omega arith)
+
+-- the pairs of a sheet, and what it holds if it passes every test
+abbrev pub edgesIn : List ℕ → List Edge
+edgesIn s = pairs s 3 (get16 s 1 - 3)
+
+abbrev pub partIn : List ℕ → Polygon
+partIn s = record { n = get16 s 1; ds = sort (edgesIn s); number = partNumber (bit2 (getD s 0 0)) (get32 s (3 + 4 * (get16 s 1 - 3))) }
+
+-- a sheet that passes every test
+pub record Form (s : List ℕ) : Type 0 where
+  pub framed : Framed s
+  pub diagonals : All (Diagonal (get16 s 1)) (edgesIn s)
+  pub distinct : Distinct (edgesIn s)
+  pub none-cross : NoneCross (edgesIn s)
+
+module _ (s : List ℕ) where
+  -- 1: empty, bit 0 clear, or bit 3 to 7 set
+  pub refused-1a : length s ≡ 0 → readSheet s ≡ refused 1
+  unfolding readSheet
+  refused-1a h = ask-no 1 _ _ (λ t. omega arith)
+
+  pub refused-1b : bit0 (getD s 0 0) ≡ 0 → readSheet s ≡ refused 1
+  unfolding readSheet
+  refused-1b h = ask-no 1 _ _ (λ t. omega arith)
+
+  pub refused-1c : 8 ≤ getD s 0 0 → readSheet s ≡ refused 1
+  unfolding readSheet
+  refused-1c h = ask-no 1 _ _ (λ t. omega arith)
+
+  module _ (some : 1 ≤ length s) (low : bit0 (getD s 0 0) ≡ 1) (small : getD s 0 0 < 8) where
+    -- 2: under 3 bytes
+    pub refused-2a : length s < 3 → readSheet s ≡ refused 2
+    unfolding readSheet
+    refused-2a h = past 1 _ _ (some, (low, small)) (ask-no 2 _ _ (λ t. omega arith))
+
+    module _ (three : 3 ≤ length s) where
+      -- 3: n outside 3 to 1,024
+      counted : ¬ ((3 ≤ get16 s 1) × (get16 s 1 ≤ 1024)) → readSheet s ≡ refused 3
+      unfolding readSheet
+      counted h = past 1 _ _ (some, (low, small)) (past 2 _ _ three (ask-no 3 _ _ h))
+
+      pub refused-3a : get16 s 1 < 3 → readSheet s ≡ refused 3
+      refused-3a h = counted (λ t. omega arith)
+
+      pub refused-3b : 1024 < get16 s 1 → readSheet s ≡ refused 3
+      refused-3b h = counted (λ t. omega arith)
+
+      module _ (least : 3 ≤ get16 s 1) (most : get16 s 1 ≤ 1024) where
+        -- 4: bit 1 disagrees with n
+        pub refused-4 : ¬ (bit1 (getD s 0 0) ≡ more (get16 s 1)) → readSheet s ≡ refused 4
+        unfolding readSheet
+        refused-4 h = past 1 _ _ (some, (low, small)) (past 2 _ _ three (past 3 _ _ (least, most) (ask-no 4 _ _ h)))
+
+        -- 2: length not exact
+        pub refused-2b : bit1 (getD s 0 0) ≡ more (get16 s 1) → ¬ (length s ≡ sheetLength (getD s 0 0) (get16 s 1)) → readSheet s ≡ refused 2
+        unfolding readSheet
+        refused-2b agrees h = past 1 _ _ (some, (low, small)) (past 2 _ _ three (past 3 _ _ (least, most) (past 4 _ _ agrees (ask-no 2 _ _ h))))
+
+-- the tests of the pairs come after all others
+pub framed : {s : List ℕ} → Framed s
+    → readSheet s ≡ ask 5 (all? (diagonal? (get16 s 1)) (edgesIn s)) (ask 6 (distinct? (edgesIn s)) (ask 7 (none-cross? (edgesIn s)) (held (partIn s))))
+unfolding readSheet
+framed F = past 1 _ _ (F .some, (F .low, F .small)) (past 2 _ _ (F .three) (past 3 _ _ (F .least, F .most) (past 4 _ _ (F .agrees) (ask-yes 2 _ _ (F .exact)))))
+
+module _ {s : List ℕ} (F : Framed s) where
+  -- 5: some pair no diagonal
+  pub refused-5 : ¬ All (Diagonal (get16 s 1)) (edgesIn s) → readSheet s ≡ refused 5
+  refused-5 h = framed F ∙ ask-no 5 _ _ h
+
+  module _ (diagonals : All (Diagonal (get16 s 1)) (edgesIn s)) where
+    -- 6: a pair repeated, either way round
+    pub refused-6 : ¬ Distinct (edgesIn s) → readSheet s ≡ refused 6
+    refused-6 h = framed F ∙ past 5 _ _ diagonals (ask-no 6 _ _ h)
+
+    module _ (distinct : Distinct (edgesIn s)) where
+      -- 7: two cross
+      pub refused-7 : ¬ NoneCross (edgesIn s) → readSheet s ≡ refused 7
+      refused-7 h = framed F ∙ past 5 _ _ diagonals (past 6 _ _ distinct (ask-no 7 _ _ h))
+
+      pub accepted : NoneCross (edgesIn s) → readSheet s ≡ held (partIn s)
+      accepted h = framed F ∙ past 5 _ _ diagonals (past 6 _ _ distinct (ask-yes 7 _ _ h))
+
+-- a sheet is held exactly if it passes every test, and what is held is one part
+pub form-held : {s : List ℕ} → Form s → readSheet s ≡ held (partIn s)
+form-held W = accepted (W .framed) (W .diagonals) (W .distinct) (W .none-cross)
+
+pub held-form : (s : List ℕ) (p : Polygon) → readSheet s ≡ held p → Form s × (p ≡ partIn s)
+unfolding readSheet
+held-form s p e =
+    let A = asked 1 _ _ e in
+    let B = asked 2 _ _ (A .1) in
+    let C = asked 3 _ _ (B .1) in
+    let D = asked 4 _ _ (C .1) in
+    let E = asked 2 _ _ (D .1) in
+    let F = asked 5 _ _ (E .1) in
+    let G = asked 6 _ _ (F .1) in
+    let H = asked 7 _ _ (G .1) in
+    let T : Framed s = record { some = A .0 .0; low = A .0 .1 .0; small = A .0 .1 .1; three = B .0; least = C .0 .0; most = C .0 .1; agrees = D .0; exact = E .0 } in
+    let same : held (partIn s) ≡ held p = H .1 in
+    (record { framed = T; diagonals = F .0; distinct = G .0; none-cross = H .0 }, cc)

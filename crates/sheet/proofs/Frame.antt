@@ -1,0 +1,39 @@
+-- What the reading of a sheet's head has found out, put together.
+use mathlib.Core.Path.{_≡_, refl, ap, sym, _∙_}
+use mathlib.Core.Bool.{true, false}
+use mathlib.Core.List.{List}
+use mathlib.Core.Option.{Option, none, some}
+use Prim.Native.Nat.{ℕ, _+_, _*_, _-_, _≤_, _<_}
+use native.Mathlib.Omega.{arith}
+use lib.ListN.{length, getD}
+use Rattle.codec.specs.Numbers.{get16, get32}
+use Rattle.sheet.specs.declared.Head.{Head}
+use Rattle.sheet.specs.Sheet.{bit0, bit1, bit2, more, partNumber, readSheet, refused, sheetLength}
+use Rattle.sheet.specs.Framed.{Framed}
+use Rattle.sheet.specs.Held.{HeadOf}
+use Rattle.sheet.proofs.Asks.{refused-4, refused-2b}
+use Rattle.sheet.proofs.Fields.{length-is}
+
+-- over a count n that was read, in range
+module _ (s : List ℕ) (n : ℕ) (some-bytes : 1 ≤ length s) (low : bit0 (getD s 0 0) ≡ 1) (small : getD s 0 0 < 8) (three : 3 ≤ length s) (count : n ≡ get16 s 1) (least : 3 ≤ n) (most : n ≤ 1024) where
+  pub disagrees : (bit1 (getD s 0 0) ≡ more n → ⊥) → readSheet s ≡ refused 4
+  disagrees f = refused-4 s some-bytes low small three (omega arith) (omega arith) (λ e. f (e ∙ ap more (sym count)))
+
+  module _ (agrees : bit1 (getD s 0 0) ≡ more n) (rest : ℕ) (last : rest ≡ bit2 (getD s 0 0)) where
+    sized : sheetLength (getD s 0 0) (get16 s 1) ≡ 3 + 4 * (n - 3) + 4 * rest
+    sized = rw (last, count) (length-is (getD s 0 0) (get16 s 1) low (omega arith) (agrees ∙ ap more count))
+
+    pub inexact : (length s ≡ 3 + 4 * (n - 3) + 4 * rest → ⊥) → readSheet s ≡ refused 2
+    inexact f = refused-2b s some-bytes low small three (omega arith) (omega arith) (agrees ∙ ap more count) (λ e. f (e ∙ sized))
+
+    module _ (exact : length s ≡ 3 + 4 * (n - 3) + 4 * rest) where
+      framed : Framed s
+      framed = record { some = some-bytes; low = low; small = small; three = three; least = omega arith; most = omega arith; agrees = agrees ∙ ap more count; exact = exact ∙ sym sized }
+
+      pub numbered : rest ≡ 1 → (k : ℕ) → k ≡ get32 s (3 + 4 * (n - 3)) → k < 4294967296 → HeadOf s (record { n = n; numbered = true; number = k })
+      unfolding partNumber
+      numbered one k e h = record { frame = framed; corners = count; number = rw (sym last ∙ one, e, ← count); fits = h }
+
+      pub unnumbered : ¬ (rest ≡ 1) → rest ≤ 1 → HeadOf s (record { n = n; numbered = false; number = 0 })
+      unfolding partNumber
+      unnumbered f h = let e : bit2 (getD s 0 0) ≡ 0 = omega (arith, last) in record { frame = framed; corners = count; number = rw e; fits = omega arith }

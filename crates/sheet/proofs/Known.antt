@@ -1,0 +1,54 @@
+-- Known sheets, byte by byte, and what reading each gives: one list with one proof over it.
+use mathlib.Core.Path.{_≡_, refl}
+use mathlib.Core.List.{List, [], _∷_, map}
+use mathlib.Core.Logic.{Dec·and}
+use mathlib.Core.Option.{none, some}
+use Prim.Native.Nat.{ℕ}
+use native.Mathlib.Decide.{decLe, decLt, ℕ-discrete}
+use Rattle.polygon.specs.Lists.{All, all-nil, all-cons, choose, not?, either?, all?, sorted?}
+use Rattle.polygon.specs.Polygon.{_—_}
+use Rattle.polygon.specs.Order.{before?, same?, cross?, none-cross?, diagonal?, distinct?, place, insert, sort, lower-first}
+use Rattle.sheet.specs.Sheet.{Reading, refused, held, ask, pairs, partNumber, count?, more, readSheet}
+
+-- the bytes of a sheet, and what reading it gives
+abbrev pub Case : Type 0
+Case = List ℕ × Reading
+
+abbrev pub known : List Case
+known =
+    -- empty
+    ([], refused 1)
+    -- bit 0 clear; bit 3 set
+    ∷ (0 ∷ 0 ∷ 3 ∷ [], refused 1)
+    ∷ (9 ∷ 0 ∷ 3 ∷ [], refused 1)
+    -- one byte
+    ∷ (1 ∷ [], refused 2)
+    -- n = 2 and n = 1,025
+    ∷ (1 ∷ 0 ∷ 2 ∷ [], refused 3)
+    ∷ (3 ∷ 4 ∷ 1 ∷ [], refused 3)
+    -- the triangle: with bit 1, and a byte too many; with a byte too many; as it is to be; with the part number 258
+    ∷ (3 ∷ 0 ∷ 3 ∷ 0 ∷ [], refused 4)
+    ∷ (1 ∷ 0 ∷ 3 ∷ 0 ∷ [], refused 2)
+    ∷ (1 ∷ 0 ∷ 3 ∷ [], held (record { n = 3; ds = []; number = none }))
+    ∷ (5 ∷ 0 ∷ 3 ∷ 0 ∷ 0 ∷ 1 ∷ 2 ∷ [], held (record { n = 3; ds = []; number = some 258 }))
+    -- n = 4: (0,2) given as (2,0)
+    ∷ (3 ∷ 0 ∷ 4 ∷ 0 ∷ 2 ∷ 0 ∷ 0 ∷ [], held (record { n = 4; ds = (0 — 2) ∷ []; number = none }))
+    -- n = 5: (0,4) (1,3); (0,1) twice; (0,2) (2,0); (0,2) (1,3); (1,3) (0,3)
+    ∷ (3 ∷ 0 ∷ 5 ∷ 0 ∷ 0 ∷ 0 ∷ 4 ∷ 0 ∷ 1 ∷ 0 ∷ 3 ∷ [], refused 5)
+    ∷ (3 ∷ 0 ∷ 5 ∷ 0 ∷ 0 ∷ 0 ∷ 1 ∷ 0 ∷ 0 ∷ 0 ∷ 1 ∷ [], refused 5)
+    ∷ (3 ∷ 0 ∷ 5 ∷ 0 ∷ 0 ∷ 0 ∷ 2 ∷ 0 ∷ 2 ∷ 0 ∷ 0 ∷ [], refused 6)
+    ∷ (3 ∷ 0 ∷ 5 ∷ 0 ∷ 0 ∷ 0 ∷ 2 ∷ 0 ∷ 1 ∷ 0 ∷ 3 ∷ [], refused 7)
+    ∷ (3 ∷ 0 ∷ 5 ∷ 0 ∷ 1 ∷ 0 ∷ 3 ∷ 0 ∷ 0 ∷ 0 ∷ 3 ∷ [], held (record { n = 5; ds = (0 — 3) ∷ (1 — 3) ∷ []; number = none }))
+    -- n = 6: (0,2) (1,3) (2,0), a pair repeated and two that cross
+    ∷ (3 ∷ 0 ∷ 6 ∷ 0 ∷ 0 ∷ 0 ∷ 2 ∷ 0 ∷ 1 ∷ 0 ∷ 3 ∷ 0 ∷ 2 ∷ 0 ∷ 0 ∷ [], refused 6)
+    ∷ []
+
+-- two functions that give the same list agree at each element
+same-all : {A B : Type 0} (f g : A → B) (xs : List A) → map f xs ≡ map g xs → All (λ x. f x ≡ g x) xs
+same-all f g [] e = all-nil
+same-all f g (x ∷ xs) e = all-cons {x = x} (cc) (same-all f g xs (cc))
+
+-- Each known sheet is read so.
+pub known-read : All (λ c. readSheet (c .0) ≡ c .1) known
+unfolding readSheet ask pairs partNumber count? more Dec·and choose all? diagonal? distinct? sorted? not? same? none-cross? cross? sort insert place before? either? lower-first decLe ℕ-discrete decLt
+known-read = same-all (λ (c : Case). readSheet (c .0)) (λ (c : Case). c .1) known refl

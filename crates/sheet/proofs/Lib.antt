@@ -1,0 +1,14 @@
+pub mod Asks
+pub mod Fields
+pub mod Bytes
+pub mod Normal
+pub mod Valid
+pub mod Accepts
+pub mod Back
+pub mod Known
+pub mod Pairs
+pub mod Frame
+pub mod Found
+pub mod Writing
+pub mod Outcomes
+pub mod Size

@@ -1,0 +1,89 @@
+-- The normal sheet of a part: its pairs read back, its length, its map byte, and that it consists of bytes.
+use mathlib.Core.Path.{_≡_, refl, ap, ap₂, _∙_}
+use mathlib.Core.List.{List, [], _∷_, _++_}
+use mathlib.Core.Option.{Option, none, some}
+use Prim.Native.Nat.{ℕ, zero, suc, _+_, _*_, _-_, _≤_, _<_}
+use native.Mathlib.Nat.{add-zero, add-assoc, min-eq-left, max-eq-right}
+use native.Mathlib.Omega.{arith}
+use lib.ListN.{length, length-append}
+use Rattle.polygon.specs.Lists.{All, all-nil, all-cons}
+use Rattle.polygon.specs.Polygon.{Edge, Polygon, Numbered, Valid}
+use Rattle.polygon.specs.Order.{lower-first}
+use Rattle.polygon.proofs.Lists.{all-append, all-imp}
+use Rattle.codec.specs.Numbers.{bytes16}
+use Rattle.sheet.specs.Sheet.{bit0, bit1, bit2, pairs, pairBytes, numberBytes, numberBit, mapByte, more, normalSheet}
+use Rattle.sheet.proofs.Fields.{more-bit}
+use Rattle.sheet.proofs.Bytes.{get16-after, get16-back, Byte, bytes16-are, bytes32-are}
+
+-- the pairs behind a prefix, and how many they are
+pub pairs-after : (xs ys : List ℕ) (at k : ℕ) → pairs (xs ++ ys) (length xs + at) k ≡ pairs ys at k
+unfolding pairs
+pairs-after xs ys at zero = refl
+pairs-after xs ys at (suc k) = rw (get16-after xs ys at, add-assoc (length xs) at 2, add-assoc (length xs) at 4, get16-after xs ys (at + 2), pairs-after xs ys (at + 4) k)
+
+pub pairs-count : (s : List ℕ) (at k : ℕ) → length (pairs s at k) ≡ k
+unfolding pairs
+pairs-count s at zero = refl
+pairs-count s at (suc k) = ap suc (pairs-count s (at + 4) k)
+
+lower-first-same : (e : Edge) → e .0 ≤ e .1 → lower-first e ≡ e
+unfolding lower-first
+lower-first-same e h = rw (min-eq-left h, max-eq-right h)
+
+-- pairs that are written lower corner first are read back
+first-back : (es : List Edge) (ys : List ℕ) → All (λ e. e .0 ≤ e .1) es → pairs (pairBytes es ++ ys) 0 (length es) ≡ es
+unfolding pairs pairBytes
+first-back [] ys a = refl
+first-back (e ∷ es) ys (all-cons h a) =
+    ap₂ _∷_ (rw (get16-back (e .0) ys, get16-back (e .1) ys) (lower-first-same e h)) (pairs-after (bytes16 (e .0) ++ bytes16 (e .1)) (pairBytes es ++ ys) 0 (length es) ∙ first-back es ys a)
+
+pub pairs-back : (xs : List ℕ) (es : List Edge) (ys : List ℕ) → All (λ e. e .0 ≤ e .1) es → pairs (xs ++ (pairBytes es ++ ys)) (length xs) (length es) ≡ es
+pairs-back xs es ys a = rw (add-zero (length xs)) at (pairs-after xs (pairBytes es ++ ys) 0 (length es)) ∙ first-back es ys a
+
+-- the length of the normal sheet
+pub pairs-length : (es : List Edge) → length (pairBytes es) ≡ 4 * length es
+unfolding pairBytes
+pairs-length [] = refl
+pairs-length (e ∷ es) = omega (arith, pairs-length es)
+
+pub number-length : (o : Option ℕ) → length (numberBytes o) ≡ 4 * numberBit o
+unfolding numberBytes numberBit
+number-length none = refl
+number-length (some k) = refl
+
+pub normal-length : (p : Polygon) → length (p .ds) + 3 ≡ p .n → length (normalSheet p) ≡ 3 + 4 * (p .n - 3) + 4 * numberBit (p .number)
+unfolding normalSheet
+normal-length p full = omega (arith, length-append (pairBytes (p .ds)) (numberBytes (p .number)), pairs-length (p .ds), number-length (p .number))
+
+-- the bits of the map byte
+pub number-bit : (o : Option ℕ) → numberBit o < 2
+unfolding numberBit
+number-bit none = omega arith
+number-bit (some k) = omega arith
+
+pub record MapOf (p : Polygon) (m : ℕ) : Type 0 where
+  pub low : bit0 m ≡ 1
+  pub agrees : bit1 m ≡ more (p .n)
+  pub numbered : bit2 m ≡ numberBit (p .number)
+  pub small : m < 8
+
+pub map-byte : (p : Polygon) → MapOf p (mapByte p)
+unfolding mapByte
+map-byte p = omega (arith, more-bit (p .n), number-bit (p .number))
+
+-- the normal sheet of a valid part consists of bytes
+pairs-bytes : {es : List Edge} → All (λ e. (e .0 < 65536) × (e .1 < 65536)) es → All Byte (pairBytes es)
+unfolding pairBytes
+pairs-bytes all-nil = all-nil
+pairs-bytes (all-cons {x} h a) = all-append (bytes16-are (x .0) (h .0)) (all-append (bytes16-are (x .1) (h .1)) (pairs-bytes a))
+
+number-bytes : (o : Option ℕ) → Numbered o → All Byte (numberBytes o)
+unfolding numberBytes
+number-bytes none h = all-nil
+number-bytes (some k) h = bytes32-are k h
+
+pub normal-bytes : (p : Polygon) → Valid p → All Byte (normalSheet p)
+unfolding normalSheet
+normal-bytes p v =
+    let corners : All (λ e. (e .0 < 65536) × (e .1 < 65536)) (p .ds) = all-imp (λ e d. omega (arith, d, v .most)) (v .triangulated .diagonals) in
+    all-cons {x = mapByte p} (omega (arith, map-byte p)) (all-append (bytes16-are (p .n) (omega (arith, v .most))) (all-append (pairs-bytes corners) (number-bytes (p .number) (v .numbered))))

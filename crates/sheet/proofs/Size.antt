@@ -1,0 +1,48 @@
+-- No sheet is longer than 4,091 bytes.
+use mathlib.Core.Path.{_≡_, refl, ap, _∙_}
+use mathlib.Core.List.{List}
+use mathlib.Core.Option.{Option, none, some}
+use Prim.Native.Nat.{ℕ, _+_, _-_, _≤_}
+use native.Mathlib.Decide.{decLe}
+use native.Mathlib.Omega.{arith}
+use lib.ListN.{length}
+use Rattle.polygon.specs.Polygon.{Polygon}
+use Rattle.polygon.proofs.Sort.{sort-length}
+use Rattle.codec.specs.Answer.{Outcome, refuse, write, Answer, fit, written}
+use Rattle.codec.specs.Numbers.{get16}
+use Rattle.sheet.specs.Sheet.{Reading, refused, held, readSheet, normalSheet, outcome, ordered}
+use Rattle.sheet.proofs.Asks.{edgesIn, held-form}
+use Rattle.sheet.proofs.Normal.{normal-length, number-bit, pairs-count}
+
+-- the corners and the diagonals of what a reading holds
+abbrev pub Counted : Reading → Type 0
+Counted (refused k) = Unit {0}
+Counted (held p) = (p .n ≤ 1024) × (length (p .ds) + 3 ≡ p .n)
+
+pub read-counted : (s : List ℕ) (p : Polygon) → readSheet s ≡ held p → Counted (held p)
+read-counted s p e =
+    let W = held-form s p e in
+    let n : length (edgesIn s) ≡ get16 s 1 - 3 = pairs-count s 3 (get16 s 1 - 3) in
+    rw (W .1) (W .0 .framed .most, omega (arith, sort-length (edgesIn s), n, W .0 .framed .least))
+
+-- what an operation writes for such a part
+written-size : (bs out : List ℕ) → written (write bs) out .size ≤ length bs
+unfolding written fit
+written-size bs out = go (decLe (length bs) (length out))
+  where
+    go : (d : Dec (length bs ≤ length out)) → fit d bs out .size ≤ length bs
+    go (yes p) = omega arith
+    go (no p) = omega arith
+
+pub outcome-size : (r : Reading) (out : List ℕ) → Counted r → written (outcome r) out .size ≤ 4091
+unfolding outcome written
+outcome-size (refused k) out C = omega arith
+outcome-size (held p) out C = omega (arith, written-size (normalSheet p) out, normal-length p (C .1), number-bit (p .number))
+
+pub ordered-size : (s out : List ℕ) → written (ordered s) out .size ≤ 4091
+unfolding ordered
+ordered-size s out = go (readSheet s) refl
+  where
+    go : (r : Reading) → readSheet s ≡ r → written (outcome (readSheet s)) out .size ≤ 4091
+    go (refused k) e = rw e (outcome-size (refused k) out tt)
+    go (held p) e = rw e (outcome-size (held p) out (read-counted s p e))

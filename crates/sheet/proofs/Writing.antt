@@ -1,0 +1,68 @@
+-- Writing a normal sheet field by field into an output: stores one behind the other are the sheet's bytes, followed by what was there.
+use mathlib.Core.Path.{_≡_, refl, ap, sym, _∙_}
+use mathlib.Core.List.{List, [], _∷_, _++_, map-append, append-assoc}
+use Prim.Native.Nat.{ℕ, suc, _+_, _*_, _-_, _/_, _%_, _≤_, _<_}
+use native.Mathlib.Numerals.{add-one}
+use native.Mathlib.Omega.{arith}
+use lib.ListN.{length, take, drop, set, getD, length-map, length-append}
+use lib.Seq.{sets, take-suc, length-take-le, getD-take}
+use Rattle.polygon.specs.Polygon.{Edge, Polygon}
+use Rattle.codec.specs.Numbers.{bytes16}
+use Rattle.codec.specs.Answer.{Answer, refusal, written, write}
+use Rattle.codec.proofs.Stores.{sets-append, sets-front}
+use Rattle.codec.proofs.Answers.{written-short, written-fits}
+use Rattle.keys.specs.Keys.{edgeOf, edgesOf}
+use Rattle.sheet.specs.declared.Head.{Head}
+use Rattle.sheet.specs.Sheet.{pairBytes, numberBytes, mapByte, normalSheet}
+use Rattle.sheet.specs.Held.{numberOf, polygonOf, Small, Fitting}
+use Rattle.sheet.proofs.Normal.{pairs-length}
+
+pairs-snoc : (es : List Edge) (e : Edge) → pairBytes (es ++ (e ∷ [])) ≡ pairBytes es ++ (bytes16 (e .0) ++ bytes16 (e .1))
+unfolding pairBytes
+pairs-snoc [] e = refl
+pairs-snoc (x ∷ es) e = ap (λ (l : List ℕ). bytes16 (x .0) ++ (bytes16 (x .1) ++ l)) (pairs-snoc es e)
+
+-- one more edge
+pub edges-next : (keys out : List ℕ) (at i : ℕ) → i < length keys
+    → sets (sets (sets out at (pairBytes (edgesOf (take i keys)))) (at + i * 4) (bytes16 (getD keys i 0 / 1024))) (at + i * 4 + 2) (bytes16 (getD keys i 0 % 1024))
+    ≡ sets out at (pairBytes (edgesOf (take (i + 1) keys)))
+edges-next keys out at i h =
+    let es : List Edge = edgesOf (take i keys) in
+    let k : ℕ = getD keys i 0 in
+    let n : length (pairBytes es) ≡ i * 4 = omega (arith, pairs-length es, length-map (take i keys) edgeOf, length-take-le i keys (omega arith)) in
+    rw (add-one i, take-suc keys i 0 h, map-append edgeOf (take i keys) (k ∷ []), pairs-snoc es (edgeOf k), sets-append (pairBytes es) (bytes16 (k / 1024) ++ bytes16 (k % 1024)) out at, n, sets-append (bytes16 (k / 1024)) (bytes16 (k % 1024)) (sets out at (pairBytes es)) (at + i * 4))
+
+-- the whole sheet
+pub sheet-written : (p : Polygon) (out : List ℕ) → length (normalSheet p) ≤ length out
+    → sets (sets (sets (set out 0 (mapByte p)) 1 (bytes16 (p .n))) 3 (pairBytes (p .ds))) (3 + length (pairBytes (p .ds))) (numberBytes (p .number)) ≡ normalSheet p ++ drop (length (normalSheet p)) out
+unfolding normalSheet
+sheet-written p out h =
+    sym (sets-append (pairBytes (p .ds)) (numberBytes (p .number)) (sets (set out 0 (mapByte p)) 1 (bytes16 (p .n))) 3)
+    ∙ (sym (sets-append (bytes16 (p .n)) (pairBytes (p .ds) ++ numberBytes (p .number)) (set out 0 (mapByte p)) 1)
+    ∙ sets-front (mapByte p ∷ (bytes16 (p .n) ++ (pairBytes (p .ds) ++ numberBytes (p .number)))) out h)
+
+pub small-front : (m : ℕ) (ks : List ℕ) → m ≤ length ks → Small m ks → Small (length (take m ks)) (take m ks)
+small-front m ks h S j k =
+    let n : length (take m ks) ≡ m = length-take-le m ks h in
+    let i : j < m = omega arith in
+    rw (getD-take m ks j 0 i) (S j i)
+
+-- the part that the code holds
+module _ (h : Head) (ks : List ℕ) (F : Fitting h ks) (long : 1021 ≤ length ks) where
+  pub edges-size : length (pairBytes (edgesOf (take (h .n - 3) ks))) ≡ (h .n - 3) * 4
+  edges-size = omega (arith, pairs-length (edgesOf (take (h .n - 3) ks)), length-map (take (h .n - 3) ks) edgeOf, length-take-le (h .n - 3) ks (omega (arith, F .most)))
+
+  module _ (out : List ℕ) (z : ℕ) (last : z ≡ length (numberBytes (numberOf (h .numbered) (h .number)))) where
+    sheet-size : length (normalSheet (polygonOf h ks)) ≡ 3 + (h .n - 3) * 4 + z
+    unfolding normalSheet
+    sheet-size = omega (arith, edges-size, length-append (pairBytes (edgesOf (take (h .n - 3) ks))) (numberBytes (numberOf (h .numbered) (h .number))))
+
+    pub too-short : length out < 3 + (h .n - 3) * 4 + z → refusal 8 out ≡ written (write (normalSheet (polygonOf h ks))) out
+    too-short k = sym (written-short (normalSheet (polygonOf h ks)) out (omega (arith, sheet-size)))
+
+    pub finished : (o : List ℕ) → 3 + (h .n - 3) * 4 + z ≤ length out
+        → o ≡ sets (sets (sets (set out 0 (mapByte (polygonOf h ks))) 1 (bytes16 (h .n))) 3 (pairBytes (edgesOf (take (h .n - 3) ks)))) (3 + (h .n - 3) * 4) (numberBytes (numberOf (h .numbered) (h .number)))
+        → _≡_ {A = Answer} (record { number = 0; size = 3 + (h .n - 3) * 4 + z; bytes = o }) (written (write (normalSheet (polygonOf h ks))) out)
+    finished o fits e =
+        let k : length (normalSheet (polygonOf h ks)) ≤ length out = omega (arith, sheet-size) in
+        rw (written-fits (normalSheet (polygonOf h ks)) out k, ← sheet-size, e, ← edges-size, sheet-written (polygonOf h ks) out k)

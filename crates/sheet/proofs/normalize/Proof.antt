@@ -1,0 +1,41 @@
+-- Read, then written.
+use mathlib.Core.Path.{_≡_, _∙_}
+use borrow.Author.Needs.{needs}
+use native.Mathlib.Omega.{arith}
+use Rattle.sheet.proofs.Outcomes.{read-refused, read-held, held-fits, ordered-refused, ordered-held}
+use Rattle.sheet.proofs.normalize.Statement.{statement}
+use Rattle.sheet.proofs.normalize.Tie as tie
+use Rattle.sheet.proofs.normalize.Reads as reads
+use Rattle.sheet.proofs.normalize.Lts as lts
+use Rattle.sheet.proofs.reader.read_sheet.Reads as read-sheet-reads
+use Rattle.sheet.proofs.writer.write_sheet.Reads as write-sheet-reads
+
+slice-aggregate-read-sheet : tie.Need-slice-aggregate-read-sheet
+slice-aggregate-read-sheet c = search needs
+
+read-sheet-requires : tie.Need-read-sheet-requires
+read-sheet-requires c κs = search needs
+
+enum-known-k : tie.Need-enum-known-k
+enum-known-k c = search needs
+
+enum-known-h : tie.Need-enum-known-h
+enum-known-h c = search needs
+
+slice-aggregate-write-sheet : tie.Need-slice-aggregate-write-sheet
+slice-aggregate-write-sheet c = search needs
+
+write-sheet-requires : tie.Need-write-sheet-requires
+write-sheet-requires c κs = (held-fits (c .before .before .before .before .before .before .read-sheet .result) _ _ (c .before .before .before .before .before .before .read-sheet .ensures .1) (c .before .before .before .h .given .1), omega (arith, c .before .before .before .before .before .before .read-sheet .kept .1 .0))
+
+returns : tie.Need-returns
+returns c = ordered-refused (c .before .before .before .before .before .before .before .before .args .sheet .now) (c .before .before .before .before .before .before .before .before .args .out .now) _ (read-refused (c .before .before .before .before .before .before .before .before .args .sheet .now) (c .before .before .before .before .read-sheet .result) (c .before .before .before .before .read-sheet .last .1 .0) _ (c .before .before .before .before .read-sheet .ensures .0) (c .before .k .given .1))
+
+same-length : tie.Need-same-length
+same-length c = search needs
+
+returns-2 : tie.Need-returns-2
+returns-2 c = c .before .before .write-sheet .ensures ∙ ordered-held (c .before .before .before .before .before .before .before .before .before .before .before .before .before .args .sheet .now) (c .before .before .before .before .before .before .before .before .before .before .before .before .before .args .out .now) (c .before .before .before .before .before .before .h .given .0 .0) (c .before .before .before .before .before .before .before .before .before .read-sheet .last .1 .0) (read-held (c .before .before .before .before .before .before .before .before .before .before .before .before .before .args .sheet .now) (c .before .before .before .before .before .before .before .before .before .read-sheet .result) (c .before .before .before .before .before .before .before .before .before .read-sheet .last .1 .0) (c .before .before .before .before .before .before .h .given .0 .0) (c .before .before .before .before .before .before .before .before .before .read-sheet .ensures .0) (c .before .before .before .before .before .before .h .given .1))
+
+pub normalize-spec : {M : Type 1} → statement M
+normalize-spec = tie.close (tie.spec slice-aggregate-read-sheet read-sheet-requires enum-known-k enum-known-h slice-aggregate-write-sheet write-sheet-requires returns same-length returns-2)

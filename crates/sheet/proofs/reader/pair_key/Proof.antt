@@ -1,0 +1,33 @@
+-- The lower corner goes first.
+use borrow.Author.Needs.{needs}
+use Rattle.sheet.proofs.Pairs.{lower-below, lower-above}
+use Rattle.sheet.proofs.reader.pair_key.Statement.{statement}
+use Rattle.sheet.proofs.reader.pair_key.Tie as tie
+use Rattle.sheet.proofs.reader.pair_key.Reads as reads
+use Rattle.sheet.proofs.reader.pair_key.Lts as lts
+use Rattle.codec.proofs.get16.Reads as get16-reads
+use Rattle.sheet.proofs.reader.edge_key.Reads as edge-key-reads
+
+get16-requires : tie.Need-get16-requires
+get16-requires c κs = search needs
+
+add-get16 : tie.Need-add-get16
+add-get16 c = search needs
+
+get16-requires-2 : tie.Need-get16-requires-2
+get16-requires-2 c κs = search needs
+
+edge-key-requires : tie.Need-edge-key-requires
+edge-key-requires c κs = search needs
+
+edge-key-requires-2 : tie.Need-edge-key-requires-2
+edge-key-requires-2 c κs = search needs
+
+returns : tie.Need-returns
+returns c = rw (← c .before .before .before .get16 .ensures .0, ← c .before .before .get162 .ensures .0, lower-below _ _ (c .before .if1 .taken)) (c .edge-key .ensures)
+
+returns-2 : tie.Need-returns-2
+returns-2 c = rw (← c .before .before .before .get16 .ensures .0, ← c .before .before .get162 .ensures .0, lower-above _ _ (c .before .if1 .left)) (c .edge-key2 .ensures)
+
+pub pair-key-spec : {M : Type 1} → statement M
+pair-key-spec = tie.close (tie.spec get16-requires add-get16 get16-requires-2 edge-key-requires edge-key-requires-2 returns returns-2)

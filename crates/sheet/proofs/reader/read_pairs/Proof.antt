@@ -1,0 +1,65 @@
+-- The loop's invariant is `Listed`.
+use mathlib.Core.Path.{_≡_, ap}
+use mathlib.Core.Bool.{true≢false, false≢true}
+use Prim.Native.Nat.{_+_, _*_, _-_}
+use borrow.Author.Needs.{needs}
+use native.Mathlib.Omega.{arith}
+use lib.ListN.{length}
+use Rattle.polygon.proofs.Lists.{all-mem}
+use Rattle.sheet.proofs.Pairs.{Listed, listed-none, listed-next, pairs-at}
+use Rattle.sheet.proofs.reader.read_pairs.Statement.{statement}
+use Rattle.sheet.proofs.reader.read_pairs.Tie as tie
+use Rattle.sheet.proofs.reader.read_pairs.Reads as reads
+use Rattle.sheet.proofs.reader.read_pairs.Lts as lts
+use Rattle.sheet.proofs.reader.pair_key.Reads as pair-key-reads
+
+abbrev Inv-loop : tie.InvT-loop
+Inv-loop sheet n keys₀ m i₀ keys i = (m ≡ n - 3) × Listed sheet n (length keys₀) keys i
+
+abbrev μ-loop : tie.MeasureT-loop
+μ-loop sheet n keys₀ m i₀ keys i = m - i
+
+sub-m : tie.Need-sub-m Inv-loop μ-loop
+sub-m c = omega arith
+
+loop-holds : tie.Need-loop-holds Inv-loop μ-loop
+loop-holds c = (omega arith, listed-none _ _ _)
+
+mul-pair-key : tie.Need-mul-pair-key Inv-loop μ-loop
+mul-pair-key c = omega arith
+
+add-pair-key : tie.Need-add-pair-key Inv-loop μ-loop
+add-pair-key c = omega arith
+
+pair-key-requires : tie.Need-pair-key-requires Inv-loop μ-loop
+pair-key-requires c κs = omega arith
+
+same-length : tie.Need-same-length Inv-loop μ-loop
+same-length c = c .before .before .before .loop .inv .1 .size
+
+returns : tie.Need-returns Inv-loop μ-loop
+returns c = (λ h. absurd (false≢true h), λ h a. c .before .pair-key .ensures .none (c .if1 .taken) (all-mem a (pairs-at (c .before .before .before .before .before .before .args .sheet .now) 3 (c .before .before .before .before .before .before .args .n - 3) (c .before .before .before .loop .i) (omega arith))))
+
+mul-keys : tie.Need-mul-keys Inv-loop μ-loop
+mul-keys c = omega arith
+
+slice-write-keys : tie.Need-slice-write-keys Inv-loop μ-loop
+slice-write-keys c = omega (arith, c .before .before .before .loop .inv .1 .size)
+
+add-i : tie.Need-add-i Inv-loop μ-loop
+add-i c = omega arith
+
+loop-less : tie.Need-loop-less Inv-loop μ-loop
+loop-less c = omega arith
+
+loop-again : tie.Need-loop-again Inv-loop μ-loop
+loop-again c = let d = c .before .pair-key .ensures .some (c .if1 .left) in (omega arith, listed-next (c .before .before .before .before .before .before .args .sheet .now) (c .before .before .before .before .before .before .args .n) (length (c .before .before .before .before .before .before .args .keys .now)) (c .before .before .before .loop .keys) (c .before .before .before .loop .i) _ (omega arith) (omega arith) (omega arith) (c .before .before .before .loop .inv .1) (d .0) (d .1))
+
+same-length-2 : tie.Need-same-length-2 Inv-loop μ-loop
+same-length-2 c = c .before .loop .inv .1 .size
+
+returns-2 : tie.Need-returns-2 Inv-loop μ-loop
+returns-2 c = let e : c .before .loop .i ≡ c .before .before .before .before .args .n - 3 = omega (arith, c .before .loop .inv .1 .upto) in (λ h. rw (← e) (c .before .loop .inv .1 .diagonals, c .before .loop .inv .1 .edges), λ h. absurd (true≢false h))
+
+pub read-pairs-spec : {M : Type 1} → statement M
+read-pairs-spec = tie.close (tie.spec Inv-loop μ-loop sub-m loop-holds mul-pair-key add-pair-key pair-key-requires same-length returns mul-keys slice-write-keys add-i loop-less loop-again same-length-2 returns-2)

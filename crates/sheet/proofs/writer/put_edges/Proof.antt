@@ -1,0 +1,78 @@
+-- The loop's invariant: the first i edges are stored.
+use Prim.Native.Nat.{_≤_, _-_}
+use mathlib.Core.Path.{_≡_, refl, ap, _∙_}
+use borrow.Author.Needs.{needs}
+use native.Mathlib.Omega.{arith}
+use lib.ListN.{length, take}
+use lib.Seq.{sets, length-sets, take-all}
+use Rattle.keys.specs.Keys.{edgesOf}
+use Rattle.sheet.specs.Sheet.{pairBytes}
+use Rattle.sheet.proofs.Writing.{edges-next}
+use Rattle.sheet.proofs.writer.put_edges.Statement.{statement}
+use Rattle.sheet.proofs.writer.put_edges.Tie as tie
+use Rattle.sheet.proofs.writer.put_edges.Reads as reads
+use Rattle.sheet.proofs.writer.put_edges.Lts as lts
+use Rattle.codec.proofs.put16.Reads as put16-reads
+use Rattle.keys.proofs.high.Reads as high-reads
+use Rattle.keys.proofs.low.Reads as low-reads
+
+abbrev Inv-loop : tie.InvT-loop
+Inv-loop out₀ at keys i₀ out i = (i ≤ length keys) × (length out ≡ length out₀) × (out ≡ sets out₀ at (pairBytes (edgesOf (take i keys))))
+
+abbrev μ-loop : tie.MeasureT-loop
+μ-loop out₀ at keys i₀ out i = length keys - i
+
+loop-holds : tie.Need-loop-holds Inv-loop μ-loop
+unfolding pairBytes
+loop-holds c = (omega arith, refl, refl)
+
+mul-k : tie.Need-mul-k Inv-loop μ-loop
+mul-k c = omega arith
+
+shared-slice-read-k : tie.Need-shared-slice-read-k Inv-loop μ-loop
+shared-slice-read-k c = omega arith
+
+mul-put16 : tie.Need-mul-put16 Inv-loop μ-loop
+mul-put16 c = omega arith
+
+add-put16 : tie.Need-add-put16 Inv-loop μ-loop
+add-put16 c = omega arith
+
+low-requires : tie.Need-low-requires Inv-loop μ-loop
+low-requires c κs = omega arith
+
+put16-requires : tie.Need-put16-requires Inv-loop μ-loop
+put16-requires c κs = omega (arith, c .low .ensures, c .before .before .before .before .before .before .before .pre .1 (c .before .before .before .before .loop .i) (c .before .before .before .loop-test .taken))
+
+mul-put16-2 : tie.Need-mul-put16-2 Inv-loop μ-loop
+mul-put16-2 c = omega arith
+
+add-put16-2 : tie.Need-add-put16-2 Inv-loop μ-loop
+add-put16-2 c = omega arith
+
+add-put16-3 : tie.Need-add-put16-3 Inv-loop μ-loop
+add-put16-3 c = omega arith
+
+high-requires : tie.Need-high-requires Inv-loop μ-loop
+high-requires c κs = omega arith
+
+put16-requires-2 : tie.Need-put16-requires-2 Inv-loop μ-loop
+put16-requires-2 c κs = omega (arith, c .before .before .before .before .put16 .kept .0, c .high .ensures)
+
+add-i : tie.Need-add-i Inv-loop μ-loop
+add-i c = omega arith
+
+loop-less : tie.Need-loop-less Inv-loop μ-loop
+loop-less c = omega arith
+
+loop-again : tie.Need-loop-again Inv-loop μ-loop
+loop-again c = (omega arith, c .before .before .put162 .kept .0 ∙ (c .before .before .before .before .before .before .before .put16 .kept .0 ∙ c .before .before .before .before .before .before .before .before .before .before .before .before .loop .inv .1), c .before .before .put162 .ensures ∙ rw (c .before .before .before .before .before .before .before .put16 .ensures, c .before .before .before .before .before .before .before .before .low .ensures, c .before .before .before .high .ensures .0, c .before .before .before .before .before .before .before .before .before .before .before .before .loop .inv .2) (edges-next (c .before .before .before .before .before .before .before .before .before .before .before .before .before .before .before .args .keys .now) (c .before .before .before .before .before .before .before .before .before .before .before .before .before .before .before .args .out .now) (c .before .before .before .before .before .before .before .before .before .before .before .before .before .before .before .args .at) (c .before .before .before .before .before .before .before .before .before .before .before .before .loop .i) (omega arith)))
+
+same-length : tie.Need-same-length Inv-loop μ-loop
+same-length c = c .before .loop .inv .1
+
+returns : tie.Need-returns Inv-loop μ-loop
+returns c = c .before .loop .inv .2 ∙ rw (take-all (c .before .loop .i) (c .before .before .before .before .args .keys .now) (omega arith))
+
+pub put-edges-spec : {M : Type 1} → statement M
+put-edges-spec = tie.close (tie.spec Inv-loop μ-loop loop-holds mul-k shared-slice-read-k mul-put16 add-put16 low-requires put16-requires mul-put16-2 add-put16-2 add-put16-3 high-requires put16-requires-2 add-i loop-less loop-again same-length returns)

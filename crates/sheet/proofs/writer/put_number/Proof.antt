@@ -1,0 +1,31 @@
+-- Stored, or nothing to store.
+use mathlib.Core.Path.{_≡_, _∙_}
+use borrow.Author.Needs.{needs}
+use native.Mathlib.Omega.{arith}
+use Prim.Native.Nat.{_+_, _≤_}
+use lib.ListN.{length}
+use Rattle.sheet.specs.Sheet.{numberBytes}
+use Rattle.sheet.specs.Held.{numberOf}
+use Rattle.sheet.proofs.writer.put_number.Statement.{statement}
+use Rattle.sheet.proofs.writer.put_number.Tie as tie
+use Rattle.sheet.proofs.writer.put_number.Reads as reads
+use Rattle.sheet.proofs.writer.put_number.Lts as lts
+use Rattle.codec.proofs.put32.Reads as put32-reads
+
+put32-requires : tie.Need-put32-requires
+unfolding numberBytes
+put32-requires c κs = let h : c .before .before .before .args .at + length (numberBytes (numberOf (c .before .before .before .args .numbered) (c .before .before .before .args .number))) ≤ length (c .before .before .before .args .out .now) = c .before .before .before .pre .0 in let k = rw (c .before .if1 .taken) at h in (k, c .before .before .before .pre .1)
+
+same-length : tie.Need-same-length
+same-length c = search needs
+
+returns : tie.Need-returns
+unfolding numberBytes
+returns c = rw (c .before .before .before .before .if1 .taken) (c .before .before .put32 .ensures)
+
+returns-2 : tie.Need-returns-2
+unfolding numberBytes
+returns-2 c = rw (c .if1 .left)
+
+pub put-number-spec : {M : Type 1} → statement M
+put-number-spec = tie.close (tie.spec put32-requires same-length returns returns-2)

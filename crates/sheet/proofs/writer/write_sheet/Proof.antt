@@ -1,0 +1,64 @@
+-- The length is known before the first byte is written; then field by field, by the laws of Writing.antt.
+use mathlib.Core.Path.{_≡_, sym, _∙_}
+use Prim.Native.Nat.{_+_, _*_, _-_}
+use borrow.Author.Needs.{needs}
+use native.Mathlib.Omega.{arith}
+use lib.ListN.{length, length-set}
+use lib.Seq.{length-take-le}
+use Rattle.sheet.specs.Sheet.{mapByte}
+use Rattle.sheet.proofs.Writing.{small-front, too-short, finished}
+use Rattle.sheet.proofs.writer.write_sheet.Statement.{statement}
+use Rattle.sheet.proofs.writer.write_sheet.Tie as tie
+use Rattle.sheet.proofs.writer.write_sheet.Reads as reads
+use Rattle.sheet.proofs.writer.write_sheet.Lts as lts
+use Rattle.codec.proofs.put16.Reads as put16-reads
+use Rattle.sheet.proofs.writer.map_byte.Reads as map-byte-reads
+use Rattle.sheet.proofs.writer.number_size.Reads as number-size-reads
+use Rattle.sheet.proofs.writer.put_edges.Reads as put-edges-reads
+use Rattle.sheet.proofs.writer.put_number.Reads as put-number-reads
+
+sub-m : tie.Need-sub-m
+sub-m c = search needs
+
+mul-end : tie.Need-mul-end
+mul-end c = search needs
+
+add-end : tie.Need-add-end
+add-end c = search needs
+
+number-size-requires : tie.Need-number-size-requires
+number-size-requires c κs = search needs
+
+add-size : tie.Need-add-size
+add-size c = omega (arith, c .number-size .ensures .0, c .before .before .before .pre .0 .most)
+
+returns : tie.Need-returns
+returns c = too-short (c .before .before .before .before .args .h) (c .before .before .before .before .args .keys .now) (c .before .before .before .before .pre .0) (c .before .before .before .before .pre .1) (c .before .before .before .before .args .out .now) (c .before .number-size .result) (c .before .number-size .ensures .1 (c .before .before .before .before .args .h .number)) (c .if1 .taken)
+
+map-byte-requires : tie.Need-map-byte-requires
+map-byte-requires c κs = search needs
+
+slice-write-out : tie.Need-slice-write-out
+slice-write-out c = search needs
+
+put16-requires : tie.Need-put16-requires
+put16-requires c κs = simp length-set (omega (arith, c .before .before .before .before .before .before .pre .0 .most))
+
+slice-aggregate-put-edges : tie.Need-slice-aggregate-put-edges
+slice-aggregate-put-edges c = sym (length-take-le _ (c .before .before .before .before .before .before .before .before .before .before .before .args .keys .now) (omega (arith, c .before .before .before .before .before .before .before .before .before .before .before .pre .0 .most)))
+
+put-edges-requires : tie.Need-put-edges-requires
+put-edges-requires c κs = (omega (arith, c .before .before .before .before .put16 .kept .0, length-set (c .before .before .before .before .before .before .before .before .before .before .before .args .out .now) 0 (c .before .before .before .before .before .before .map-byte .result), length-take-le (c .before .before .before .before .before .before .before .before .before .before .before .args .h .n - 3) (c .before .before .before .before .before .before .before .before .before .before .before .args .keys .now) (omega (arith, c .before .before .before .before .before .before .before .before .before .before .before .pre .0 .most))), small-front (c .before .before .before .before .before .before .before .before .before .before .before .args .h .n - 3) (c .before .before .before .before .before .before .before .before .before .before .before .args .keys .now) (omega (arith, c .before .before .before .before .before .before .before .before .before .before .before .pre .0 .most)) (c .before .before .before .before .before .before .before .before .before .before .before .pre .0 .keys))
+
+put-number-requires : tie.Need-put-number-requires
+put-number-requires c κs = (omega (arith, c .before .before .before .put-edges .kept .0, c .before .before .before .before .before .before .before .before .put16 .kept .0, length-set (c .before .before .before .before .before .before .before .before .before .before .before .before .before .before .before .args .out .now) 0 (c .before .before .before .before .before .before .before .before .before .before .map-byte .result), c .before .before .before .before .before .before .before .before .before .before .before .before .number-size .ensures .1 (c .before .before .before .before .before .before .before .before .before .before .before .before .before .before .before .args .h .number)), c .before .before .before .before .before .before .before .before .before .before .before .before .before .before .before .pre .0 .number)
+
+same-length : tie.Need-same-length
+same-length c = c .before .before .put-number .kept .0 ∙ (c .before .before .before .before .before .before .put-edges .kept .0 ∙ (c .before .before .before .before .before .before .before .before .before .before .before .put16 .kept .0 ∙ length-set (c .before .before .before .before .before .before .before .before .before .before .before .before .before .before .before .before .before .before .args .out .now) 0 (c .before .before .before .before .before .before .before .before .before .before .before .before .before .map-byte .result)))
+
+returns-2 : tie.Need-returns-2
+unfolding mapByte
+returns-2 c = finished (c .before .before .before .before .before .before .before .before .before .before .before .before .before .before .before .before .before .before .args .h) (c .before .before .before .before .before .before .before .before .before .before .before .before .before .before .before .before .before .before .args .keys .now) (c .before .before .before .before .before .before .before .before .before .before .before .before .before .before .before .before .before .before .pre .0) (c .before .before .before .before .before .before .before .before .before .before .before .before .before .before .before .before .before .before .pre .1) (c .before .before .before .before .before .before .before .before .before .before .before .before .before .before .before .before .before .before .args .out .now) (c .before .before .before .before .before .before .before .before .before .before .before .before .before .before .before .number-size .result) (c .before .before .before .before .before .before .before .before .before .before .before .before .before .before .before .number-size .ensures .1 (c .before .before .before .before .before .before .before .before .before .before .before .before .before .before .before .before .before .before .args .h .number)) _ (c .before .before .before .before .before .before .before .before .before .before .before .before .before .before .if1 .left) (c .before .before .put-number .ensures ∙ rw (c .before .before .before .before .before .before .put-edges .ensures, c .before .before .before .before .before .before .before .before .before .before .before .put16 .ensures, c .before .before .before .before .before .before .before .before .before .before .before .before .before .map-byte .ensures (c .before .before .before .before .before .before .before .before .before .before .before .before .before .before .before .before .before .before .args .h .number)))
+
+pub write-sheet-spec : {M : Type 1} → statement M
+write-sheet-spec = tie.close (tie.spec sub-m mul-end add-end number-size-requires add-size returns map-byte-requires slice-write-out put16-requires slice-aggregate-put-edges put-edges-requires put-number-requires same-length returns-2)

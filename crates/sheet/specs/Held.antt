@@ -1,0 +1,64 @@
+-- How the code holds a part: a head, and the keys of its diagonals at the start of a table.
+use mathlib.Core.Path.{_≡_}
+use mathlib.Core.Bool.{Bool, true, false}
+use mathlib.Core.List.{List}
+use mathlib.Core.Option.{Option, none, some}
+use Prim.Native.Nat.{ℕ, _+_, _*_, _-_, _≤_, _<_}
+use lib.ListN.{take, getD}
+use Rattle.polygon.specs.Polygon.{Edge, Diagonal, Polygon}
+use Rattle.polygon.specs.Order.{lower-first}
+use Rattle.codec.specs.Numbers.{get16, get32}
+use Rattle.keys.specs.Keys.{keyOf, edgesOf}
+use Rattle.sheet.specs.declared.Head.{Head}
+use Rattle.sheet.specs.declared.Read.{Read}
+use Rattle.sheet.specs.declared.Read.the-variants.{Refused, Held}
+use Rattle.sheet.specs.Sheet.{Reading, refused, held, readSheet, bit2, partNumber}
+use Rattle.sheet.specs.Framed.{Framed}
+
+abbrev pub numberOf : Bool → ℕ → Option ℕ
+numberOf true k = some k
+numberOf false k = none
+
+-- the part that a head and a table of keys stand for
+abbrev pub polygonOf : Head → List ℕ → Polygon
+polygonOf h ks = record { n = h .n; ds = edgesOf (take (h .n - 3) ks); number = numberOf (h .numbered) (h .number) }
+
+-- each case of the code's answer
+abbrev pub readOf : Read → List ℕ → Reading
+readOf (Refused k) ks = refused k
+readOf (Held h) ks = held (polygonOf h ks)
+
+-- the first m keys are of edges whose corners are below 1,024
+abbrev pub Small : ℕ → List ℕ → Type 0
+Small m ks = (j : ℕ) → j < m → getD ks j 0 < 1048576
+
+-- the sizes of what is held
+pub record Fitting (h : Head) (ks : List ℕ) : Type 0 where
+  pub least : 3 ≤ h .n
+  pub most : h .n ≤ 1024
+  pub number : h .number < 4294967296
+  pub keys : Small (h .n - 3) ks
+
+abbrev pub Sized : Read → List ℕ → Type 0
+Sized (Refused k) ks = Unit {0}
+Sized (Held h) ks = Fitting h ks
+
+-- a head that was read: the sheet refused, or its frame and what the head holds of it
+pub record HeadOf (s : List ℕ) (h : Head) : Type 0 where
+  pub frame : Framed s
+  pub corners : h .n ≡ get16 s 1
+  pub number : numberOf (h .numbered) (h .number) ≡ partNumber (bit2 (getD s 0 0)) (get32 s (3 + 4 * (get16 s 1 - 3)))
+  pub fits : h .number < 4294967296
+
+abbrev pub Says : List ℕ → Read → Type 0
+Says s (Refused k) = readSheet s ≡ refused k
+Says s (Held h) = HeadOf s h
+
+-- the pair at a place of a sheet, with its lower corner first
+abbrev pub pairAt : List ℕ → ℕ → Edge
+pairAt s at = lower-first (get16 s at, get16 s (at + 2))
+
+-- r is the key of a diagonal e, or 0 and e is none
+pub record KeyIs (n : ℕ) (e : Edge) (r : ℕ) : Type 0 where
+  pub none : r ≡ 0 → ¬ Diagonal n e
+  pub some : ¬ (r ≡ 0) → Diagonal n e × (r ≡ keyOf e)

@@ -1,0 +1,4 @@
+pub mod Sheet
+pub mod Framed
+pub mod Held
+pub mod Listing

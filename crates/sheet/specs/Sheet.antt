@@ -1,0 +1,104 @@
+-- Document 01, "The sheet", and the tests of "Set in order" in their published order.
+use mathlib.Core.Path.{_≡_}
+use mathlib.Core.Logic.{Dec·and}
+use mathlib.Core.List.{List, [], _∷_, _++_}
+use mathlib.Core.Option.{Option, none, some}
+use Prim.Native.Nat.{ℕ, zero, suc, _+_, _*_, _-_, _/_, _%_, _≤_, _<_}
+use native.Mathlib.Decide.{decLe, decLt, ℕ-discrete}
+use lib.ListN.{length, getD}
+use Rattle.polygon.specs.Lists.{all?, choose}
+use Rattle.polygon.specs.Polygon.{Edge, Polygon}
+use Rattle.polygon.specs.Order.{diagonal?, distinct?, none-cross?, sort, lower-first}
+use Rattle.codec.specs.Numbers.{bytes16, bytes32, get16, get32}
+use Rattle.codec.specs.Answer.{Outcome, refuse, write}
+
+-- a sheet is refused by a number, or a part is held
+pub data Reading : Type 0 where
+  refused : ℕ → Reading
+  held : Polygon → Reading
+
+-- refused by k unless the test is passed
+unfoldable pub ask : {P : Type 0} → ℕ → Dec P → Reading → Reading
+ask k (yes p) r = r
+ask k (no p) r = refused k
+
+-- "Byte 0 is a bit map (bit 0 lowest)": bit 0, 1 and 2 of it, each 0 or 1
+abbrev pub bit0 : ℕ → ℕ
+bit0 m = m % 2
+
+abbrev pub bit1 : ℕ → ℕ
+bit1 m = m / 2 % 2
+
+abbrev pub bit2 : ℕ → ℕ
+bit2 m = m / 4 % 2
+
+-- a field is there if its bit stands: as many bytes, or none
+abbrev pub field : ℕ → ℕ → ℕ
+field zero size = 0
+field (suc b) size = size
+
+-- "Bit 0: corner count, two bytes. Bit 1: n-3 pairs of corners, two bytes a corner. Bit 2: part number, four bytes"
+abbrev pub sheetLength : ℕ → ℕ → ℕ
+sheetLength m n = 1 + field (bit0 m) 2 + field (bit1 m) (4 * (n - 3)) + field (bit2 m) 4
+
+-- the k pairs from a place on, each with its lower corner first
+unfoldable pub pairs : List ℕ → ℕ → ℕ → List Edge
+pairs s at zero = []
+pairs s at (suc k) = lower-first (get16 s at, get16 s (at + 2)) ∷ pairs s (at + 4) k
+
+-- the part number, if bit 2 stands: behind the pairs
+unfoldable pub partNumber : ℕ → ℕ → Option ℕ
+partNumber zero k = none
+partNumber (suc b) k = some k
+
+-- n has 3 to 1,024 corners; bit 1 stands exactly when n > 3
+unfoldable pub count? : (n : ℕ) → Dec ((3 ≤ n) × (n ≤ 1024))
+count? n = Dec·and (decLe 3 n) (decLe n 1024)
+
+unfoldable pub more : ℕ → ℕ
+more n = choose (decLt 3 n) 1 0
+
+-- The tests in order. 1: empty, bit 0 clear, or bit 3 to 7 set. 2: under 3 bytes. 3: n outside 3 to 1,024. 4: bit 1 disagrees with n. 2: length not exact.
+-- 5: some pair no diagonal. 6: a pair repeated, either way round. 7: two cross.
+unfoldable pub readSheet : List ℕ → Reading
+readSheet s =
+    let m = getD s 0 0 in
+    let n = get16 s 1 in
+    let es = pairs s 3 (n - 3) in
+    ask 1 (Dec·and (decLe 1 (length s)) (Dec·and (ℕ-discrete (bit0 m) 1) (decLt m 8)))
+    (ask 2 (decLe 3 (length s))
+    (ask 3 (count? n)
+    (ask 4 (ℕ-discrete (bit1 m) (more n))
+    (ask 2 (ℕ-discrete (length s) (sheetLength m n))
+    (ask 5 (all? (diagonal? n) es)
+    (ask 6 (distinct? es)
+    (ask 7 (none-cross? es)
+    (held (record { n = n; ds = sort es; number = partNumber (bit2 m) (get32 s (3 + 4 * (n - 3))) })))))))))
+
+-- the bytes of a part: "A sheet in normal order has each pair lower corner first, pairs ascending, and the sheet's part number if it has one"
+unfoldable pub pairBytes : List Edge → List ℕ
+pairBytes [] = []
+pairBytes (e ∷ es) = bytes16 (e .0) ++ (bytes16 (e .1) ++ pairBytes es)
+
+unfoldable pub numberBytes : Option ℕ → List ℕ
+numberBytes none = []
+numberBytes (some k) = bytes32 k
+
+unfoldable pub numberBit : Option ℕ → ℕ
+numberBit none = 0
+numberBit (some k) = 1
+
+unfoldable pub mapByte : Polygon → ℕ
+mapByte p = 1 + more (p .n) * 2 + numberBit (p .number) * 4
+
+unfoldable pub normalSheet : Polygon → List ℕ
+normalSheet p = mapByte p ∷ (bytes16 (p .n) ++ (pairBytes (p .ds) ++ numberBytes (p .number)))
+
+-- what an operation writes for a part, or the refusal
+unfoldable pub outcome : Reading → Outcome
+outcome (refused k) = refuse k
+outcome (held p) = write (normalSheet p)
+
+-- Set in order
+unfoldable pub ordered : List ℕ → Outcome
+ordered s = outcome (readSheet s)

@@ -1,0 +1,90 @@
+/*
+ * Bend charts for triangulated sheet-metal parts: the operations, for C and C++.
+ *
+ * A part has n corners, 3 to 1,024, numbered from 0 round its outline, and is
+ * cut into triangles by n - 3 diagonals. A sheet is a part in bytes; a chart is
+ * its drawing in bytes.
+ *
+ * Every function returns one number of 64 bits. Its low 16 bits are 0 if the
+ * operation was done, or the number of the refusal:
+ *
+ *    1  the sheet is empty, or its map byte lacks bit 0 or has one of bits 3-7
+ *    2  the sheet is under 3 bytes, or not exactly as long as its fields
+ *    3  the corner count is outside 3 to 1,024
+ *    4  bit 1 of the map byte disagrees with the corner count
+ *    5  some pair is no diagonal: a side, equal corners, or a corner >= n
+ *    6  a pair is repeated, either way round
+ *    7  two diagonals cross
+ *    8  the output is shorter than the result
+ *    9  a side or corner that the call names is not below n
+ *   10  the part has 1,024 corners and can take no more
+ *   11  the part is a triangle and can lose no corner
+ *   12  a diagonal ends at the corner to be taken off
+ *   13  the part lacks the diagonal to be turned
+ *   14  the chart has a wrong length, a corner count out of range, or one of
+ *       bits 1-7 in a map byte
+ *   15  a bar breaks its rule
+ *   16  a stroke's corners or order are wrong, or its bars do not fit
+ *   17  an upright passes through the gap of a level stroke
+ *   18  the strokes lack a side of the part, or diagonals cross
+ *
+ * The first that applies, in the order given at each function, is returned; the
+ * other bits are then 0 and no byte of the output is changed. If the operation
+ * was done, the bytes of the output beyond the result stay as they were.
+ *
+ * The input is only read. The output must not overlap it. No pointer may be
+ * null, not even with a length of 0.
+ */
+#ifndef BEND_H
+#define BEND_H
+
+#include <stddef.h>
+#include <stdint.h>
+
+#ifdef __cplusplus
+extern "C" {
+#endif
+
+/*
+ * Set in order: writes the sheet in normal order, each pair lower corner first
+ * and the pairs ascending. Gives the length written.
+ * Refusals: 1, 2, 3, 4, 2, 5, 6, 7; 8.
+ */
+uint64_t bend_normalize(const uint8_t *sheet, size_t sheet_len,
+                        uint8_t *out, size_t out_len);
+
+/* The number in an answer: 0, or the refusal. */
+static inline unsigned bend_number(uint64_t answer)
+{
+    return (unsigned)(answer & 0xffff);
+}
+
+/* The length written, in the answer of an operation that writes; 0 if refused. */
+static inline size_t bend_length(uint64_t answer)
+{
+    return (size_t)(answer >> 16);
+}
+
+/* The levels in an answer of bend_plan. */
+static inline unsigned bend_levels(uint64_t answer)
+{
+    return (unsigned)(answer >> 16 & 0xffff);
+}
+
+/* The umbrellas in an answer of bend_plan. */
+static inline unsigned bend_umbrellas(uint64_t answer)
+{
+    return (unsigned)(answer >> 32 & 0xffff);
+}
+
+/* The stems in an answer of bend_plan. */
+static inline unsigned bend_stems(uint64_t answer)
+{
+    return (unsigned)(answer >> 48 & 0xffff);
+}
+
+#ifdef __cplusplus
+}
+#endif
+
+#endif

@@ -1,0 +1,54 @@
+//! Refusals and their numbers.
+//! Follows "Operations and their refusals" of document 01.
+
+/// Why an operation refuses; the value is the number that it gives.
+#[derive(Clone, Copy, Debug, PartialEq, Eq, PartialOrd, Ord)]
+#[repr(u16)]
+pub enum Refusal {
+    /// The sheet is empty, or its map byte lacks bit 0 or has one of bits 3 to 7.
+    MapByte = 1,
+    /// The sheet is under 3 bytes, or not as long as its fields.
+    SheetLength = 2,
+    /// The corner count is outside 3 to 1,024.
+    CornerCount = 3,
+    /// Bit 1 of the map byte disagrees with the corner count.
+    PairsBit = 4,
+    /// Some pair is no diagonal.
+    NoDiagonal = 5,
+    /// A pair is repeated.
+    Repeated = 6,
+    /// Two diagonals cross.
+    Crossing = 7,
+    /// The output is shorter than the result.
+    OutputShort = 8,
+    /// A number that an edit names is too high.
+    OutOfRange = 9,
+    /// The part has 1,024 corners and can take no more.
+    Full = 10,
+    /// The part is a triangle and can lose no corner.
+    Triangle = 11,
+    /// A diagonal ends at the corner to be taken off.
+    NotAnEar = 12,
+    /// The part lacks the diagonal to be turned.
+    Lacking = 13,
+    /// The chart's length, corner count or a map byte is wrong.
+    ChartForm = 14,
+    /// A bar breaks its rule.
+    Bar = 15,
+    /// A stroke's corners or order are wrong, or its bars do not fit.
+    Stroke = 16,
+    /// An upright passes through the gap of a level stroke.
+    Gap = 17,
+    /// The strokes lack a side, or diagonals cross.
+    NotAPart = 18,
+}
+
+impl Refusal {
+    /// The number that the operation gives.
+    pub fn number(self) -> u16 {
+        self as u16
+    }
+}
+
+/// What an operation that writes gives: the length of its result, or a refusal.
+pub type Written = Result<usize, Refusal>;

@@ -1,0 +1,70 @@
+//! Lists of edits: the library reads what it wrote, the plain part of document 01
+//! is fed the edits alone, and both must leave the same sheet.
+
+use super::checks::{must_be, same_bytes, Outcome};
+use super::edits::{any_edit, by_library};
+use super::sheets::{any_number, any_part, any_sheet};
+use super::Tests;
+#[cfg(all(feature = "plan", feature = "draw"))]
+use bend_tests::draw::chart;
+use bend_tests::edit::PlainPart;
+#[cfg(all(feature = "plan", feature = "draw"))]
+use bend_tests::plan::Pieces;
+use bend_tests::random::Random;
+
+/// Runs one list of edits. The library reads what it wrote last; the plain part
+/// is fed the edits alone.
+fn list(first: &[u8], length: usize, random: &mut Random) -> Outcome {
+    let mut plain = PlainPart::new(first).expect("the list starts from a valid sheet");
+    let mut left = first.to_vec();
+    for _ in 0..length {
+        let edit = any_edit(&plain.part, random);
+        let lent = match random.below(12) {
+            0 => random.below(left.len() + 5),
+            1 => left.len(),
+            2 => left.len() + 4,
+            _ => left.len() + 4 + random.below(100),
+        };
+        let mut out = random.bytes(lent);
+        let answer = by_library(&left, edit, &mut out);
+        let number = plain.edit(edit, lent);
+        must_be(number, answer, &left).map_err(|failure| failure.after(&format!("{edit:?} on")))?;
+        if number == 0 {
+            out.truncate((answer >> 16) as usize);
+            left = out;
+        }
+    }
+    same_bytes(first, &left, &plain.sheet())?;
+    #[cfg(all(feature = "plan", feature = "draw"))]
+    planned_and_drawn(&left, &plain)?;
+    Ok(())
+}
+
+/// Plan and Draw on the sheet left give what the plain part's plan gives.
+#[cfg(all(feature = "plan", feature = "draw"))]
+fn planned_and_drawn(left: &[u8], plain: &PlainPart) -> Outcome {
+    let plan = Pieces::of(&plain.part).plan();
+    super::plan::gives(left, Ok(plan.counts))?;
+    super::draw::draws(left, &chart(&plain.part, &plan))
+}
+
+pub fn run(tests: &mut Tests) {
+    for (name, n, count, length) in [
+        ("the empty list", 12, 10, 0),
+        ("short lists from 3 corners", 3, 3000, 8),
+        ("long lists from 3 corners", 3, 60, 1500),
+        ("long lists from 40 corners", 40, 60, 1500),
+        ("long lists from 1,020 corners", 1020, 8, 1500),
+        ("long lists from 1,024 corners", 1024, 8, 1500),
+    ] {
+        tests.test(&format!("edits: {name}"), || {
+            let mut random = Random::new(91);
+            for _ in 0..count {
+                let mut part = any_part(n, &mut random);
+                part.number = any_number(&mut random);
+                list(&any_sheet(&part, &mut random), length, &mut random)?;
+            }
+            Ok(())
+        });
+    }
+}

@@ -1,0 +1,247 @@
+//! Faulty sheets: every fault that refusals 1 to 7 name, by itself and in twos.
+//! In twos the first in the published order must win.
+
+use super::checks::Outcome;
+use super::sheets::{any_part, ordered, ORDERS};
+use super::Tests;
+use bend_tests::part::{cross, is_diagonal, lower_first, Corner, Pair};
+use bend_tests::random::Random;
+
+/// What becomes of a drafted sheet's bytes at their end.
+#[derive(Clone, Copy)]
+enum Ending {
+    Whole,
+    Keep(usize),
+    Drop(usize),
+    Add(usize),
+}
+
+/// A sheet in the making, to which faults are done.
+struct Draft {
+    map: u8,
+    n: Corner,
+    pairs: Vec<Pair>,
+    number: Option<u32>,
+    ending: Ending,
+    /// The places of pairs that a fault needs as they are.
+    taken: Vec<usize>,
+}
+
+impl Draft {
+    /// A valid sheet with at least eight pairs.
+    fn new(random: &mut Random) -> Draft {
+        let n = match random.below(8) {
+            0 => 1024,
+            1 => random.between(41, 1023),
+            _ => random.between(11, 40),
+        };
+        let part = any_part(n as Corner, random);
+        let order = *random.pick(&ORDERS);
+        Draft {
+            map: if part.number.is_some() { 7 } else { 3 },
+            n: part.n,
+            pairs: ordered(&part, order, random),
+            number: part.number,
+            ending: Ending::Whole,
+            taken: Vec::new(),
+        }
+    }
+
+    fn bytes(&self) -> Vec<u8> {
+        let mut bytes = vec![self.map];
+        bytes.extend(self.n.to_be_bytes());
+        for (a, b) in &self.pairs {
+            bytes.extend(a.to_be_bytes());
+            bytes.extend(b.to_be_bytes());
+        }
+        bytes.extend(self.number.iter().flat_map(|number| number.to_be_bytes()));
+        match self.ending {
+            Ending::Whole => {}
+            Ending::Keep(length) => bytes.truncate(length),
+            Ending::Drop(count) => bytes.truncate(bytes.len() - count),
+            Ending::Add(count) => bytes.extend(vec![0; count]),
+        }
+        bytes
+    }
+
+    /// A place among the pairs that no fault needs yet, often the first or last.
+    fn take(&mut self, random: &mut Random) -> usize {
+        loop {
+            let place = match random.below(4) {
+                0 => 0,
+                1 => self.pairs.len() - 1,
+                _ => random.below(self.pairs.len()),
+            };
+            if !self.taken.contains(&place) {
+                self.taken.push(place);
+                return place;
+            }
+        }
+    }
+}
+
+/// One way to spoil a valid sheet.
+struct Fault {
+    name: &'static str,
+    /// The refusal that it leads to by itself.
+    number: u16,
+    /// When it is tested, in the published order: the lower first.
+    rank: usize,
+    spoil: fn(&mut Draft, &mut Random),
+}
+
+const fn fault(
+    number: u16,
+    rank: usize,
+    name: &'static str,
+    spoil: fn(&mut Draft, &mut Random),
+) -> Fault {
+    Fault {
+        name,
+        number,
+        rank,
+        spoil,
+    }
+}
+
+/// Every kind of fault that refusals 1 to 7 name, in the published order.
+static FAULTS: [Fault; 32] = [
+    fault(1, 0, "empty", |d, _| d.ending = Ending::Keep(0)),
+    fault(1, 0, "bit 0 clear", |d, _| d.map &= !1),
+    fault(1, 0, "bit 3 set", |d, _| d.map |= 1 << 3),
+    fault(1, 0, "bit 4 set", |d, _| d.map |= 1 << 4),
+    fault(1, 0, "bit 5 set", |d, _| d.map |= 1 << 5),
+    fault(1, 0, "bit 6 set", |d, _| d.map |= 1 << 6),
+    fault(1, 0, "bit 7 set", |d, _| d.map |= 1 << 7),
+    fault(2, 1, "one byte", |d, _| d.ending = Ending::Keep(1)),
+    fault(2, 1, "two bytes", |d, _| d.ending = Ending::Keep(2)),
+    fault(3, 2, "count 0", |d, _| d.n = 0),
+    fault(3, 2, "count 2", |d, _| d.n = 2),
+    fault(3, 2, "count 1025", |d, _| d.n = 1025),
+    fault(3, 2, "count 65535", |d, _| d.n = u16::MAX),
+    fault(4, 3, "pairs bit clear", |d, _| d.map &= !2),
+    fault(4, 3, "pairs bit of a triangle", |d, _| d.n = 3),
+    fault(2, 4, "a byte short", |d, _| d.ending = Ending::Drop(1)),
+    fault(2, 4, "a pair short", |d, _| d.ending = Ending::Drop(4)),
+    fault(2, 4, "a byte over", |d, _| d.ending = Ending::Add(1)),
+    fault(2, 4, "a pair over", |d, _| d.ending = Ending::Add(4)),
+    fault(2, 4, "three bytes", |d, _| d.ending = Ending::Keep(3)),
+    fault(2, 4, "number bit flipped", |d, _| d.map ^= 4),
+    fault(5, 5, "a side", |d, random| {
+        let a = random.below(usize::from(d.n) - 1) as Corner;
+        replace(d, (a, a + 1), random)
+    }),
+    fault(5, 5, "a side, higher first", |d, random| {
+        let a = random.below(usize::from(d.n) - 1) as Corner;
+        replace(d, (a + 1, a), random)
+    }),
+    fault(5, 5, "the root", |d, random| {
+        replace(d, (0, d.n - 1), random)
+    }),
+    fault(5, 5, "the root, higher first", |d, random| {
+        replace(d, (d.n - 1, 0), random)
+    }),
+    fault(5, 5, "equal corners", |d, random| {
+        let a = random.below(usize::from(d.n)) as Corner;
+        replace(d, (a, a), random)
+    }),
+    fault(5, 5, "second corner n", |d, random| {
+        replace(d, (1, d.n), random)
+    }),
+    fault(5, 5, "first corner n", |d, random| {
+        replace(d, (d.n, 2), random)
+    }),
+    fault(5, 5, "corner 65535", |d, random| {
+        replace(d, (u16::MAX, 5), random)
+    }),
+    fault(6, 6, "repeated", |d, random| {
+        let (from, to) = (d.take(random), d.take(random));
+        d.pairs[to] = d.pairs[from];
+    }),
+    fault(6, 6, "repeated the other way round", |d, random| {
+        let (from, to) = (d.take(random), d.take(random));
+        d.pairs[to] = (d.pairs[from].1, d.pairs[from].0);
+    }),
+    fault(7, 7, "crossing", |d, random| {
+        let (kept, place) = (d.take(random), d.take(random));
+        let stands: Vec<Pair> = d.pairs.iter().copied().map(lower_first).collect();
+        loop {
+            let a = random.below(usize::from(d.n)) as Corner;
+            let b = random.below(usize::from(d.n)) as Corner;
+            let pair = lower_first((a, b));
+            if is_diagonal(d.n, pair) && !stands.contains(&pair) && cross(pair, stands[kept]) {
+                d.pairs[place] = (a, b);
+                return;
+            }
+        }
+    }),
+];
+
+/// Puts `pair` in the place of one of the draft's.
+fn replace(draft: &mut Draft, pair: Pair, random: &mut Random) {
+    let place = draft.take(random);
+    draft.pairs[place] = pair;
+}
+
+/// A draft with the faults done to it, the first one last so that it stands.
+fn spoiled(first: &Fault, second: Option<&Fault>, random: &mut Random) -> Vec<u8> {
+    let mut draft = Draft::new(random);
+    if let Some(second) = second {
+        (second.spoil)(&mut draft, random);
+    }
+    (first.spoil)(&mut draft, random);
+    draft.bytes()
+}
+
+/// Calls `gives` on sheets with the fault: by itself with outputs long and short.
+fn alone(fault: &Fault, gives: &impl Fn(u16, &[u8], usize) -> Outcome) -> Outcome {
+    let mut random = Random::new(21);
+    (0..60).try_for_each(|round| {
+        let lent = if round < 40 { 5000 } else { round - 40 };
+        gives(fault.number, &spoiled(fault, None, &mut random), lent)
+    })
+}
+
+/// The same on sheets that have a later fault besides.
+fn before(first: &Fault, second: &Fault, gives: &impl Fn(u16, &[u8], usize) -> Outcome) -> Outcome {
+    let mut random = Random::new(22);
+    (0..10).try_for_each(|_| {
+        let sheet = spoiled(first, Some(second), &mut random);
+        gives(first.number, &sheet, 5000)
+    })
+}
+
+/// The faults that are tested for after `first`.
+fn later(first: &Fault) -> impl Iterator<Item = &'static Fault> {
+    let rank = first.rank;
+    FAULTS.iter().filter(move |second| second.rank > rank)
+}
+
+/// Tests of an operation that reads a sheet, one for each fault and one for each
+/// two. `gives` calls the operation with a sheet and an output of a length, and
+/// compares it with the number that it should give.
+pub fn refusals_in_twos(
+    tests: &mut Tests,
+    operation: &str,
+    gives: impl Fn(u16, &[u8], usize) -> Outcome,
+) {
+    for first in &FAULTS {
+        let name = format!("{operation}: {} {}", first.number, first.name);
+        tests.test(&name, || alone(first, &gives));
+        for second in later(first) {
+            let name = format!("{name} before {} {}", second.number, second.name);
+            tests.test(&name, || before(first, second, &gives));
+        }
+    }
+}
+
+/// The same inputs, with one test for each fault that comes first.
+pub fn refusals(tests: &mut Tests, operation: &str, gives: impl Fn(u16, &[u8], usize) -> Outcome) {
+    for first in &FAULTS {
+        let name = format!("{operation}: {} {}", first.number, first.name);
+        tests.test(&name, || {
+            alone(first, &gives)?;
+            later(first).try_for_each(|second| before(first, second, &gives))
+        });
+    }
+}

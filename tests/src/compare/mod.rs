@@ -1,0 +1,94 @@
+//! The tests, one module per operation, and the running of them by name.
+
+#[cfg(feature = "read_chart")]
+mod chart_faults;
+#[cfg(feature = "draw")]
+mod draw;
+#[cfg(feature = "edits")]
+mod edit_lists;
+#[cfg(feature = "edits")]
+mod edits;
+#[cfg(feature = "normalize")]
+mod normalize;
+#[cfg(feature = "plan")]
+mod plan;
+#[cfg(feature = "read_chart")]
+mod read_chart;
+
+// What the groups share; which of it is used depends on the features.
+#[allow(dead_code)]
+mod checks;
+#[allow(dead_code)]
+mod faults;
+#[allow(dead_code)]
+mod sheets;
+
+use checks::Outcome;
+use std::process::ExitCode;
+
+/// Runs every group of tests whose operation is switched on.
+pub fn run(tests: &mut Tests) {
+    #[cfg(feature = "normalize")]
+    normalize::run(tests);
+    #[cfg(feature = "edits")]
+    edits::run(tests);
+    #[cfg(feature = "edits")]
+    edit_lists::run(tests);
+    #[cfg(feature = "plan")]
+    plan::run(tests);
+    #[cfg(feature = "draw")]
+    draw::run(tests);
+    #[cfg(feature = "read_chart")]
+    read_chart::run(tests);
+    #[cfg(feature = "read_chart")]
+    chart_faults::run(tests);
+}
+
+/// Runs tests by name and counts them.
+#[derive(Default)]
+pub struct Tests {
+    only: Option<String>,
+    names: bool,
+    passed: usize,
+    failed: usize,
+}
+
+impl Tests {
+    pub fn keep_only(&mut self, part_of_name: &str) {
+        self.only = Some(part_of_name.to_string());
+    }
+
+    pub fn show_names(&mut self) {
+        self.names = true;
+    }
+
+    /// Runs one test, which counts as one whatever the number of its inputs.
+    pub fn test(&mut self, name: &str, run: impl FnOnce() -> Outcome) {
+        if self.only.as_ref().is_some_and(|only| !name.contains(only)) {
+            return;
+        }
+        if self.names {
+            println!("{name}");
+        }
+        match run() {
+            Ok(()) => self.passed += 1,
+            Err(failure) => {
+                self.failed += 1;
+                println!("FAILED {name}");
+                println!("  input   {}", failure.input);
+                println!("  library {}", failure.library);
+                println!("  model   {}", failure.model);
+            }
+        }
+    }
+
+    /// Prints the last line and gives the exit status.
+    pub fn report(&self) -> ExitCode {
+        println!("{} passed, {} failed", self.passed, self.failed);
+        if self.failed == 0 {
+            ExitCode::SUCCESS
+        } else {
+            ExitCode::FAILURE
+        }
+    }
+}

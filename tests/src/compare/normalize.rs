@@ -1,0 +1,277 @@
+//! Set in order: the library's `bend_normalize` beside the model.
+
+use super::checks::{must_be, same_writing, Outcome};
+use super::faults::refusals_in_twos;
+use super::sheets::{any_part, any_sheet, ordered, DAMAGES, ORDERS};
+use super::Tests;
+use crate::library;
+use bend_tests::part::{Corner, Pair};
+use bend_tests::random::Random;
+use bend_tests::shapes::{all_parts, part, SHAPES};
+use bend_tests::sheet;
+
+pub fn run(tests: &mut Tests) {
+    known_parts(tests);
+    valid_sheets(tests);
+    refusals_in_twos(tests, "normalize", gives);
+    damaged_sheets(tests);
+    odd_inputs(tests);
+    output_lengths(tests);
+}
+
+/// Both sides on one sheet with `lent` bytes of output.
+fn same(sheet: &[u8], lent: usize) -> Outcome {
+    same_writing(sheet, lent, library::normalize, sheet::set_in_order)
+}
+
+/// Both sides, and the number that the test was made to get.
+fn gives(number: u16, sheet: &[u8], lent: usize) -> Outcome {
+    must_be(number, library::normalize(sheet, &mut vec![0; lent]), sheet)?;
+    same(sheet, lent)
+}
+
+fn known_parts(tests: &mut Tests) {
+    let pairs = |n, pairs: &[Pair]| sheet::with_pairs(n, pairs, None);
+    let known = [
+        ("n = 5, (0,2) (1,3): 7", 7, pairs(5, &[(0, 2), (1, 3)])),
+        ("n = 5, (0,2) (2,0): 6", 6, pairs(5, &[(0, 2), (2, 0)])),
+        ("n = 5, (0,4) (1,3): 5", 5, pairs(5, &[(0, 4), (1, 3)])),
+        ("n = 2: 3", 3, vec![1, 0, 2]),
+        ("n = 1,025: 3", 3, vec![3, 4, 1]),
+        ("n = 3", 0, vec![1, 0, 3]),
+        ("n = 4, (0,2)", 0, pairs(4, &[(0, 2)])),
+    ];
+    for (name, number, sheet) in known {
+        tests.test(&format!("normalize: known part {name}"), || {
+            gives(number, &sheet, 64)
+        });
+    }
+}
+
+fn valid_sheets(tests: &mut Tests) {
+    for order in ORDERS {
+        for number in [None, Some(0), Some(0x0102_0304), Some(u32::MAX)] {
+            let name = format!("normalize: every size, {order:?}, part number {number:?}");
+            tests.test(&name, || {
+                let mut random = Random::new(11);
+                for n in 3..=1024 {
+                    let shape = *random.pick(&SHAPES);
+                    let part = part(shape, n, &mut random);
+                    let pairs = ordered(&part, order, &mut random);
+                    let sheet = sheet::with_pairs(n, &pairs, number);
+                    gives(0, &sheet, sheet.len() + random.below(3))?;
+                }
+                Ok(())
+            });
+        }
+    }
+    for shape in SHAPES {
+        tests.test(&format!("normalize: {shape:?} at 1,023 and 1,024"), || {
+            let mut random = Random::new(12);
+            for n in [1023, 1024] {
+                for order in ORDERS {
+                    let part = part(shape, n, &mut random);
+                    let pairs = ordered(&part, order, &mut random);
+                    let sheet = sheet::with_pairs(n, &pairs, None);
+                    gives(0, &sheet, sheet.len())?;
+                }
+            }
+            Ok(())
+        });
+    }
+    tests.test("normalize: all parts of up to 9 corners", || {
+        let mut random = Random::new(13);
+        for part in (3..=9).flat_map(all_parts) {
+            for order in ORDERS {
+                let pairs = ordered(&part, order, &mut random);
+                let sheet = sheet::with_pairs(part.n, &pairs, None);
+                gives(0, &sheet, sheet.len())?;
+            }
+        }
+        Ok(())
+    });
+}
+
+fn damaged_sheets(tests: &mut Tests) {
+    for (name, damage) in DAMAGES {
+        tests.test(&format!("normalize: damaged, {name}"), || {
+            let mut random = Random::new(31);
+            for round in 0..6000 {
+                let n = if round % 20 == 0 {
+                    1024
+                } else {
+                    random.between(3, 24)
+                };
+                let part = any_part(n as Corner, &mut random);
+                let mut sheet = any_sheet(&part, &mut random);
+                damage(&mut sheet, &mut random);
+                let lent = sheet.len() + 4 - random.below(8).min(sheet.len());
+                same(&sheet, lent)?;
+            }
+            Ok(())
+        });
+    }
+    tests.test(
+        "normalize: damaged, every bit of small sheets flipped",
+        || {
+            let mut random = Random::new(32);
+            for part in (3..=7).flat_map(all_parts) {
+                let sheet = any_sheet(&part, &mut random);
+                for bit in 0..8 * sheet.len() {
+                    let mut damaged = sheet.clone();
+                    damaged[bit / 8] ^= 1 << (bit % 8);
+                    same(&damaged, sheet.len() + 4)?;
+                }
+            }
+            Ok(())
+        },
+    );
+    tests.test(
+        "normalize: damaged, one byte of small sheets to anything",
+        || {
+            let mut random = Random::new(33);
+            for n in [3, 4, 5, 6, 8] {
+                let sheet = any_sheet(&any_part(n, &mut random), &mut random);
+                for (place, value) in (0..sheet.len()).flat_map(|p| (0..=255).map(move |v| (p, v)))
+                {
+                    let mut damaged = sheet.clone();
+                    damaged[place] = value;
+                    same(&damaged, sheet.len() + 4)?;
+                }
+            }
+            Ok(())
+        },
+    );
+    tests.test("normalize: any pairs of a pentagon and a hexagon", || {
+        let corners = |n: Corner| (0..=n).flat_map(move |a| (0..=n).map(move |b| (a, b)));
+        for pairs in corners(5).flat_map(|one| corners(5).map(move |two| [one, two])) {
+            same(&sheet::with_pairs(5, &pairs, None), 11)?;
+        }
+        let mut random = Random::new(34);
+        for _ in 0..20000 {
+            let mut any = || (random.below(7) as Corner, random.below(7) as Corner);
+            same(&sheet::with_pairs(6, &[any(), any(), any()], None), 15)?;
+        }
+        Ok(())
+    });
+    tests.test("normalize: every truncation", || {
+        let mut random = Random::new(35);
+        for n in [3, 4, 5, 9, 40, 1024] {
+            let sheet = any_sheet(&any_part(n, &mut random), &mut random);
+            for length in 0..=sheet.len() {
+                same(&sheet[..length], sheet.len())?;
+            }
+        }
+        Ok(())
+    });
+}
+
+fn odd_inputs(tests: &mut Tests) {
+    tests.test("normalize: empty input", || gives(1, &[], 64));
+    tests.test("normalize: every single byte", || {
+        (0..=255).try_for_each(|byte| same(&[byte], 64))
+    });
+    tests.test("normalize: every pair of bytes", || {
+        (0..=u16::MAX).try_for_each(|two| same(&two.to_be_bytes(), 8))
+    });
+    tests.test("normalize: every count, without pairs", || {
+        for map in [1, 3, 5, 7] {
+            for count in 0..=u16::MAX {
+                let [high, low] = count.to_be_bytes();
+                same(&[map, high, low], 8)?;
+            }
+        }
+        Ok(())
+    });
+    tests.test("normalize: 65,535 as a count, with all its pairs", || {
+        let mut sheet = vec![3, 255, 255];
+        sheet.resize(3 + 4 * 65532, 1);
+        gives(3, &sheet, sheet.len())
+    });
+    tests.test("normalize: 1,025 corners, with all their pairs", || {
+        let fan: Vec<Pair> = (2..1024).map(|b| (0, b)).collect();
+        gives(3, &sheet::with_pairs(1025, &fan, Some(7)), 5000)
+    });
+    tests.test("normalize: a sheet longer than any", || {
+        let mut random = Random::new(41);
+        for n in [3, 4, 1024] {
+            let mut sheet = any_sheet(&any_part(n, &mut random), &mut random);
+            sheet.resize(1_000_000, 0);
+            gives(2, &sheet, 5000)?;
+        }
+        Ok(())
+    });
+    tests.test("normalize: all bytes 255, and all bytes 0", || {
+        for length in (0..64).chain([4095, 4096, 70_000]) {
+            gives(1, &vec![255; length], 5000)?;
+            gives(1, &vec![0; length], 5000)?;
+        }
+        Ok(())
+    });
+    tests.test("normalize: random bytes", || {
+        let mut random = Random::new(42);
+        for _ in 0..40_000 {
+            let length = random.below(48);
+            same(&random.bytes(length), 64)?;
+        }
+        Ok(())
+    });
+    tests.test("normalize: random bytes after a good head", || {
+        let mut random = Random::new(43);
+        for _ in 0..40_000 {
+            let n = random.between(3, 9);
+            let number = random.below(2);
+            let map = 1 + if n > 3 { 2 } else { 0 } + 4 * number as u8;
+            let mut sheet = vec![map, 0, n as u8];
+            for _ in 0..2 * (n - 3) {
+                sheet.extend([0, random.below(n + 1) as u8]);
+            }
+            sheet.extend(random.bytes(4 * number));
+            same(&sheet, random.below(40))?;
+        }
+        Ok(())
+    });
+}
+
+fn output_lengths(tests: &mut Tests) {
+    tests.test("normalize: every length of output, small parts", || {
+        let mut random = Random::new(51);
+        for n in (3..=24).flat_map(|n| [n; 4]) {
+            let part = any_part(n, &mut random);
+            let sheet = any_sheet(&part, &mut random);
+            for lent in 0..=sheet.len() + 2 {
+                let number = if lent < sheet.len() { 8 } else { 0 };
+                gives(number, &sheet, lent)?;
+            }
+        }
+        Ok(())
+    });
+    tests.test(
+        "normalize: the edges of the output's length, large parts",
+        || {
+            let mut random = Random::new(52);
+            for n in (25..=1024).step_by(37).chain([1023, 1024]) {
+                let part = any_part(n, &mut random);
+                let sheet = any_sheet(&part, &mut random);
+                let length = sheet.len();
+                for lent in (0..8).chain([length / 2]).chain(length - 5..=length + 2) {
+                    let number = if lent < length { 8 } else { 0 };
+                    gives(number, &sheet, lent)?;
+                }
+            }
+            Ok(())
+        },
+    );
+    tests.test("normalize: every length of output at 1,024 corners", || {
+        let mut random = Random::new(53);
+        let sheet = any_sheet(&any_part(1024, &mut random), &mut random);
+        (0..=sheet.len() + 2).try_for_each(|lent| same(&sheet, lent))
+    });
+    tests.test("normalize: an output much longer than the result", || {
+        let mut random = Random::new(54);
+        for n in [3, 4, 100, 1024] {
+            same(&any_sheet(&any_part(n, &mut random), &mut random), 200_000)?;
+        }
+        Ok(())
+    });
+}

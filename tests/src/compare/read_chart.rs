@@ -1,0 +1,213 @@
+//! Read a chart: the library's `bend_read_chart` beside the model.
+
+use super::checks::{must_be, same_writing, Outcome};
+use super::sheets::{any_part, DAMAGES};
+use super::Tests;
+use crate::library;
+use bend_tests::changes::{
+    changed, cut_back, exchanged, lengthened, mirrored, moved, nudged, rotated, stretched, strewn,
+    upside_down,
+};
+use bend_tests::chart::Chart;
+use bend_tests::draw::chart_of;
+use bend_tests::part::Corner;
+use bend_tests::random::Random;
+use bend_tests::reader::read_chart;
+use bend_tests::shapes::all_parts;
+
+pub fn run(tests: &mut Tests) {
+    charts_drawn_otherwise(tests);
+    changed_charts(tests);
+    damaged_charts(tests);
+    output_lengths(tests);
+}
+
+/// Both sides on one chart with `lent` bytes of output.
+pub fn same(bytes: &[u8], lent: usize) -> Outcome {
+    same_writing(bytes, lent, library::read_chart, read_chart)
+}
+
+/// Both sides, and the number that the test was made to get.
+pub fn gives(number: u16, chart: &Chart) -> Outcome {
+    let bytes = chart.bytes();
+    let answer = library::read_chart(&bytes, &mut vec![0; 5000]);
+    must_be(number, answer, &bytes)?;
+    same(&bytes, 5000)
+}
+
+/// The chart of a random part of up to `most` corners.
+fn any_chart(most: usize, random: &mut Random) -> Chart {
+    let n = random.between(3, most);
+    chart_of(&any_part(n as Corner, random))
+}
+
+/// Charts of all small parts, and of some random ones of every size.
+fn many_charts(random: &mut Random) -> Vec<Chart> {
+    let small = (3..=8).flat_map(all_parts);
+    let mut charts: Vec<Chart> = small.map(|part| chart_of(&part)).collect();
+    for most in [40, 200, 1024] {
+        charts.extend((0..30).map(|_| any_chart(most, random)));
+    }
+    charts.push(chart_of(&any_part(1024, random)));
+    charts
+}
+
+fn charts_drawn_otherwise(tests: &mut Tests) {
+    type Change = fn(&Chart, &mut Random) -> Chart;
+    let accepted: [(&str, Change); 8] = [
+        ("as drawn", |chart, _| chart.clone()),
+        ("mirrored", |chart, _| mirrored(chart)),
+        ("upside down", |chart, _| upside_down(chart)),
+        ("mirrored and upside down", |chart, _| {
+            upside_down(&mirrored(chart))
+        }),
+        ("stretched", |chart, random| stretched(chart, 3, random)),
+        ("stretched to the limit", |chart, random| {
+            stretched(chart, 28, random)
+        }),
+        ("renumbered by rotation", |chart, random| {
+            rotated(chart, random.below(chart.bars.len()), false)
+        }),
+        ("renumbered backwards", |chart, random| {
+            rotated(chart, random.below(chart.bars.len()), true)
+        }),
+    ];
+    for (name, change) in accepted {
+        tests.test(&format!("read_chart: {name}"), || {
+            let mut random = Random::new(301);
+            let charts = many_charts(&mut random);
+            let mut otherwise = charts.iter().map(|chart| change(chart, &mut random));
+            otherwise.try_for_each(|chart| gives(0, &chart))
+        });
+    }
+    let any: [(&str, Change); 6] = [
+        ("two corners exchanged", |chart, random| {
+            let n = chart.bars.len();
+            exchanged(chart, random.below(n), random.below(n))
+        }),
+        ("bars cut back", |chart, _| cut_back(chart)),
+        ("bars cut back, stretched", |chart, random| {
+            stretched(&cut_back(chart), 2, random)
+        }),
+        ("a bar lengthened", |chart, random| {
+            lengthened(&stretched(chart, 2, random), random)
+        }),
+        ("an upright moved", |chart, random| {
+            moved(&stretched(chart, 1, random), random)
+        }),
+        ("a number changed", nudged),
+    ];
+    for (name, change) in any {
+        tests.test(&format!("read_chart: {name}"), || {
+            let mut random = Random::new(302);
+            let charts = many_charts(&mut random);
+            for _ in 0..4 {
+                let mut otherwise = charts.iter().map(|chart| change(chart, &mut random));
+                otherwise.try_for_each(|chart| same(&chart.bytes(), 5000))?;
+            }
+            Ok(())
+        });
+    }
+}
+
+fn changed_charts(tests: &mut Tests) {
+    tests.test("read_chart: small charts changed at random", || {
+        let mut random = Random::new(321);
+        for _ in 0..100_000 {
+            let chart = any_chart(10, &mut random);
+            same(&changed(&chart, &mut random).bytes(), 64)?;
+        }
+        Ok(())
+    });
+    tests.test("read_chart: large charts changed at random", || {
+        let mut random = Random::new(322);
+        for _ in 0..1500 {
+            let chart = any_chart(1024, &mut random);
+            same(&changed(&chart, &mut random).bytes(), 5000)?;
+        }
+        Ok(())
+    });
+    tests.test("read_chart: bars strewn at random", || {
+        let mut random = Random::new(323);
+        for _ in 0..100_000 {
+            let chart = strewn(random.between(3, 8), &mut random);
+            same(&chart.bytes(), 64)?;
+        }
+        Ok(())
+    });
+}
+
+fn damaged_charts(tests: &mut Tests) {
+    for (name, damage) in DAMAGES {
+        tests.test(&format!("read_chart: damaged, {name}"), || {
+            let mut random = Random::new(331);
+            for round in 0..5000 {
+                let most = if round % 50 == 0 { 1024 } else { 16 };
+                let mut bytes = any_chart(most, &mut random).bytes();
+                damage(&mut bytes, &mut random);
+                same(&bytes, bytes.len())?;
+            }
+            Ok(())
+        });
+    }
+    tests.test("read_chart: every bit of small charts flipped", || {
+        for part in (3..=6).flat_map(all_parts) {
+            let bytes = chart_of(&part).bytes();
+            for bit in 0..8 * bytes.len() {
+                let mut damaged = bytes.clone();
+                damaged[bit / 8] ^= 1 << (bit % 8);
+                same(&damaged, 64)?;
+            }
+        }
+        Ok(())
+    });
+    tests.test("read_chart: every truncation", || {
+        let mut random = Random::new(332);
+        for n in [3, 4, 5, 9, 40, 200] {
+            let bytes = chart_of(&any_part(n, &mut random)).bytes();
+            (0..=bytes.len()).try_for_each(|length| same(&bytes[..length], 900))?;
+        }
+        Ok(())
+    });
+    tests.test("read_chart: short, random and long bytes", || {
+        let mut random = Random::new(333);
+        (0..=255).try_for_each(|byte| same(&[byte], 50))?;
+        for length in [0, 1, 6, 24, 43, 100_000] {
+            for byte in [0, 1, 3, 255] {
+                same(&vec![byte; length], 50)?;
+            }
+        }
+        for _ in 0..20_000 {
+            let length = random.below(80);
+            let mut bytes = random.bytes(length);
+            bytes.iter_mut().for_each(|byte| *byte %= 4);
+            same(&bytes, 100)?;
+        }
+        Ok(())
+    });
+}
+
+fn output_lengths(tests: &mut Tests) {
+    tests.test("read_chart: every length of output, small charts", || {
+        for part in (3..=7).flat_map(all_parts) {
+            let bytes = chart_of(&part).bytes();
+            let length = 4 * usize::from(part.n) - 9;
+            (0..=length + 2).try_for_each(|lent| same(&bytes, lent))?;
+        }
+        Ok(())
+    });
+    tests.test("read_chart: the edges of the output's length", || {
+        let mut random = Random::new(341);
+        for n in (8..=1024).step_by(127).chain([1023, 1024]) {
+            let bytes = chart_of(&any_part(n, &mut random)).bytes();
+            let length = 4 * usize::from(n) - 9;
+            for lent in [0, 1, 2, 3, length / 2]
+                .into_iter()
+                .chain(length - 4..=length + 2)
+            {
+                same(&bytes, lent)?;
+            }
+        }
+        Ok(())
+    });
+}

@@ -1,0 +1,20 @@
+//! A model of the operations on bend charts, written from document 01 sentence
+//! by sentence. It shares nothing with the library that it is compared with.
+//!
+//! Each module's header names the heading of document 01 that it follows.
+
+pub mod answer;
+pub mod changes;
+pub mod chart;
+pub mod draw;
+pub mod edit;
+pub mod line;
+pub mod neighbours;
+pub mod part;
+pub mod plan;
+pub mod random;
+pub mod reader;
+pub mod search;
+pub mod shapes;
+pub mod sheet;
+pub mod truth;

@@ -1,0 +1,101 @@
+//! The static library's exports, each behind the feature of its operation.
+
+#[link(name = "bend_c", kind = "static")]
+extern "C" {
+    #[cfg(feature = "normalize")]
+    fn bend_normalize(sheet: *const u8, sheet_len: usize, out: *mut u8, out_len: usize) -> u64;
+    #[cfg(feature = "edits")]
+    fn bend_add_ear(
+        sheet: *const u8,
+        sheet_len: usize,
+        side: usize,
+        out: *mut u8,
+        out_len: usize,
+    ) -> u64;
+    #[cfg(feature = "edits")]
+    fn bend_remove_ear(
+        sheet: *const u8,
+        sheet_len: usize,
+        corner: usize,
+        out: *mut u8,
+        out_len: usize,
+    ) -> u64;
+    #[cfg(feature = "edits")]
+    fn bend_flip(
+        sheet: *const u8,
+        sheet_len: usize,
+        a: usize,
+        b: usize,
+        out: *mut u8,
+        out_len: usize,
+    ) -> u64;
+    #[cfg(feature = "plan")]
+    fn bend_plan(sheet: *const u8, sheet_len: usize) -> u64;
+    #[cfg(feature = "draw")]
+    fn bend_draw(sheet: *const u8, sheet_len: usize, out: *mut u8, out_len: usize) -> u64;
+    #[cfg(feature = "read_chart")]
+    fn bend_read_chart(chart: *const u8, chart_len: usize, out: *mut u8, out_len: usize) -> u64;
+}
+
+// Each call below lends a whole slice with its own length, and the two slices
+// of a call never overlap: one is shared, the other is not.
+
+#[cfg(feature = "normalize")]
+pub fn normalize(sheet: &[u8], out: &mut [u8]) -> u64 {
+    unsafe { bend_normalize(sheet.as_ptr(), sheet.len(), out.as_mut_ptr(), out.len()) }
+}
+
+#[cfg(feature = "edits")]
+pub fn add_ear(sheet: &[u8], side: usize, out: &mut [u8]) -> u64 {
+    unsafe {
+        bend_add_ear(
+            sheet.as_ptr(),
+            sheet.len(),
+            side,
+            out.as_mut_ptr(),
+            out.len(),
+        )
+    }
+}
+
+#[cfg(feature = "edits")]
+pub fn remove_ear(sheet: &[u8], corner: usize, out: &mut [u8]) -> u64 {
+    unsafe {
+        bend_remove_ear(
+            sheet.as_ptr(),
+            sheet.len(),
+            corner,
+            out.as_mut_ptr(),
+            out.len(),
+        )
+    }
+}
+
+#[cfg(feature = "edits")]
+pub fn flip(sheet: &[u8], a: usize, b: usize, out: &mut [u8]) -> u64 {
+    unsafe {
+        bend_flip(
+            sheet.as_ptr(),
+            sheet.len(),
+            a,
+            b,
+            out.as_mut_ptr(),
+            out.len(),
+        )
+    }
+}
+
+#[cfg(feature = "plan")]
+pub fn plan(sheet: &[u8]) -> u64 {
+    unsafe { bend_plan(sheet.as_ptr(), sheet.len()) }
+}
+
+#[cfg(feature = "draw")]
+pub fn draw(sheet: &[u8], out: &mut [u8]) -> u64 {
+    unsafe { bend_draw(sheet.as_ptr(), sheet.len(), out.as_mut_ptr(), out.len()) }
+}
+
+#[cfg(feature = "read_chart")]
+pub fn read_chart(chart: &[u8], out: &mut [u8]) -> u64 {
+    unsafe { bend_read_chart(chart.as_ptr(), chart.len(), out.as_mut_ptr(), out.len()) }
+}

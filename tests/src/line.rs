@@ -1,0 +1,45 @@
+//! The program's log line. Follows "Operations and their refusals" and the first
+//! of the "Known parts" of document 01.
+
+use crate::plan::Pieces;
+use crate::sheet;
+
+/// The line that the program prints for a sheet, without its end of line.
+pub fn line(sheet: &[u8]) -> String {
+    let part = match sheet::read(sheet) {
+        Ok(part) => part,
+        Err(refusal) => return format!("refused {}", refusal.number()),
+    };
+    let number = part
+        .number
+        .map_or("-".to_string(), |number| number.to_string());
+    let counts = Pieces::of(&part).counts();
+    format!(
+        "part {number} corners {} levels {} umbrellas {} stems {} rows {} columns {}",
+        part.n,
+        counts.levels,
+        counts.umbrellas,
+        counts.stems,
+        2 * counts.levels + 1,
+        part.n - 2 + counts.umbrellas + counts.stems
+    )
+}
+
+#[cfg(test)]
+mod tests {
+    use super::*;
+
+    #[test]
+    fn known_parts() {
+        assert_eq!(
+            line(&[1, 0, 3]),
+            "part - corners 3 levels 1 umbrellas 1 stems 0 rows 3 columns 2"
+        );
+        assert_eq!(
+            line(&[5, 0, 3, 255, 255, 255, 255]),
+            "part 4294967295 corners 3 levels 1 umbrellas 1 stems 0 rows 3 columns 2"
+        );
+        assert_eq!(line(&[1, 0, 2]), "refused 3");
+        assert_eq!(line(&[]), "refused 1");
+    }
+}

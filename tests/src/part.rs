@@ -1,0 +1,138 @@
+//! A part: an outline of corners cut into triangles by diagonals.
+//! Follows "The part" of document 01.
+
+/// A corner, numbered from 0 round the outline.
+pub type Corner = u16;
+
+/// Two corners. In a `Part` the lower one comes first.
+pub type Pair = (Corner, Corner);
+
+/// The fewest and the most corners of a part.
+pub const FEWEST: Corner = 3;
+pub const MOST: Corner = 1024;
+
+/// n corners, n-3 diagonals, and the part number if there is one.
+#[derive(Clone, Debug, PartialEq, Eq)]
+pub struct Part {
+    pub n: Corner,
+    /// Each with its lower corner first; ascending.
+    pub diagonals: Vec<Pair>,
+    pub number: Option<u32>,
+}
+
+/// The pair with its lower corner first.
+pub fn lower_first((a, b): Pair) -> Pair {
+    (a.min(b), a.max(b))
+}
+
+/// Whether the pair, lower corner first, is a side of a part with `n` corners.
+pub fn is_side(n: Corner, (a, b): Pair) -> bool {
+    b < n && (a + 1 == b || (a == 0 && b == n - 1))
+}
+
+/// Whether the pair, either corner first, joins two corners of a part with
+/// `n` corners that are different and no neighbours.
+pub fn is_diagonal(n: Corner, pair: Pair) -> bool {
+    let (a, b) = lower_first(pair);
+    a < b && b < n && !is_side(n, (a, b))
+}
+
+/// Whether two diagonals, each lower corner first, cross.
+pub fn cross((a, b): Pair, (c, d): Pair) -> bool {
+    (a < c && c < b && b < d) || (c < a && a < d && d < b)
+}
+
+/// Whether any two of the diagonals cross, word by word.
+pub fn any_cross(diagonals: &[Pair]) -> bool {
+    diagonals
+        .iter()
+        .any(|&one| diagonals.iter().any(|&other| cross(one, other)))
+}
+
+/// The same for different diagonals in ascending order, in linear time.
+///
+/// The diagonals are met by ascending lower corner, the wider first; `open`
+/// holds the ends of those that span the corner at hand, the nearest last.
+pub fn any_cross_ascending(diagonals: &[Pair]) -> bool {
+    let mut open: Vec<Corner> = Vec::with_capacity(diagonals.len());
+    for from_one_corner in diagonals.chunk_by(|one, next| one.0 == next.0) {
+        for &(a, b) in from_one_corner.iter().rev() {
+            while open.last().is_some_and(|&end| end <= a) {
+                open.pop();
+            }
+            if open.last().is_some_and(|&end| end < b) {
+                return true;
+            }
+            open.push(b);
+        }
+    }
+    false
+}
+
+impl Part {
+    /// A part from pairs in any order, either corner first.
+    pub fn new(n: Corner, pairs: &[Pair], number: Option<u32>) -> Part {
+        let mut diagonals: Vec<Pair> = pairs.iter().copied().map(lower_first).collect();
+        sort(&mut diagonals);
+        Part {
+            n,
+            diagonals,
+            number,
+        }
+    }
+
+    /// Whether this is a part at all: 3 to 1,024 corners and n-3 different
+    /// diagonals, none crossing.
+    pub fn is_valid(&self) -> bool {
+        (FEWEST..=MOST).contains(&self.n)
+            && self.diagonals.len() == usize::from(self.n - 3)
+            && self.diagonals.iter().all(|&pair| is_diagonal(self.n, pair))
+            && self.diagonals.windows(2).all(|two| two[0] < two[1])
+            && !any_cross(&self.diagonals)
+    }
+
+    /// Whether the diagonal, lower corner first, is one of the part's.
+    pub fn has(&self, diagonal: Pair) -> bool {
+        self.diagonals.binary_search(&diagonal).is_ok()
+    }
+
+    /// Whether a side or a diagonal joins the two corners.
+    pub fn joined(&self, a: Corner, b: Corner) -> bool {
+        let pair = lower_first((a, b));
+        is_side(self.n, pair) || self.has(pair)
+    }
+}
+
+/// Sorts the pairs ascending.
+pub fn sort(pairs: &mut [Pair]) {
+    pairs.sort_unstable_by_key(|&(a, b)| u32::from(a) << 16 | u32::from(b));
+}
+
+#[cfg(test)]
+mod tests {
+    use super::*;
+
+    #[test]
+    fn crossing_is_found_in_linear_time_as_by_definition() {
+        let n = 7;
+        let all: Vec<Pair> = (0..n)
+            .flat_map(|a| (a..n).map(move |b| (a, b)))
+            .filter(|&pair| is_diagonal(n, pair))
+            .collect();
+        for chosen in 0..1u32 << all.len() {
+            let some: Vec<Pair> = (0..all.len())
+                .filter(|i| chosen >> i & 1 == 1)
+                .map(|i| all[i])
+                .collect();
+            assert_eq!(any_cross(&some), any_cross_ascending(&some), "{some:?}");
+        }
+    }
+
+    #[test]
+    fn sides_and_diagonals() {
+        assert!(is_side(5, (0, 4)) && is_side(5, (3, 4)) && !is_side(5, (0, 3)));
+        assert!(is_diagonal(5, (3, 0)) && !is_diagonal(5, (4, 0)) && !is_diagonal(5, (2, 2)));
+        assert!(!is_diagonal(5, (1, 5)) && !is_diagonal(5, (u16::MAX, 1)));
+        assert!(cross((0, 2), (1, 3)) && cross((1, 3), (0, 2)) && !cross((0, 2), (2, 4)));
+    }
+}

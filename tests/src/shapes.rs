@@ -1,0 +1,150 @@
+//! Parts to test with: all small ones, and random large ones of several shapes.
+//! Follows "The part" of document 01.
+
+use crate::part::{Corner, Pair, Part};
+use crate::random::Random;
+
+/// How the triangles of a random part lie.
+#[derive(Clone, Copy, Debug, PartialEq, Eq)]
+pub enum Shape {
+    /// All diagonals at one corner.
+    Fan,
+    /// One strip, its diagonals going to and fro.
+    Zigzag,
+    /// Every piece halved.
+    Balanced,
+    /// Every piece split at a corner drawn evenly.
+    Split,
+    /// One strip, each triangle on a side at random.
+    Chain,
+    /// A strip with triangles and small pieces left standing beside it.
+    Caterpillar,
+    /// Two corners cut off every piece before it is halved: many levels.
+    Deep,
+    /// A few runs of fans, strips and halved pieces within each other.
+    Mixed,
+}
+
+pub const SHAPES: [Shape; 8] = [
+    Shape::Fan,
+    Shape::Zigzag,
+    Shape::Balanced,
+    Shape::Split,
+    Shape::Chain,
+    Shape::Caterpillar,
+    Shape::Deep,
+    Shape::Mixed,
+];
+
+/// A part of the shape with `n` corners, half of them turned round the outline.
+pub fn part(shape: Shape, n: Corner, random: &mut Random) -> Part {
+    let mut pairs = Vec::new();
+    let mut pieces = vec![(0, n - 1, shape, 0)];
+    while let Some((u, v, shape, step)) = pieces.pop() {
+        if u + 1 == v {
+            continue;
+        }
+        if (u, v) != (0, n - 1) {
+            pairs.push((u, v));
+        }
+        let shape = match shape {
+            Shape::Mixed if random.below(8) == 0 => *random.pick(&SHAPES),
+            other => other,
+        };
+        let c = apex(shape, u, v, step, random);
+        pieces.push((u, c, shape, step + 1));
+        pieces.push((c, v, shape, step + 1));
+    }
+    let turn = if random.coin() {
+        0
+    } else {
+        random.below(usize::from(n)) as Corner
+    };
+    rotated(&Part::new(n, &pairs, None), turn)
+}
+
+/// The third corner of the triangle at the root edge of the piece (u,v).
+fn apex(shape: Shape, u: Corner, v: Corner, step: usize, random: &mut Random) -> Corner {
+    let span = usize::from(v - u);
+    let ends = |low: bool| if low { u + 1 } else { v - 1 };
+    match shape {
+        Shape::Fan => v - 1,
+        Shape::Zigzag => ends(step.is_multiple_of(2)),
+        Shape::Balanced => u + (v - u) / 2,
+        Shape::Split | Shape::Mixed => u + random.between(1, span - 1) as Corner,
+        Shape::Chain => ends(random.coin()),
+        Shape::Caterpillar => {
+            let away = random.between(1, (span - 1).min(4)) as Corner;
+            if random.coin() {
+                u + away
+            } else {
+                v - away
+            }
+        }
+        Shape::Deep if step % 3 == 2 || span < 4 => u + (v - u) / 2,
+        Shape::Deep => ends(step.is_multiple_of(3)),
+    }
+}
+
+/// The part with every corner's number raised by `turn`, round the outline.
+pub fn rotated(part: &Part, turn: Corner) -> Part {
+    let n = part.n;
+    let pairs: Vec<Pair> = part
+        .diagonals
+        .iter()
+        .map(|&(a, b)| ((a + turn) % n, (b + turn) % n))
+        .collect();
+    Part::new(n, &pairs, part.number)
+}
+
+/// Every part with `n` corners, without part number.
+pub fn all_parts(n: Corner) -> Vec<Part> {
+    inside(0, n - 1)
+        .iter()
+        .map(|pairs| Part::new(n, pairs, None))
+        .collect()
+}
+
+/// Every way to cut the piece (u,v) into triangles, as the diagonals inside it.
+fn inside(u: Corner, v: Corner) -> Vec<Vec<Pair>> {
+    if u + 1 == v {
+        return vec![Vec::new()];
+    }
+    let mut ways = Vec::new();
+    for c in u + 1..v {
+        let edges = [(u, c), (c, v)].into_iter().filter(|(a, b)| a + 1 < *b);
+        let diagonals: Vec<Pair> = edges.collect();
+        for left in inside(u, c) {
+            for right in inside(c, v) {
+                ways.push([&diagonals[..], &left, &right].concat());
+            }
+        }
+    }
+    ways
+}
+
+#[cfg(test)]
+mod tests {
+    use super::*;
+
+    #[test]
+    fn all_small_parts_are_there_once() {
+        for (n, count) in (3..).zip([1, 2, 5, 14, 42, 132, 429]) {
+            let mut parts = all_parts(n);
+            assert!(parts.iter().all(Part::is_valid));
+            parts.sort_by(|one, other| one.diagonals.cmp(&other.diagonals));
+            parts.dedup();
+            assert_eq!(parts.len(), count);
+        }
+    }
+
+    #[test]
+    fn random_parts_are_valid() {
+        let mut random = Random::new(1);
+        for shape in SHAPES {
+            for n in (3..40).chain([200, 1023, 1024]) {
+                assert!(part(shape, n, &mut random).is_valid(), "{shape:?} {n}");
+            }
+        }
+    }
+}
