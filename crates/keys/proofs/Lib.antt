@@ -5,3 +5,5 @@ pub mod Tables
 pub mod Apexes
 pub mod Crosses
 pub mod InOrder
+pub mod Carry
+pub mod Removal

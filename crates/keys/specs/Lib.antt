@@ -1,3 +1,4 @@
 pub mod Keys
 pub mod Sort
 pub mod Tops
+pub mod Change

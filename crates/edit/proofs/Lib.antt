@@ -1,0 +1,12 @@
+pub mod Rule
+pub mod Reading
+pub mod Renumber
+pub mod Enter
+pub mod Add
+pub mod Remove
+pub mod Quad
+pub mod Flip
+pub mod Keeps
+pub mod List
+pub mod Known
+pub mod Theorems

@@ -1,0 +1,3 @@
+pub mod Rules
+pub mod Model
+pub mod Calls

@@ -1,0 +1,126 @@
+-- A key taken out, one step of a pass over the list at a time; keys and edges without one are the same.
+use mathlib.Core.Path.{_≡_, refl, ap, sym, _∙_}
+use mathlib.Core.List.{List, [], _∷_, _++_, append-nil}
+use Prim.Native.Nat.{ℕ, zero, suc, _+_, _/_, _%_, _<_, _≤_}
+use native.Mathlib.Decide.{ℕ-discrete}
+use native.Mathlib.Numerals.{add-one}
+use native.Mathlib.Omega.{arith}
+use lib.ListN.{length, take, drop, set, getD, length-set}
+use lib.Seq.{take-suc, take-suc-set, drop-set-lt, drop-drop, drop-cons, length-take-le}
+use Rattle.polygon.specs.Lists.{Mem, head, tail, put, keep, not?}
+use Rattle.polygon.specs.Polygon.{Edge}
+use Rattle.polygon.specs.Order.{same?, remove}
+use Rattle.keys.specs.Keys.{edgeOf, edgesOf}
+use Rattle.keys.specs.Change.{removeKey}
+
+put-append : {A P : Type 0} (d : Dec P) (x : A) (xs ys : List A) → put d x xs ++ ys ≡ put d x (xs ++ ys)
+unfolding put
+put-append (yes p) x xs ys = refl
+put-append (no p) x xs ys = refl
+
+keep-snoc : {A : Type 0} {P : A → Type 0} (d : (x : A) → Dec (P x)) (xs : List A) (y : A) → keep d (xs ++ (y ∷ [])) ≡ keep d xs ++ put (d y) y []
+unfolding keep
+keep-snoc d [] y = refl
+keep-snoc d (x ∷ xs) y = ap (put (d x) x) (keep-snoc d xs y) ∙ sym (put-append (d x) x (keep d xs) (put (d y) y []))
+
+module _ (k : ℕ) (xs : List ℕ) (y : ℕ) where
+  remove-same : y ≡ k → removeKey k (xs ++ (y ∷ [])) ≡ removeKey k xs
+  unfolding removeKey not? put
+  remove-same e = keep-snoc _ xs y ∙ go (ℕ-discrete y k)
+    where
+      go : (d : Dec (y ≡ k)) → removeKey k xs ++ put (not? d) y [] ≡ removeKey k xs
+      go (yes p) = append-nil (removeKey k xs)
+      go (no p) = absurd (p e)
+
+  remove-other : ¬ (y ≡ k) → removeKey k (xs ++ (y ∷ [])) ≡ removeKey k xs ++ (y ∷ [])
+  unfolding removeKey not? put
+  remove-other f = keep-snoc _ xs y ∙ go (ℕ-discrete y k)
+    where
+      go : (d : Dec (y ≡ k)) → removeKey k xs ++ put (not? d) y [] ≡ removeKey k xs ++ (y ∷ [])
+      go (yes p) = absurd (f p)
+      go (no p) = refl
+
+-- what the loop keeps: the first `left` keys are those before j without k, and from j on nothing has changed
+pub record Removing (k m : ℕ) (first keys : List ℕ) (left j : ℕ) : Type 0 where
+  pub upto : j ≤ m
+  pub low : left ≤ j
+  pub kept : length keys ≡ length first
+  pub done : take left keys ≡ removeKey k (take j first)
+  pub rest : drop j keys ≡ drop j first
+
+pub removing-begin : (k m : ℕ) (keys : List ℕ) → Removing k m keys keys 0 0
+unfolding removeKey keep
+removing-begin k m keys = record { upto = omega arith; low = omega arith; kept = refl; done = refl; rest = refl }
+
+module _ (k m : ℕ) (first keys : List ℕ) (left j : ℕ) (R : Removing k m first keys left j) (fits : m ≤ length first) (more : j < m) where
+  same-key : getD keys j 0 ≡ getD first j 0
+  same-key = ap first-of (sym (drop-cons keys j 0 (omega (arith, R .kept))) ∙ (R .rest ∙ drop-cons first j 0 (omega arith)))
+    where
+      first-of : List ℕ → ℕ
+      first-of [] = 0
+      first-of (x ∷ xs) = x
+
+  next-rest : drop (suc j) keys ≡ drop (suc j) first
+  next-rest =
+      let e : j + 1 ≡ suc j = add-one j in
+      rw (← e, ← drop-drop 1 j keys, ← drop-drop 1 j first, R .rest)
+
+  pub removing-same : getD keys j 0 ≡ k → Removing k m first keys left (j + 1)
+  removing-same h = record {
+    upto = omega arith;
+    low = omega (arith, R .low);
+    kept = R .kept;
+    done = R .done ∙ rw (add-one j, take-suc first j 0 (omega arith)) (sym (remove-same k (take j first) (getD first j 0) (sym same-key ∙ h)));
+    rest = rw (add-one j) next-rest;
+  }
+
+  pub removing-other : ¬ (getD keys j 0 ≡ k) → Removing k m first (set keys left (getD keys j 0)) (left + 1) (j + 1)
+  removing-other f = record {
+    upto = omega arith;
+    low = omega (arith, R .low);
+    kept = simp length-set (R .kept);
+    done =
+        rw (add-one j, add-one left, take-suc-set keys left (getD keys j 0) (omega (arith, R .low, R .kept)), R .done, take-suc first j 0 (omega arith), same-key)
+        (sym (remove-other k (take j first) (getD first j 0) (λ e. f (same-key ∙ e))));
+    rest = rw (add-one j, drop-set-lt (suc j) keys left (getD keys j 0) (omega (arith, R .low))) next-rest;
+  }
+
+pub removing-end : (k m : ℕ) (first keys : List ℕ) (left j : ℕ) → Removing k m first keys left j → m ≤ length first → m ≤ j → (take left keys ≡ removeKey k (take m first)) × (left ≡ length (removeKey k (take m first)))
+removing-end k m first keys left j R fits h =
+    let e : j ≡ m = omega (arith, R .upto) in
+    let d : take left keys ≡ removeKey k (take m first) = rw e at (R .done) in
+    (d, sym (length-take-le left keys (omega (arith, R .low, R .kept))) ∙ ap length d)
+
+-- edges are the same only if their keys are
+key-of-edge : (x y : ℕ) → edgeOf x ≡ edgeOf y → x ≡ y
+key-of-edge x y e = omega (arith, ap (λ (p : Edge). p .0) e, ap (λ (p : Edge). p .1) e)
+
+pub remove-edges : (k : ℕ) (ks : List ℕ) → edgesOf (removeKey k ks) ≡ remove (edgeOf k) (edgesOf ks)
+unfolding removeKey remove keep put not?
+remove-edges k [] = refl
+remove-edges k (x ∷ xs) = go (ℕ-discrete x k) (same? (edgeOf x) (edgeOf k)) (remove-edges k xs)
+  where
+    go : (d : Dec (x ≡ k)) (e : Dec (edgeOf x ≡ edgeOf k)) → edgesOf (removeKey k xs) ≡ remove (edgeOf k) (edgesOf xs) → edgesOf (put (not? d) x (removeKey k xs)) ≡ put (not? e) (edgeOf x) (remove (edgeOf k) (edgesOf xs))
+    go (yes p) (yes q) h = h
+    go (yes p) (no q) h = absurd (q (ap edgeOf p))
+    go (no p) (yes q) h = absurd (p (key-of-edge x k q))
+    go (no p) (no q) h = ap (λ (l : List Edge). edgeOf x ∷ l) h
+
+-- a key is among the keys exactly if its edge is among the edges
+pub mem-edges : (k : ℕ) (ks : List ℕ) → Mem k ks → Mem (edgeOf k) (edgesOf ks)
+mem-edges k (x ∷ ks) (head e) = head (ap edgeOf e)
+mem-edges k (x ∷ ks) (tail m) = tail (mem-edges k ks m)
+
+pub edges-mem : (k : ℕ) (ks : List ℕ) → Mem (edgeOf k) (edgesOf ks) → Mem k ks
+edges-mem k (x ∷ ks) (head e) = head (key-of-edge k x e)
+edges-mem k (x ∷ ks) (tail m) = tail (edges-mem k ks m)
+
+-- membership by the place
+pub at-mem : (k : ℕ) (ks : List ℕ) (j : ℕ) → j < length ks → getD ks j 0 ≡ k → Mem k ks
+at-mem k [] j h e = absurd (omega arith)
+at-mem k (x ∷ ks) zero h e = head (sym e)
+at-mem k (x ∷ ks) (suc j) h e = tail (at-mem k ks j (omega arith) e)
+
+pub mem-at : (k : ℕ) (ks : List ℕ) → Mem k ks → (j : ℕ) × (j < length ks) × (getD ks j 0 ≡ k)
+mem-at k (x ∷ ks) (head e) = (0, omega arith, sym e)
+mem-at k (x ∷ ks) (tail m) = let (j, h, e) = mem-at k ks m in (suc j, omega arith, e)

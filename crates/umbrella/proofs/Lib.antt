@@ -1,0 +1,14 @@
+-- `Theorems` restates what this crate proves, for the crates that link it; the others hold the proofs.
+pub mod Lattice
+pub mod Inequalities
+pub mod Recurrence
+pub mod Low
+pub mod Least
+pub mod First
+pub mod Unique
+pub mod Occurs
+pub mod Triangles
+pub mod Wide
+pub mod Bounds
+pub mod Known
+pub mod Theorems

@@ -1,0 +1,66 @@
+-- What this crate proves of plans, each theorem with its statement in plain words. The proofs are in the files beside this one.
+use mathlib.Core.Path.{_≡_}
+use Prim.Native.Nat.{ℕ, suc, _+_, _^_, _≤_, _<_}
+use native.Mathlib.Nat.{le-trans}
+use native.Mathlib.Omega.{arith}
+use Rattle.polygon.specs.Polygon.{Polygon, Valid}
+use Rattle.polygon.specs.Tree.{Tree, span, treeOf}
+use Rattle.polygon.proofs.TreeTheorem.{tree-of}
+use Rattle.umbrella.specs.Plan.{Plan, levels, umbrellas, stems}
+use Rattle.umbrella.specs.Numbers.{ud}
+use Rattle.umbrella.specs.Drawn.{code, Earlier, Each}
+use Rattle.umbrella.specs.Best.{best, planOf}
+use Rattle.umbrella.specs.Triangles.{Taken}
+use Rattle.umbrella.proofs.Low.{low}
+use Rattle.umbrella.proofs.Least.{best-le, best-levels, best-least}
+use Rattle.umbrella.proofs.First.{best-first}
+use Rattle.umbrella.proofs.Unique.{each-best, unique}
+use Rattle.umbrella.proofs.Triangles.{taken-once}
+use Rattle.umbrella.proofs.Bounds.{bounds}
+use Rattle.umbrella.proofs.Recurrence.{Recurrence, recurrence}
+use Rattle.umbrella.proofs.Wide.{span-bound, nine}
+
+-- Every plan of a piece has at least ud levels, the number that document 004, chapter 6, computes.
+pub every-plan-has : {t : Tree} (p : Plan t) → ud t ≤ levels p
+every-plan-has p = low p
+
+-- The plan that is computed has exactly that many: no plan of the piece has fewer levels.
+pub computed-has : (t : Tree) → levels (best t) ≡ ud t
+computed-has t = best-levels t
+
+pub none-has-fewer : {t : Tree} (p : Plan t) → levels (best t) ≤ levels p
+none-has-fewer p = best-least p
+
+-- Among the plans of a piece with as few levels, its umbrella comes first: no stem, then the lower first gate, then the word letter by letter.
+pub comes-first : {t : Tree} (p : Plan t) → levels p ≤ levels (best t) → Earlier (code (best t)) (code p)
+comes-first {t} p h = best-first t p (le-trans h (best-le t))
+
+-- So it is in every piece, and no other plan is so in every piece: it is the plan drawn, and there is exactly one.
+pub is-drawn : (t : Tree) → Each (best t)
+is-drawn t = each-best t
+
+pub only-drawn : {t : Tree} (p : Plan t) → Each p → p ≡ best t
+only-drawn p e = unique p e
+
+-- Every plan takes every triangle of its piece exactly once, on any corners u to v.
+pub takes-each-once : {t : Tree} (p : Plan t) (u v : ℕ) → u + span t ≡ v → Taken p u v
+takes-each-once p u v h = taken-once p u v h
+
+-- A plan has at least as many umbrellas as levels and as stems, and fewer umbrellas than its piece has sides besides the root edge.
+pub umbrellas-bound : {t : Tree} (p : Plan t) → (levels p ≤ umbrellas p) × (stems p ≤ umbrellas p) × (umbrellas p < span t)
+umbrellas-bound p = let b = bounds p in (b .levels-few, b .stems-few, b .umbrellas-few)
+
+-- The six numbers satisfy the equations of document 004, Lemmas 6.2, 6.4, 6.6 and 6.7.
+pub six-numbers : Recurrence
+six-numbers = recurrence
+
+-- A piece that needs D levels has at least 2 ^ (D + 1) - 1 corners.
+pub corners-of-levels : (t : Tree) → 2 ^ suc (ud t) ≤ suc (span t) + 1
+corners-of-levels t = omega (arith, span-bound t)
+
+-- The plan drawn of a valid polygon has at most 9 levels.
+pub at-most-nine : (p : Polygon) → Valid p → levels (planOf p) ≤ 9
+at-most-nine p h =
+    let t = treeOf (p .n) (p .ds) in
+    let T = tree-of (p .n) (p .ds) (h .triangulated) in
+    le-trans (best-le t) (nine t (omega (arith, T .size, h .most)))

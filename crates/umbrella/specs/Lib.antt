@@ -1,0 +1,6 @@
+pub mod Plan
+pub mod Numbers
+pub mod Drawn
+pub mod Best
+pub mod Occurs
+pub mod Triangles
