@@ -53,6 +53,32 @@ extern "C" {
 uint64_t bend_normalize(const uint8_t *sheet, size_t sheet_len,
                         uint8_t *out, size_t out_len);
 
+/*
+ * Add a corner on a side: the new corner side + 1 makes a triangle with the
+ * side, which becomes a diagonal; higher corners move up by one. Writes the new
+ * part's sheet in normal order and gives its length.
+ * Refusals: 1 to 7 as for bend_normalize; 9; 10; 8.
+ */
+uint64_t bend_add_ear(const uint8_t *sheet, size_t sheet_len, size_t side,
+                      uint8_t *out, size_t out_len);
+
+/*
+ * Take off a corner at which no diagonal ends; higher corners move down by one.
+ * Writes the new part's sheet in normal order and gives its length.
+ * Refusals: 1 to 7 as for bend_normalize; 9; 11; 12; 8.
+ */
+uint64_t bend_remove_ear(const uint8_t *sheet, size_t sheet_len, size_t corner,
+                         uint8_t *out, size_t out_len);
+
+/*
+ * Turn the diagonal between a and b, named in either order, to the other
+ * diagonal of its two triangles. Writes the new part's sheet in normal order
+ * and gives its length.
+ * Refusals: 1 to 7 as for bend_normalize; 9; 13; 8.
+ */
+uint64_t bend_flip(const uint8_t *sheet, size_t sheet_len, size_t a, size_t b,
+                   uint8_t *out, size_t out_len);
+
 /* The number in an answer: 0, or the refusal. */
 static inline unsigned bend_number(uint64_t answer)
 {

@@ -5,6 +5,8 @@ ghost use mathlib.Core.List.{List};
 ghost use Prim.Native.Nat.{ℕ};
 ghost use Rattle.codec.specs.Answer.{written, answered, packed, Packable};
 ghost use Rattle.sheet.specs.Sheet.{ordered};
+ghost use Rattle.edit.specs.Rules.{addEar, removeEar, flip};
+ghost use Rattle.edit.specs.Calls.{edited};
 use codec::Written;
 
 // The answer in one number.
@@ -25,4 +27,31 @@ pub extern "C" fn bend_normalize(sheet: &[u8], out: &mut [u8]) -> u64
     ensures { λ r. ⌜ now (out .exit) ≡ written (ordered (now (sheet .entry))) (now (out .entry)) .bytes ⌝ }
 {
     pack(sheet::normalize(sheet, out))
+}
+
+// Add a corner on a side.
+#[no_mangle]
+pub extern "C" fn bend_add_ear(sheet: &[u8], side: usize, out: &mut [u8]) -> u64
+    ensures { λ r. ⌜ r ≡ packed (written (edited (addEar side) (now (sheet .entry))) (now (out .entry))) ⌝ }
+    ensures { λ r. ⌜ now (out .exit) ≡ written (edited (addEar side) (now (sheet .entry))) (now (out .entry)) .bytes ⌝ }
+{
+    pack(edit::add_ear(sheet, side, out))
+}
+
+// Take off a corner.
+#[no_mangle]
+pub extern "C" fn bend_remove_ear(sheet: &[u8], corner: usize, out: &mut [u8]) -> u64
+    ensures { λ r. ⌜ r ≡ packed (written (edited (removeEar corner) (now (sheet .entry))) (now (out .entry))) ⌝ }
+    ensures { λ r. ⌜ now (out .exit) ≡ written (edited (removeEar corner) (now (sheet .entry))) (now (out .entry)) .bytes ⌝ }
+{
+    pack(edit::remove_ear(sheet, corner, out))
+}
+
+// Turn a diagonal, named in either order.
+#[no_mangle]
+pub extern "C" fn bend_flip(sheet: &[u8], a: usize, b: usize, out: &mut [u8]) -> u64
+    ensures { λ r. ⌜ r ≡ packed (written (edited (flip a b) (now (sheet .entry))) (now (out .entry))) ⌝ }
+    ensures { λ r. ⌜ now (out .exit) ≡ written (edited (flip a b) (now (sheet .entry))) (now (out .entry)) .bytes ⌝ }
+{
+    pack(edit::flip(sheet, a, b, out))
 }

@@ -6,7 +6,7 @@ use Rattle.edit.specs.Rules.{Edit, addEar, removeEar, flip, rule}
 use Rattle.edit.proofs.Rule.{Takes, given, rule-taken}
 use Rattle.edit.proofs.Add.{add-valid}
 use Rattle.edit.proofs.Remove.{remove-valid}
-use Rattle.edit.proofs.Flip.{flip-valid}
+use Rattle.edit.proofs.Flipped.{flip-valid}
 
 given-valid : (e : Edit) (p : Polygon) → Valid p → Takes e p → Valid (given e p)
 given-valid (addEar i) p A t = add-valid p i A t

@@ -5,8 +5,15 @@ pub mod Enter
 pub mod Add
 pub mod Remove
 pub mod Quad
-pub mod Flip
+pub mod Flipped
 pub mod Keeps
 pub mod List
 pub mod Known
 pub mod Theorems
+pub mod Shifting
+pub mod Marking
+pub mod InHand
+pub mod Adding
+pub mod Removing
+pub mod Turning
+pub mod Size

@@ -13,7 +13,7 @@ use Rattle.edit.proofs.Rule as settled
 use Rattle.edit.proofs.Keeps as keeps
 use Rattle.edit.proofs.Reading as reading
 use Rattle.edit.proofs.Remove as ears
-use Rattle.edit.proofs.Flip as flips
+use Rattle.edit.proofs.Flipped as flips
 use Rattle.edit.proofs.List as list
 
 -- An edit that is taken gives a valid part, with the part number that it had.

@@ -1,3 +1,5 @@
 pub mod Rules
 pub mod Model
 pub mod Calls
+pub mod Tables
+pub mod Part

@@ -62,7 +62,7 @@ unfoldable pub joined? : (n : ℕ) (ds : List Edge) (x y : ℕ) → Dec (Joined 
 joined? n ds x y = either? (linked? n ds x y) (linked? n ds y x)
 
 -- Turn (a,b): "The two corners that a side or diagonal joins to both a and b", ascending; they "enter as a pair".
--- (`two-common` in proofs/Flip.antt: a diagonal of a valid polygon has two, no more and no fewer.)
+-- (`two-common` in proofs/Flipped.antt: a diagonal of a valid polygon has two, no more and no fewer.)
 unfoldable pub common : ℕ → List Edge → Edge → List ℕ
 common n ds e = keep (λ x. Dec·and (joined? n ds x (e .0)) (joined? n ds x (e .1))) (below n)
 

@@ -1,2 +1,50 @@
 // The edits of a part: add a corner, take one off, turn a diagonal, and lists of them.
 // specs/ has the rules, the plain part and the operations; proofs/Theorems.antt is the place to start reading.
+// shift.rt renumbers corners, near.rt finds the corners next to a corner, held.rt edits a part that was read.
+ghost use mathlib.Core.Path.{_≡_};
+ghost use Rattle.codec.specs.Answer.{answered, written};
+ghost use Rattle.edit.specs.Rules.{addEar, removeEar, flip};
+ghost use Rattle.edit.specs.Calls.{edited};
+use crate::held::add_to;
+use crate::held::flip_in;
+use crate::held::remove_from;
+use codec::Written;
+use sheet::Read;
+use sheet::reader::read_sheet;
+
+pub mod held;
+pub mod near;
+pub mod shift;
+
+// Add a corner on a side.
+pub fn add_ear(sheet: &[u8], side: usize, out: &mut [u8]) -> Written
+    ensures { λ r. ⌜ answered r (now (out .exit)) ≡ written (edited (addEar side) (now (sheet .entry))) (now (out .entry)) ⌝ }
+{
+    let mut keys = [0u32; 1021];
+    match read_sheet(sheet, &mut keys) {
+        Read::Refused(k) => Written::Refused(k),
+        Read::Held(h) => add_to(h, &mut keys, side, out),
+    }
+}
+
+// Take off a corner.
+pub fn remove_ear(sheet: &[u8], corner: usize, out: &mut [u8]) -> Written
+    ensures { λ r. ⌜ answered r (now (out .exit)) ≡ written (edited (removeEar corner) (now (sheet .entry))) (now (out .entry)) ⌝ }
+{
+    let mut keys = [0u32; 1021];
+    match read_sheet(sheet, &mut keys) {
+        Read::Refused(k) => Written::Refused(k),
+        Read::Held(h) => remove_from(h, &mut keys, corner, out),
+    }
+}
+
+// Turn the diagonal (a,b), named in either order.
+pub fn flip(sheet: &[u8], a: usize, b: usize, out: &mut [u8]) -> Written
+    ensures { λ r. ⌜ answered r (now (out .exit)) ≡ written (edited (flip a b) (now (sheet .entry))) (now (out .entry)) ⌝ }
+{
+    let mut keys = [0u32; 1021];
+    match read_sheet(sheet, &mut keys) {
+        Read::Refused(k) => Written::Refused(k),
+        Read::Held(h) => flip_in(h, &mut keys, a, b, out),
+    }
+}

@@ -1,6 +1,7 @@
 -- min, max and ≤ on numbers, for terms with more of them than omega takes apart at once.
 -- Assumes nothing.
 use Prim.Native.Nat.{ℕ, _≤_, min, max}
+use native.Mathlib.Nat.{le-trans}
 use native.Mathlib.Decide.{decLe}
 use native.Mathlib.Omega.{arith}
 
@@ -34,14 +35,16 @@ max-fst x y d h = omega arith
 pub max-snd : (x y d : ℕ) → max x y ≤ d → y ≤ d
 max-snd x y d h = omega arith
 
--- the smaller of two is within d, and not the first of them: so the second is
-pub other-side : (x y z w d : ℕ) → min (max x y) (max z w) ≤ d → ((x ≤ d) × (y ≤ d) → ⊥) → (z ≤ d) × (w ≤ d)
-other-side x y z w d h f = go (decLe (max x y) d)
+-- The smaller of two maxima is within d. If the first is not, all within the second is; if the second is not, by its first part, all within the first is.
+other : (x y z w d : ℕ) → min (max x y) (max z w) ≤ d → ((x ≤ d) × (y ≤ d) → ⊥) → (z ≤ d) × (w ≤ d)
+other x y z w d h f = go (decLe (max x y) d)
   where
     go : Dec (max x y ≤ d) → (z ≤ d) × (w ≤ d)
     go (yes k) = absurd (f (omega arith))
     go (no k) = omega arith
 
--- and not the second, by its first part: so the first is
-pub this-side : (x y z w d : ℕ) → min (max z w) (max x y) ≤ d → (x ≤ d → ⊥) → (z ≤ d) × (w ≤ d)
-this-side x y z w d m f = other-side x y z w d (omega arith) (λ p. f (p .0))
+pub by-second : (x y z w d : ℕ) {m n : ℕ} → min (max x y) (max z w) ≤ d → ((x ≤ d) × (y ≤ d) → ⊥) → m ≤ z → (w ≤ d → n ≤ d) → max m n ≤ d
+by-second x y z w d h f p q = let (i, j) = other x y z w d h f in max-lub (le-trans p i) (q j)
+
+pub by-first : (x y z w d : ℕ) {m n : ℕ} → min (max x y) (max z w) ≤ d → (z ≤ d → ⊥) → (x ≤ d → m ≤ d) → n ≤ y → max m n ≤ d
+by-first x y z w d h f p q = let (i, j) = other z w x y d (omega arith) (λ k. f (k .0)) in max-lub (p i) (le-trans q j)

@@ -9,7 +9,7 @@ use Rattle.polygon.specs.Tree.{Tree, leaf, node}
 use Rattle.umbrella.specs.Plan.{Plan, LeftRim, RightRim, fold, levels}
 use Rattle.umbrella.specs.Numbers.{ud, handle, fanA, fanB, partA, partB}
 use Rattle.umbrella.specs.Best.{Over, Node, two, GateLeft, GateRight, Through, umbrella, leftAt, rightAt, stemAt, under, best, bestLeft, bestRight, gateLeft, gateRight, bestStem}
-use Rattle.umbrella.proofs.Lattice.{max-lub, max-mono, other-side, this-side}
+use Rattle.umbrella.proofs.Lattice.{max-lub, max-mono, by-first, by-second}
 use Rattle.umbrella.proofs.Low.{low, leftLevels, rightLevels, leftGateLevels, rightGateLevels, stemLevels}
 
 -- the choices of a gate and of a stem keep within d, where that can be
@@ -26,48 +26,32 @@ umbrella-le : (d : ℕ) (l r : Tree) (h : Dec (fanA l ≤ d)) (k : Dec (fanB r �
     → under l r ≤ d → leftLevels A ≤ fanA l → rightLevels B ≤ fanB r → LeftWithin d l G → RightWithin d r H → levels (umbrella d l r h k A B G H) ≤ suc d
 unfolding umbrella fold
 umbrella-le d l r (yes h) (yes k) A B G H u a b g e = suc-le-suc (max-lub (le-trans a h) (le-trans b k))
-umbrella-le d l r (no h) (yes k) A B G H u a b g e = suc-le-suc (max-lub (g h (this-side (fanA l) (partB r) (partA l) (fanB r) d u h .0)) (le-trans b k))
-umbrella-le d l r h (no k) A B G H u a b g e =
-    let s = other-side (partA l) (fanB r) (fanA l) (partB r) d u (λ p. k (p .1)) in
-    suc-le-suc (max-lub (le-trans a (s .0)) (e k (s .1)))
+umbrella-le d l r (no h) (yes k) A B G H u a b g e = suc-le-suc (by-first (partA l) (fanB r) (fanA l) (partB r) d u h (g h) b)
+umbrella-le d l r h (no k) A B G H u a b g e = suc-le-suc (by-second (partA l) (fanB r) (fanA l) (partB r) d u (λ p. k (p .1)) a (e k))
 
 leftAt-le : (d : ℕ) (a b : Tree) (f : Over (fanA (node a b)) d) (h : Dec (ud b ≤ d)) (A : LeftRim a) (p : Plan b) (G : GateLeft d a) (S : Through b)
     → partA (node a b) ≤ d → leftLevels A ≤ fanA a → levels p ≤ ud b → LeftWithin d a G → StemWithin d b S → leftGateLevels (leftAt d a b f h A p G S) ≤ d
 unfolding leftAt fold fanA
-leftAt-le d a b f (yes h) A p G S u x y g e = max-lub (g _ (this-side (fanA a) (handle b) (partA a) (ud b) d u (λ k. f (max-lub k h)) .0)) (le-trans y h)
-leftAt-le d a b f (no h) A p G S u x y g e =
-    let s = other-side (partA a) (ud b) (fanA a) (handle b) d u (λ p. h (p .1)) in
-    max-lub (le-trans x (s .0)) (e _ (s .1))
+leftAt-le d a b f (yes h) A p G S u x y g e = by-first (partA a) (ud b) (fanA a) (handle b) d u (λ k. f (max-lub k h)) (g _) y
+leftAt-le d a b f (no h) A p G S u x y g e = by-second (partA a) (ud b) (fanA a) (handle b) d u (λ p. h (p .1)) x (e _)
 
 rightAt-le : (d : ℕ) (a b : Tree) (f : Over (fanB (node a b)) d) (h : Dec (ud a ≤ d)) (p : Plan a) (B : RightRim b) (G : GateRight d b) (S : Through a)
     → partB (node a b) ≤ d → levels p ≤ ud a → rightLevels B ≤ fanB b → RightWithin d b G → StemWithin d a S → rightGateLevels (rightAt d a b f h p B G S) ≤ d
 unfolding rightAt fold fanB
-rightAt-le d a b f (yes h) p B G S u x y g e =
-    let s = other-side (handle a) (fanB b) (ud a) (partB b) d u (λ q. f (max-lub h (q .1))) in
-    max-lub (le-trans x h) (g _ (s .1))
-rightAt-le d a b f (no h) p B G S u x y g e =
-    let s = this-side (ud a) (partB b) (handle a) (fanB b) d u h in
-    max-lub (e _ (s .0)) (le-trans y (s .1))
+rightAt-le d a b f (yes h) p B G S u x y g e = by-second (handle a) (fanB b) (ud a) (partB b) d u (λ q. f (max-lub h (q .1))) x (g _)
+rightAt-le d a b f (no h) p B G S u x y g e = by-first (handle a) (fanB b) (ud a) (partB b) d u h (e _) y
 
 stemAt-le : (d : ℕ) (a b : Tree) (h : Dec (ud a ≤ d)) (k : Dec (ud b ≤ d)) (j : Dec (handle a ≤ d)) (p : Plan a) (q : Plan b) (S : Through a) (R : Through b)
     → min (max (handle a) (ud b)) (max (ud a) (handle b)) ≤ d → levels p ≤ ud a → levels q ≤ ud b → StemWithin d a S → StemWithin d b R → stemLevels (stemAt d a b h k j p q S R) ≤ d
 unfolding stemAt fold
 stemAt-le d leaf leaf h k j p q S R u x y s r = zero-le
 stemAt-le d leaf (node z w) h (yes k) j p q S R u x y s r = le-trans y k
-stemAt-le d leaf (node z w) h (no k) j p q S R u x y s r =
-    let o = other-side (handle leaf) (ud (node z w)) (ud leaf) (handle (node z w)) d u (λ q. k (q .1)) in
-    max-lub (le-trans x (o .0)) (r two (o .1))
+stemAt-le d leaf (node z w) h (no k) j p q S R u x y s r = by-second (handle leaf) (ud (node z w)) (ud leaf) (handle (node z w)) d u (λ q. k (q .1)) x (r two)
 stemAt-le d (node z w) leaf (yes h) k j p q S R u x y s r = le-trans x h
-stemAt-le d (node z w) leaf (no h) k j p q S R u x y s r =
-    let o = this-side (ud (node z w)) (handle leaf) (handle (node z w)) (ud leaf) d u h in
-    max-lub (s two (o .0)) (le-trans y (o .1))
+stemAt-le d (node z w) leaf (no h) k j p q S R u x y s r = by-first (handle (node z w)) (ud leaf) (ud (node z w)) (handle leaf) d u h (s two) y
 stemAt-le d (node z w) (node z′ w′) h (yes k) (yes j) p q S R u x y s r = max-lub (s two j) (le-trans y k)
-stemAt-le d (node z w) (node z′ w′) h (yes k) (no j) p q S R u x y s r =
-    let o = other-side (handle (node z w)) (ud (node z′ w′)) (ud (node z w)) (handle (node z′ w′)) d u (λ q. j (q .0)) in
-    max-lub (le-trans x (o .0)) (r two (o .1))
-stemAt-le d (node z w) (node z′ w′) h (no k) j p q S R u x y s r =
-    let o = other-side (handle (node z w)) (ud (node z′ w′)) (ud (node z w)) (handle (node z′ w′)) d u (λ q. k (q .1)) in
-    max-lub (le-trans x (o .0)) (r two (o .1))
+stemAt-le d (node z w) (node z′ w′) h (yes k) (no j) p q S R u x y s r = by-second (handle (node z w)) (ud (node z′ w′)) (ud (node z w)) (handle (node z′ w′)) d u (λ q. j (q .0)) x (r two)
+stemAt-le d (node z w) (node z′ w′) h (no k) j p q S R u x y s r = by-second (handle (node z w)) (ud (node z′ w′)) (ud (node z w)) (handle (node z′ w′)) d u (λ q. k (q .1)) x (r two)
 
 mutual
   unfolding ud best fold

@@ -1,4 +1,6 @@
 -- `Theorems` restates what this crate proves, for the crates that link it; the others hold the proofs.
+pub mod Theorems
+pub mod Known
 pub mod Lattice
 pub mod Inequalities
 pub mod Recurrence
@@ -6,9 +8,7 @@ pub mod Low
 pub mod Least
 pub mod First
 pub mod Unique
-pub mod Occurs
-pub mod Triangles
 pub mod Wide
 pub mod Bounds
-pub mod Known
-pub mod Theorems
+pub mod Occurs
+pub mod Triangles

@@ -1,0 +1,30 @@
+-- What the operation answers, in one number.
+use mathlib.Core.Path.{ap, _∙_}
+use borrow.Author.Needs.{needs}
+use native.Mathlib.Omega.{arith}
+use Rattle.codec.specs.Answer.{packed}
+use Rattle.codec.proofs.Answers.{packable, bytes-left}
+use Rattle.keys.proofs.Crosses.{all-at}
+use Rattle.edit.specs.Rules.{addEar}
+use Rattle.edit.proofs.Size.{edited-size}
+use Rattle.bend_c.proofs.bend_add_ear.Statement.{statement}
+use Rattle.bend_c.proofs.bend_add_ear.Tie as tie
+use Rattle.bend_c.proofs.bend_add_ear.Reads as reads
+use Rattle.bend_c.proofs.bend_add_ear.Lts as lts
+use Rattle.bend_c.proofs.pack.Reads as pack-reads
+use Rattle.edit.proofs.add_ear.Reads as add-ear-reads
+
+add-ear-requires : tie.Need-add-ear-requires
+add-ear-requires c κs = search needs
+
+pack-requires : tie.Need-pack-requires
+pack-requires c κs = packable (c .before .before .add-ear .result) (c .before .before .add-ear .last .1 .1 .0) (rw (c .before .before .add-ear .ensures) (omega (arith, edited-size (addEar (c .before .before .before .before .before .before .args .side)) (c .before .before .before .before .before .before .args .sheet .now) (c .before .before .before .before .before .before .args .out .now) (all-at 0 (c .before .before .before .before .before .before .args .sheet .now) (λ i h. omega (arith, c .before .before .before .before .before .shared-slice-known .given i))))))
+
+same-length : tie.Need-same-length
+same-length c = search needs
+
+returns : tie.Need-returns
+returns c = (c .pack .ensures (c .before .before .before .add-ear .last .1 .1 .0) ∙ ap packed (c .before .before .before .add-ear .ensures), bytes-left (c .before .before .before .add-ear .result) (c .before .before .before .add-ear .last .1 .1 .0) (c .before .before .before .add-ear .ensures))
+
+pub bend-add-ear-spec : {M : Type 1} → statement M
+bend-add-ear-spec = tie.close (tie.spec add-ear-requires pack-requires same-length returns)

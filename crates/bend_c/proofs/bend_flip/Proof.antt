@@ -1,0 +1,30 @@
+-- What the operation answers, in one number.
+use mathlib.Core.Path.{ap, _∙_}
+use borrow.Author.Needs.{needs}
+use native.Mathlib.Omega.{arith}
+use Rattle.codec.specs.Answer.{packed}
+use Rattle.codec.proofs.Answers.{packable, bytes-left}
+use Rattle.keys.proofs.Crosses.{all-at}
+use Rattle.edit.specs.Rules.{flip}
+use Rattle.edit.proofs.Size.{edited-size}
+use Rattle.bend_c.proofs.bend_flip.Statement.{statement}
+use Rattle.bend_c.proofs.bend_flip.Tie as tie
+use Rattle.bend_c.proofs.bend_flip.Reads as reads
+use Rattle.bend_c.proofs.bend_flip.Lts as lts
+use Rattle.bend_c.proofs.pack.Reads as pack-reads
+use Rattle.edit.proofs.flip.Reads as flip-reads
+
+flip-requires : tie.Need-flip-requires
+flip-requires c κs = search needs
+
+pack-requires : tie.Need-pack-requires
+pack-requires c κs = packable (c .before .before .flip .result) (c .before .before .flip .last .1 .1 .1 .0) (rw (c .before .before .flip .ensures) (omega (arith, edited-size (flip (c .before .before .before .before .before .before .args .a) (c .before .before .before .before .before .before .args .b)) (c .before .before .before .before .before .before .args .sheet .now) (c .before .before .before .before .before .before .args .out .now) (all-at 0 (c .before .before .before .before .before .before .args .sheet .now) (λ i h. omega (arith, c .before .before .before .before .before .shared-slice-known .given i))))))
+
+same-length : tie.Need-same-length
+same-length c = search needs
+
+returns : tie.Need-returns
+returns c = (c .pack .ensures (c .before .before .before .flip .last .1 .1 .1 .0) ∙ ap packed (c .before .before .before .flip .ensures), bytes-left (c .before .before .before .flip .result) (c .before .before .before .flip .last .1 .1 .1 .0) (c .before .before .before .flip .ensures))
+
+pub bend-flip-spec : {M : Type 1} → statement M
+bend-flip-spec = tie.close (tie.spec flip-requires pack-requires same-length returns)

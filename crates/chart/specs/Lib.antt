@@ -1,0 +1,5 @@
+pub mod Places
+pub mod Edges
+pub mod Chart
+pub mod Bytes
+pub mod Pieces

@@ -1,0 +1,64 @@
+-- A table of keys renumbered place after place.
+use mathlib.Core.Path.{_≡_, refl, ap, sym, _∙_}
+use mathlib.Core.List.{List, [], _∷_, _++_, map, map-append}
+use Prim.Native.Nat.{ℕ, suc, _+_, _-_, _/_, _%_, _<_, _≤_}
+use native.Mathlib.Decide.{decLt}
+use native.Mathlib.Numerals.{add-one}
+use native.Mathlib.Omega.{arith}
+use lib.ListN.{length, take, drop, set, getD, length-set}
+use lib.Seq.{take-suc, take-suc-set, drop-set-lt, drop-drop, drop-cons}
+use Rattle.polygon.specs.Polygon.{Edge, _—_}
+use Rattle.polygon.proofs.Lists.{choose-yes, choose-no}
+use Rattle.keys.specs.Keys.{keyOf, edgeOf, edgesOf}
+use Rattle.keys.proofs.InOrder.{edge-of-key}
+use Rattle.edit.specs.Rules.{up, down, both}
+
+-- which way a corner goes
+pub up-above : (i x : ℕ) → i < x → x + 1 ≡ up i x
+unfolding up
+up-above i x h = add-one x ∙ sym (choose-yes (decLt i x) x h)
+
+pub up-below : (i x : ℕ) → x ≤ i → x ≡ up i x
+unfolding up
+up-below i x h = sym (choose-no (decLt i x) (suc x) (λ k. omega arith))
+
+pub down-above : (k x : ℕ) → k < x → x - 1 ≡ down k x
+unfolding down
+down-above k x h = sym (choose-yes (decLt k x) x h)
+
+pub down-below : (k x : ℕ) → x ≤ k → x ≡ down k x
+unfolding down
+down-below k x h = sym (choose-no (decLt k x) (x - 1) (λ j. omega arith))
+
+-- what the loop keeps: the edges before j are renumbered by f, and from j on nothing has changed
+pub record Mapping (f : ℕ → ℕ) (m : ℕ) (first keys : List ℕ) (j : ℕ) : Type 0 where
+  pub upto : j ≤ m
+  pub kept : length keys ≡ length first
+  pub done : edgesOf (take j keys) ≡ map (both f) (edgesOf (take j first))
+  pub rest : drop j keys ≡ drop j first
+
+pub mapping-begin : (f : ℕ → ℕ) (m : ℕ) (keys : List ℕ) → Mapping f m keys keys 0
+mapping-begin f m keys = record { upto = omega arith; kept = refl; done = refl; rest = refl }
+
+module _ (f : ℕ → ℕ) (m : ℕ) (first keys : List ℕ) (j : ℕ) (M : Mapping f m first keys j) (fits : m ≤ length first) (more : j < m) where
+  pub same-key : getD keys j 0 ≡ getD first j 0
+  same-key = ap front (sym (drop-cons keys j 0 (omega (arith, M .kept))) ∙ (M .rest ∙ drop-cons first j 0 (omega arith)))
+    where
+      front : List ℕ → ℕ
+      front [] = 0
+      front (x ∷ xs) = x
+
+  pub mapping-next : (a b v : ℕ) → a ≡ f (getD keys j 0 / 1024) → b ≡ f (getD keys j 0 % 1024) → b < 1024 → v ≡ keyOf (a — b) → Mapping f m first (set keys j v) (j + 1)
+  unfolding both
+  mapping-next a b v p q small e =
+      let e' : edgeOf v ≡ both f (edgeOf (getD first j 0)) = ap edgeOf e ∙ (edge-of-key (a — b) small ∙ rw (p, q, same-key)) in
+      record {
+        upto = omega arith;
+        kept = simp length-set (M .kept);
+        done =
+            rw (add-one j, take-suc-set keys j v (omega (arith, M .kept)), take-suc first j 0 (omega arith), map-append edgeOf (take j keys) (v ∷ []), M .done, e', map-append edgeOf (take j first) (getD first j 0 ∷ []), map-append (both f) (edgesOf (take j first)) (edgeOf (getD first j 0) ∷ []));
+        rest = rw (add-one j, drop-set-lt (suc j) keys j v (omega arith)) (let k : j + 1 ≡ suc j = add-one j in rw (← k, ← drop-drop 1 j keys, ← drop-drop 1 j first, M .rest));
+      }
+
+pub mapping-end : (f : ℕ → ℕ) (m : ℕ) (first keys : List ℕ) (j : ℕ) → Mapping f m first keys j → m ≤ j → edgesOf (take m keys) ≡ map (both f) (edgesOf (take m first))
+mapping-end f m first keys j M h = let e : j ≡ m = omega (arith, M .upto) in rw e at (M .done)

@@ -1,0 +1,154 @@
+-- A diagonal turned in the code's table: it is taken out, and the pair of its ends' two common neighbours put in.
+use mathlib.Core.Path.{_≡_, refl, ap, sym, _∙_}
+use mathlib.Core.Logic.{_⊎_, inl, inr, _↔_}
+use mathlib.Core.List.{List, [], _∷_}
+use Prim.Native.Nat.{ℕ, zero, suc, _+_, _-_, _≤_, _<_}
+use native.Mathlib.Decide.{decLt}
+use native.Mathlib.Omega.{arith}
+use lib.ListN.{length, take, getD, replicate}
+use Rattle.polygon.specs.Lists.{Mem, head, tail, all-cons, Sorted, sorted-cons}
+use Rattle.polygon.specs.Polygon.{Edge, _—_, Triangulated}
+use Rattle.polygon.specs.Order.{insert, remove, lower-first}
+use Rattle.polygon.proofs.Lists.{here, there, not-empty, keep-sorted, below-sorted}
+use Rattle.polygon.proofs.Order.{remove-ascending, insert-length}
+use Rattle.keys.specs.Keys.{keyOf, edgeOf, edgesOf}
+use Rattle.keys.specs.Sort.{insertKey}
+use Rattle.keys.specs.Change.{removeKey}
+use Rattle.keys.proofs.InOrder.{edge-of-key}
+use Rattle.keys.proofs.Removal.{mem-edges, edges-mem}
+use Rattle.sheet.specs.declared.Head.{Head}
+use Rattle.sheet.specs.Sheet.{refused}
+use Rattle.sheet.specs.Held.{polygonOf, Fitting}
+use Rattle.sheet.proofs.Asks.{ask-yes, ask-no}
+use Rattle.sheet.proofs.Pairs.{lower-below, lower-above}
+use Rattle.edit.specs.Rules.{flip, rule, common, flipped}
+use Rattle.edit.specs.Tables.{Near, Common}
+use Rattle.edit.specs.Part.{Part}
+use Rattle.edit.proofs.Rule.{Takes, given}
+use Rattle.edit.proofs.Reading.{common-reads}
+use Rattle.edit.proofs.Quad.{Across, across, joined-corners}
+use Rattle.edit.proofs.Flipped.{common-is, flipped-is, flip-triangulated}
+use Rattle.edit.proofs.InHand.{keys-sorted, inserted, edited-fits}
+use Rattle.edit.proofs.Removing.{taken-out}
+
+-- two tables of near corners, and the first and second corner marked in both
+module _ (n a b : ℕ) (ds : List Edge) (p q : List ℕ) (A : Near n ds a p) (B : Near n ds b q) (x y : ℕ) (two : common n ds (a — b) ≡ x ∷ (y ∷ [])) where
+  both-marked : (z : ℕ) → z < n → (getD p z 0 ≡ 1) × (getD q z 0 ≡ 1) → (z ≡ x) ⊎ (z ≡ y)
+  both-marked z h (i, j) = go (rw two at (common-reads n ds (a — b) z .1 (h, A .joined z h i, B .joined z h j)))
+    where
+      go : Mem z (x ∷ (y ∷ [])) → (z ≡ x) ⊎ (z ≡ y)
+      go (head e) = inl e
+      go (tail (head e)) = inr e
+      go (tail (tail m)) = absurd (not-empty m)
+
+  marked : (z : ℕ) → Mem z (x ∷ (y ∷ [])) → (z < n) × (¬ (¬ ((getD p z 0 ≡ 1) × (getD q z 0 ≡ 1))))
+  marked z m =
+      let (h, i, j) = common-reads n ds (a — b) z .0 (rw two m) in
+      (h, λ f. A .apart z h (λ e. B .apart z h (λ g. f (e, g)) j) i)
+
+  common-sorted : Sorted _<_ (common n ds (a — b))
+  unfolding common
+  common-sorted = keep-sorted _ (below-sorted n)
+
+  ordered : x < y
+  ordered = go (rw two at common-sorted)
+    where
+      go : Sorted _<_ (x ∷ (y ∷ [])) → x < y
+      go (sorted-cons (all-cons h k) s) = h
+
+  -- the first corner that is found is x, and the next one y
+  found : (from r z : ℕ) → Mem z (x ∷ (y ∷ [])) → from ≤ z → Common p q from n r → (r ≤ z) × ((r ≡ x) ⊎ (r ≡ y))
+  found from r z m h C = go (decLt z r)
+    where
+      go : Dec (z < r) → (r ≤ z) × ((r ≡ x) ⊎ (r ≡ y))
+      go (yes l) = absurd (marked z m .1 (C .none z h l))
+      go (no l) = let k : r < n = omega (arith, marked z m .0) in (omega arith, both-marked r k (C .here k))
+
+  pub first-found : (r : ℕ) → Common p q 0 n r → (r ≡ x) × (r < n)
+  first-found r C = go (found 0 r x here (omega arith) C)
+    where
+      go : (r ≤ x) × ((r ≡ x) ⊎ (r ≡ y)) → (r ≡ x) × (r < n)
+      go (l, inl e) = (e, omega (arith, marked x here .0))
+      go (l, inr e) = absurd (omega (arith, ordered))
+
+  pub second-found : (r : ℕ) → Common p q (x + 1) n r → (r ≡ y) × (r < n)
+  second-found r C = go (found (x + 1) r y (there here) (omega (arith, ordered)) C)
+    where
+      go : (r ≤ y) × ((r ≡ x) ⊎ (r ≡ y)) → (r ≡ y) × (r < n)
+      go (l, inr e) = (e, omega (arith, marked y (there here) .0))
+      go (l, inl e) = absurd (omega (arith, C .low))
+
+-- lower corner first
+pub in-order : (a b : ℕ) → a ≤ b → lower-first (a, b) ≡ a — b
+in-order a b h = go (decLt a b)
+  where
+    go : Dec (a < b) → lower-first (a, b) ≡ a — b
+    go (yes l) = lower-below a b l
+    go (no l) = let e : a ≡ b = omega arith in lower-above a b (omega arith) ∙ rw e
+
+module _ (h : Head) (ks : List ℕ) (P : Part h ks) (a b : ℕ) where
+  pub turn-outside : ¬ ((a < h .n) × (b < h .n)) → rule (flip a b) (polygonOf h ks) ≡ refused 9
+  unfolding rule
+  turn-outside f = ask-no 9 _ _ f
+
+  module _ (up : a ≤ b) (inside : b < h .n) (k : ℕ) (K : k ≡ keyOf (a — b)) where
+    edge-k : edgeOf k ≡ a — b
+    edge-k = ap edgeOf K ∙ edge-of-key (a — b) (omega (arith, P .fits .most))
+
+    pub turn-lacks : ¬ Mem k (take (h .n - 3) ks) → rule (flip a b) (polygonOf h ks) ≡ refused 13
+    unfolding rule
+    turn-lacks f = ask-yes 9 _ _ (omega arith, inside) ∙ ask-no 13 _ _ (λ m. f (edges-mem k (take (h .n - 3) ks) (rw (edge-k, ← in-order a b up) m)))
+
+    module _ (M : Mem k (take (h .n - 3) ks)) where
+      member : Mem (a — b) (edgesOf (take (h .n - 3) ks))
+      member = rw edge-k at (mem-edges k (take (h .n - 3) ks) M)
+
+      turned : (f : Edge) × Across (h .n) (edgesOf (take (h .n - 3) ks)) (a — b) f
+      turned = across (h .n) (edgesOf (take (h .n - 3) ks)) (P .triangulated) (a — b) member
+
+      pub turn-takes : Takes (flip a b) (polygonOf h ks)
+      turn-takes = ((omega arith, inside), rw (in-order a b up) member)
+
+      module _ (other : ℕ) (O : (x y : ℕ) → common (h .n) (edgesOf (take (h .n - 3) ks)) (a — b) ≡ x ∷ (y ∷ []) → other ≡ keyOf (x — y))
+          (out : List ℕ) (r : ℕ) (T : take r out ≡ removeKey k (take (h .n - 3) ks)) (L : r ≡ length (removeKey k (take (h .n - 3) ks))) where
+        abbrev f : Edge
+        f = turned .0
+
+        triangulated : Triangulated (h .n) (insert f (remove (a — b) (edgesOf (take (h .n - 3) ks))))
+        triangulated = flip-triangulated (h .n) (edgesOf (take (h .n - 3) ks)) (P .triangulated) (a — b) f (turned .1) member
+
+        gone : (edgesOf (take r out) ≡ remove (a — b) (edgesOf (take (h .n - 3) ks))) × (r ≡ length (remove (a — b) (edgesOf (take (h .n - 3) ks))))
+        gone = taken-out (h .n - 3) k (a — b) ks out r K (omega (arith, P .fits .most)) T L
+
+        pub count : (r ≡ h .n - 3 - 1) × (1 ≤ h .n - 3)
+        count = omega (arith, gone .1, triangulated .full, insert-length f (remove (a — b) (edgesOf (take (h .n - 3) ks))))
+
+        out-edges : edgesOf (take (h .n - 3 - 1) out) ≡ remove (a — b) (edgesOf (take (h .n - 3) ks))
+        out-edges = rw (← count .0) (gone .0)
+
+        pub out-sorted : Sorted _<_ (take (h .n - 3 - 1) out)
+        out-sorted = keys-sorted (take (h .n - 3 - 1) out) (rw out-edges (remove-ascending (a — b) (P .triangulated .ascending)))
+
+        module _ (after : List ℕ) (I : take (h .n - 3 - 1 + 1) after ≡ insertKey other (take (h .n - 3 - 1) out)) (long : 1021 ≤ length after) where
+          f-low : f .1 < 1024
+          f-low = omega (arith, joined-corners (h .n) (edgesOf (take (h .n - 3) ks)) (P .triangulated) _ _ (turned .1 .low-high) .1, P .fits .most)
+
+          new : other ≡ keyOf f
+          new = O (f .0) (f .1) (common-is (h .n) (edgesOf (take (h .n - 3) ks)) (P .triangulated) (a — b) f (turned .1))
+
+          edges : edgesOf (take (h .n - 3) after) ≡ insert f (remove (a — b) (edgesOf (take (h .n - 3) ks)))
+          edges =
+              let e : h .n - 3 ≡ h .n - 3 - 1 + 1 = omega (arith, count .1) in
+              ap (λ (j : ℕ). edgesOf (take j after)) e ∙ (ap edgesOf I ∙ (inserted other f (take (h .n - 3 - 1) out) new f-low ∙ ap (insert f) out-edges))
+
+          pub flipped-over : polygonOf h after ≡ given (flip a b) (polygonOf h ks)
+          flipped-over = rw (edges, in-order a b up, flipped-is (h .n) (edgesOf (take (h .n - 3) ks)) (P .triangulated) (a — b) f (turned .1))
+
+          pub flipped-fits : Fitting h after
+          flipped-fits = edited-fits h after (P .fits .least) (P .fits .most) (P .fits .number) long (rw edges (triangulated .diagonals))
+
+-- a blank table has no mark
+pub blank : (n x : ℕ) → _≡_ {A = ℕ} (getD (replicate n 0) x 0) 0
+blank zero x = refl
+blank (suc n) zero = refl
+blank (suc n) (suc x) = blank n x

@@ -1,0 +1,49 @@
+-- Either corner first: the rule is the same.
+use mathlib.Core.Path.{_≡_, ap, _∙_}
+use borrow.Author.Needs.{needs}
+use native.Mathlib.Omega.{arith}
+use Rattle.codec.specs.Answer.{Answer, written}
+use Rattle.sheet.specs.Sheet.{Reading, outcome}
+use Rattle.sheet.specs.Held.{polygonOf}
+use Rattle.edit.specs.Rules.{flip}
+use Rattle.edit.proofs.Reading.{flip-either}
+use Rattle.edit.proofs.InHand.{rule-refused}
+use Rattle.edit.proofs.Turning.{turn-outside}
+use Rattle.edit.proofs.held.flip_in.Statement.{statement}
+use Rattle.edit.proofs.held.flip_in.Tie as tie
+use Rattle.edit.proofs.held.flip_in.Reads as reads
+use Rattle.edit.proofs.held.flip_in.Lts as lts
+use Rattle.edit.proofs.held.turn.Reads as turn-reads
+
+returns : tie.Need-returns
+returns c = rule-refused (flip (c .before .before .before .args .a) (c .before .before .before .args .b)) (polygonOf (c .before .before .before .args .h) (c .before .before .before .args .keys .now)) (c .before .before .before .args .out .now) 9 (turn-outside (c .before .before .before .args .h) (c .before .before .before .args .keys .now) (c .before .before .before .pre) (c .before .before .before .args .a) (c .before .before .before .args .b) (λ t. omega arith))
+
+returns-2 : tie.Need-returns-2
+returns-2 c = rule-refused (flip (c .before .before .before .before .args .a) (c .before .before .before .before .args .b)) (polygonOf (c .before .before .before .before .args .h) (c .before .before .before .before .args .keys .now)) (c .before .before .before .before .args .out .now) 9 (turn-outside (c .before .before .before .before .args .h) (c .before .before .before .before .args .keys .now) (c .before .before .before .before .pre) (c .before .before .before .before .args .a) (c .before .before .before .before .args .b) (λ t. omega arith))
+
+turn-requires : tie.Need-turn-requires
+turn-requires c κs = (c .before .before .before .before .before .before .before .pre, (omega arith, omega arith))
+
+turn-requires-2 : tie.Need-turn-requires-2
+turn-requires-2 c κs = (c .before .before .before .before .before .before .before .pre, (omega arith, omega arith))
+
+same-length : tie.Need-same-length
+same-length c = search needs
+
+same-length-2 : tie.Need-same-length-2
+same-length-2 c = search needs
+
+returns-3 : tie.Need-returns-3
+returns-3 c = search needs
+
+same-length-3 : tie.Need-same-length-3
+same-length-3 c = search needs
+
+same-length-4 : tie.Need-same-length-4
+same-length-4 c = search needs
+
+returns-4 : tie.Need-returns-4
+returns-4 c = c .before .before .before .before .turn2 .ensures ∙ ap (λ (r : Reading). written (outcome r) (c .before .before .before .before .before .before .before .before .before .before .before .before .args .out .now)) (flip-either (c .before .before .before .before .before .before .before .before .before .before .before .before .args .b) (c .before .before .before .before .before .before .before .before .before .before .before .before .args .a) (polygonOf (c .before .before .before .before .before .before .before .before .before .before .before .before .args .h) (c .before .before .before .before .before .before .before .before .before .before .before .before .args .keys .now)))
+
+pub flip-in-spec : {M : Type 1} → statement M
+flip-in-spec = tie.close (tie.spec returns returns-2 turn-requires turn-requires-2 same-length same-length-2 returns-3 same-length-3 same-length-4 returns-4)

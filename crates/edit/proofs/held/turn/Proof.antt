@@ -1,0 +1,77 @@
+-- Refused if the diagonal is not there, or turned and written, by the laws of Turning.antt.
+use mathlib.Core.Path.{_≡_, sym, _∙_}
+use Prim.Native.Nat.{_-_}
+use borrow.Author.Needs.{needs}
+use borrow.Author.Tests.{not-true, not-false}
+use native.Mathlib.Omega.{arith}
+use lib.ListN.{length, take}
+use lib.Seq.{length-take-le}
+use Rattle.sheet.specs.Held.{polygonOf}
+use Rattle.sheet.proofs.Writing.{small-front}
+use Rattle.edit.specs.Rules.{flip}
+use Rattle.edit.proofs.InHand.{rule-refused, rule-written}
+use Rattle.edit.proofs.Turning.{turn-lacks, turn-takes, count, out-sorted, flipped-over, flipped-fits}
+use Rattle.edit.proofs.held.turn.Statement.{statement}
+use Rattle.edit.proofs.held.turn.Tie as tie
+use Rattle.edit.proofs.held.turn.Reads as reads
+use Rattle.edit.proofs.held.turn.Lts as lts
+use Rattle.edit.proofs.held.turned_key.Reads as turned-key-reads
+use Rattle.keys.proofs.change.has.Reads as has-reads
+use Rattle.keys.proofs.change.insert.Reads as insert-reads
+use Rattle.keys.proofs.change.remove.Reads as remove-reads
+use Rattle.keys.proofs.key.Reads as key-reads
+use Rattle.sheet.proofs.writer.write_sheet.Reads as write-sheet-reads
+
+sub-m : tie.Need-sub-m
+sub-m c = omega (arith, c .before .before .pre .0 .fits .least)
+
+key-requires : tie.Need-key-requires
+key-requires c κs = omega (arith, c .before .before .pre .0 .fits .most, c .before .before .pre .1)
+
+slice-reshare-prefix-has : tie.Need-slice-reshare-prefix-has
+slice-reshare-prefix-has c = omega (arith, c .before .before .before .pre .0 .room, c .before .before .before .pre .0 .fits .most)
+
+slice-aggregate-has : tie.Need-slice-aggregate-has
+slice-aggregate-has c = sym (length-take-le _ (c .before .before .before .before .args .keys .now) (omega (arith, c .before .before .before .before .pre .0 .room, c .before .before .before .before .pre .0 .fits .most)))
+
+has-requires : tie.Need-has-requires
+has-requires c κs = search needs
+
+same-length : tie.Need-same-length
+same-length c = search needs
+
+returns : tie.Need-returns
+returns c = rule-refused (flip (c .before .before .before .before .before .before .args .a) (c .before .before .before .before .before .before .args .b)) (polygonOf (c .before .before .before .before .before .before .args .h) (c .before .before .before .before .before .before .args .keys .now)) (c .before .before .before .before .before .before .args .out .now) 13 (turn-lacks (c .before .before .before .before .before .before .args .h) (c .before .before .before .before .before .before .args .keys .now) (c .before .before .before .before .before .before .pre .0) (c .before .before .before .before .before .before .args .a) (c .before .before .before .before .before .before .args .b) (c .before .before .before .before .before .before .pre .1 .0) (c .before .before .before .before .before .before .pre .1 .1) (c .before .before .before .key .result) (c .before .before .before .key .ensures) (c .before .has .ensures .1 (not-true _ (c .if1 .taken))))
+
+slice-reshare-prefix-turned-key : tie.Need-slice-reshare-prefix-turned-key
+slice-reshare-prefix-turned-key c = omega (arith, c .before .before .before .before .before .before .pre .0 .room, c .before .before .before .before .before .before .pre .0 .fits .most)
+
+slice-aggregate-turned-key : tie.Need-slice-aggregate-turned-key
+slice-aggregate-turned-key c = sym (length-take-le _ (c .before .before .before .before .before .before .before .args .keys .now) (omega (arith, c .before .before .before .before .before .before .before .pre .0 .room, c .before .before .before .before .before .before .before .pre .0 .fits .most)))
+
+turned-key-requires : tie.Need-turned-key-requires
+turned-key-requires c κs = (c .before .before .before .before .before .before .before .pre .0 .fits .least, c .before .before .before .before .before .before .before .pre .0 .fits .most, omega (arith, c .before .before .before .before .before .before .before .pre .1), c .before .before .before .before .before .before .before .pre .1 .1, small-front (c .before .before .before .before .before .before .before .args .h .n - 3) (c .before .before .before .before .before .before .before .args .keys .now) (omega (arith, c .before .before .before .before .before .before .before .pre .0 .room, c .before .before .before .before .before .before .before .pre .0 .fits .most)) (c .before .before .before .before .before .before .before .pre .0 .fits .keys))
+
+remove-requires : tie.Need-remove-requires
+remove-requires c κs = omega (arith, c .before .before .before .before .before .before .before .before .before .pre .0 .room, c .before .before .before .before .before .before .before .before .before .pre .0 .fits .most)
+
+sub-insert : tie.Need-sub-insert
+sub-insert c = omega (arith, count (c .before .before .before .before .before .before .before .before .before .before .before .before .before .args .h) (c .before .before .before .before .before .before .before .before .before .before .before .before .before .args .keys .now) (c .before .before .before .before .before .before .before .before .before .before .before .before .before .pre .0) (c .before .before .before .before .before .before .before .before .before .before .before .before .before .args .a) (c .before .before .before .before .before .before .before .before .before .before .before .before .before .args .b) (c .before .before .before .before .before .before .before .before .before .before .before .before .before .pre .1 .0) (c .before .before .before .before .before .before .before .before .before .before .before .before .before .pre .1 .1) (c .before .before .before .before .before .before .before .before .before .before .key .result) (c .before .before .before .before .before .before .before .before .before .before .key .ensures) (c .before .before .before .before .before .before .before .before .has .ensures .0 (not-false _ (c .before .before .before .before .before .before .before .if1 .left))) (c .before .before .before .before .before .turned-key .result) (c .before .before .before .before .before .turned-key .ensures) (c .before .before .before .remove .last .0) (c .before .before .before .remove .result) (c .before .before .before .remove .ensures .0) (c .before .before .before .remove .ensures .1))
+
+insert-requires : tie.Need-insert-requires
+insert-requires c κs = (omega (arith, c .before .before .before .remove .kept .0, c .before .before .before .before .before .before .before .before .before .before .before .before .before .pre .0 .room, c .before .before .before .before .before .before .before .before .before .before .before .before .before .pre .0 .fits .most), out-sorted (c .before .before .before .before .before .before .before .before .before .before .before .before .before .args .h) (c .before .before .before .before .before .before .before .before .before .before .before .before .before .args .keys .now) (c .before .before .before .before .before .before .before .before .before .before .before .before .before .pre .0) (c .before .before .before .before .before .before .before .before .before .before .before .before .before .args .a) (c .before .before .before .before .before .before .before .before .before .before .before .before .before .args .b) (c .before .before .before .before .before .before .before .before .before .before .before .before .before .pre .1 .0) (c .before .before .before .before .before .before .before .before .before .before .before .before .before .pre .1 .1) (c .before .before .before .before .before .before .before .before .before .before .key .result) (c .before .before .before .before .before .before .before .before .before .before .key .ensures) (c .before .before .before .before .before .before .before .before .has .ensures .0 (not-false _ (c .before .before .before .before .before .before .before .if1 .left))) (c .before .before .before .before .before .turned-key .result) (c .before .before .before .before .before .turned-key .ensures) (c .before .before .before .remove .last .0) (c .before .before .before .remove .result) (c .before .before .before .remove .ensures .0) (c .before .before .before .remove .ensures .1))
+
+write-sheet-requires : tie.Need-write-sheet-requires
+write-sheet-requires c κs = (flipped-fits (c .before .before .before .before .before .before .before .before .before .before .before .before .before .before .before .before .before .before .args .h) (c .before .before .before .before .before .before .before .before .before .before .before .before .before .before .before .before .before .before .args .keys .now) (c .before .before .before .before .before .before .before .before .before .before .before .before .before .before .before .before .before .before .pre .0) (c .before .before .before .before .before .before .before .before .before .before .before .before .before .before .before .before .before .before .args .a) (c .before .before .before .before .before .before .before .before .before .before .before .before .before .before .before .before .before .before .args .b) (c .before .before .before .before .before .before .before .before .before .before .before .before .before .before .before .before .before .before .pre .1 .0) (c .before .before .before .before .before .before .before .before .before .before .before .before .before .before .before .before .before .before .pre .1 .1) (c .before .before .before .before .before .before .before .before .before .before .before .before .before .before .before .key .result) (c .before .before .before .before .before .before .before .before .before .before .before .before .before .before .before .key .ensures) (c .before .before .before .before .before .before .before .before .before .before .before .before .before .has .ensures .0 (not-false _ (c .before .before .before .before .before .before .before .before .before .before .before .before .if1 .left))) (c .before .before .before .before .before .before .before .before .before .before .turned-key .result) (c .before .before .before .before .before .before .before .before .before .before .turned-key .ensures) (c .before .before .before .before .before .before .before .before .remove .last .0) (c .before .before .before .before .before .before .before .before .remove .result) (c .before .before .before .before .before .before .before .before .remove .ensures .0) (c .before .before .before .before .before .before .before .before .remove .ensures .1) (c .before .before .before .before .insert .last .0) (c .before .before .before .before .insert .ensures) (omega (arith, c .before .before .before .before .insert .kept .0, c .before .before .before .before .before .before .before .before .remove .kept .0, c .before .before .before .before .before .before .before .before .before .before .before .before .before .before .before .before .before .before .pre .0 .room)), omega (arith, c .before .before .before .before .insert .kept .0, c .before .before .before .before .before .before .before .before .remove .kept .0, c .before .before .before .before .before .before .before .before .before .before .before .before .before .before .before .before .before .before .pre .0 .room))
+
+same-length-2 : tie.Need-same-length-2
+same-length-2 c = search needs
+
+same-length-3 : tie.Need-same-length-3
+same-length-3 c = search needs
+
+returns-2 : tie.Need-returns-2
+returns-2 c = c .before .before .write-sheet .ensures ∙ rule-written (flip (c .before .before .before .before .before .before .before .before .before .before .before .before .before .before .before .before .before .before .before .before .before .args .a) (c .before .before .before .before .before .before .before .before .before .before .before .before .before .before .before .before .before .before .before .before .before .args .b)) (polygonOf (c .before .before .before .before .before .before .before .before .before .before .before .before .before .before .before .before .before .before .before .before .before .args .h) (c .before .before .before .before .before .before .before .before .before .before .before .before .before .before .before .before .before .before .before .before .before .args .keys .now)) _ (c .before .before .before .before .before .before .before .before .before .before .before .before .before .before .before .before .before .before .before .before .before .args .out .now) (turn-takes (c .before .before .before .before .before .before .before .before .before .before .before .before .before .before .before .before .before .before .before .before .before .args .h) (c .before .before .before .before .before .before .before .before .before .before .before .before .before .before .before .before .before .before .before .before .before .args .keys .now) (c .before .before .before .before .before .before .before .before .before .before .before .before .before .before .before .before .before .before .before .before .before .pre .0) (c .before .before .before .before .before .before .before .before .before .before .before .before .before .before .before .before .before .before .before .before .before .args .a) (c .before .before .before .before .before .before .before .before .before .before .before .before .before .before .before .before .before .before .before .before .before .args .b) (c .before .before .before .before .before .before .before .before .before .before .before .before .before .before .before .before .before .before .before .before .before .pre .1 .0) (c .before .before .before .before .before .before .before .before .before .before .before .before .before .before .before .before .before .before .before .before .before .pre .1 .1) (c .before .before .before .before .before .before .before .before .before .before .before .before .before .before .before .before .before .before .key .result) (c .before .before .before .before .before .before .before .before .before .before .before .before .before .before .before .before .before .before .key .ensures) (c .before .before .before .before .before .before .before .before .before .before .before .before .before .before .before .before .has .ensures .0 (not-false _ (c .before .before .before .before .before .before .before .before .before .before .before .before .before .before .before .if1 .left)))) (flipped-over (c .before .before .before .before .before .before .before .before .before .before .before .before .before .before .before .before .before .before .before .before .before .args .h) (c .before .before .before .before .before .before .before .before .before .before .before .before .before .before .before .before .before .before .before .before .before .args .keys .now) (c .before .before .before .before .before .before .before .before .before .before .before .before .before .before .before .before .before .before .before .before .before .pre .0) (c .before .before .before .before .before .before .before .before .before .before .before .before .before .before .before .before .before .before .before .before .before .args .a) (c .before .before .before .before .before .before .before .before .before .before .before .before .before .before .before .before .before .before .before .before .before .args .b) (c .before .before .before .before .before .before .before .before .before .before .before .before .before .before .before .before .before .before .before .before .before .pre .1 .0) (c .before .before .before .before .before .before .before .before .before .before .before .before .before .before .before .before .before .before .before .before .before .pre .1 .1) (c .before .before .before .before .before .before .before .before .before .before .before .before .before .before .before .before .before .before .key .result) (c .before .before .before .before .before .before .before .before .before .before .before .before .before .before .before .before .before .before .key .ensures) (c .before .before .before .before .before .before .before .before .before .before .before .before .before .before .before .before .has .ensures .0 (not-false _ (c .before .before .before .before .before .before .before .before .before .before .before .before .before .before .before .if1 .left))) (c .before .before .before .before .before .before .before .before .before .before .before .before .before .turned-key .result) (c .before .before .before .before .before .before .before .before .before .before .before .before .before .turned-key .ensures) (c .before .before .before .before .before .before .before .before .before .before .before .remove .last .0) (c .before .before .before .before .before .before .before .before .before .before .before .remove .result) (c .before .before .before .before .before .before .before .before .before .before .before .remove .ensures .0) (c .before .before .before .before .before .before .before .before .before .before .before .remove .ensures .1) (c .before .before .before .before .before .before .before .insert .last .0) (c .before .before .before .before .before .before .before .insert .ensures) (omega (arith, c .before .before .before .before .before .before .before .insert .kept .0, c .before .before .before .before .before .before .before .before .before .before .before .remove .kept .0, c .before .before .before .before .before .before .before .before .before .before .before .before .before .before .before .before .before .before .before .before .before .pre .0 .room)))
+
+pub turn-spec : {M : Type 1} → statement M
+turn-spec = tie.close (tie.spec sub-m key-requires slice-reshare-prefix-has slice-aggregate-has has-requires same-length returns slice-reshare-prefix-turned-key slice-aggregate-turned-key turned-key-requires remove-requires sub-insert insert-requires write-sheet-requires same-length-2 same-length-3 returns-2)

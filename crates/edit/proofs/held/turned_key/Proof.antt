@@ -1,0 +1,63 @@
+-- The two corners that are marked in both tables, by the laws of Turning.antt.
+use mathlib.Core.Path.{_≡_, refl, _∙_}
+use Prim.Native.Nat.{_+_}
+use borrow.Author.Needs.{needs}
+use native.Mathlib.Omega.{arith}
+use Rattle.keys.specs.Keys.{edgesOf}
+use Rattle.edit.specs.Tables.{Common}
+use Rattle.edit.proofs.Turning.{first-found, second-found, blank}
+use Rattle.edit.proofs.held.turned_key.Statement.{statement}
+use Rattle.edit.proofs.held.turned_key.Tie as tie
+use Rattle.edit.proofs.held.turned_key.Reads as reads
+use Rattle.edit.proofs.held.turned_key.Lts as lts
+use Rattle.edit.proofs.near.first_common.Reads as first-common-reads
+use Rattle.edit.proofs.near.mark.Reads as mark-reads
+use Rattle.keys.proofs.key.Reads as key-reads
+
+slice-aggregate-mark : tie.Need-slice-aggregate-mark
+slice-aggregate-mark c = search needs
+
+mark-requires : tie.Need-mark-requires
+mark-requires c κs = ((c .before .before .pre .0, c .before .before .pre .1, c .before .before .pre .2, refl, c .before .before .pre .4), blank 1025)
+
+slice-aggregate-mark-2 : tie.Need-slice-aggregate-mark-2
+slice-aggregate-mark-2 c = search needs
+
+mark-requires-2 : tie.Need-mark-requires-2
+mark-requires-2 c κs = ((c .before .before .before .before .before .pre .0, c .before .before .before .before .before .pre .1, c .before .before .before .before .before .pre .3, refl, c .before .before .before .before .before .pre .4), blank 1025)
+
+slice-aggregate-first-common : tie.Need-slice-aggregate-first-common
+slice-aggregate-first-common c = search needs
+
+slice-aggregate-first-common-2 : tie.Need-slice-aggregate-first-common-2
+slice-aggregate-first-common-2 c = search needs
+
+first-common-requires : tie.Need-first-common-requires
+first-common-requires c κs = omega (arith, c .before .before .before .before .before .before .mark .kept .1 .1 .1 .0, c .before .before .before .mark2 .kept .1 .1 .1 .0, c .before .before .before .before .before .before .before .before .before .pre .1)
+
+returns : tie.Need-returns
+returns c = λ x y e. absurd (omega (arith, c .if1 .taken, first-found (c .before .before .before .before .before .before .before .before .before .before .before .args .n) (c .before .before .before .before .before .before .before .before .before .before .before .args .a) (c .before .before .before .before .before .before .before .before .before .before .before .args .b) (edgesOf (c .before .before .before .before .before .before .before .before .before .before .before .args .keys .now)) (c .before .before .before .before .before .before .before .before .mark .last .1 .1 .1 .0) (c .before .before .before .before .before .mark2 .last .1 .1 .1 .0) (c .before .before .before .before .before .before .before .before .mark .ensures) (c .before .before .before .before .before .mark2 .ensures) x y e _ (c .before .first-common .ensures)))
+
+slice-aggregate-first-common-3 : tie.Need-slice-aggregate-first-common-3
+slice-aggregate-first-common-3 c = search needs
+
+slice-aggregate-first-common-4 : tie.Need-slice-aggregate-first-common-4
+slice-aggregate-first-common-4 c = search needs
+
+add-first-common : tie.Need-add-first-common
+add-first-common c = omega (arith, c .before .before .before .before .before .before .before .before .before .before .before .before .before .pre .1, c .before .before .before .first-common .ensures, c .before .before .if1 .left)
+
+first-common-requires-2 : tie.Need-first-common-requires-2
+first-common-requires-2 c κs = omega (arith, c .before .before .before .before .before .before .before .before .before .before .mark .kept .1 .1 .1 .0, c .before .before .before .before .before .before .before .mark2 .kept .1 .1 .1 .0, c .before .before .before .before .before .before .before .before .before .before .before .before .before .pre .1, c .before .before .before .first-common .ensures, c .before .before .if1 .left)
+
+returns-2 : tie.Need-returns-2
+returns-2 c = λ x y e. let F = first-found (c .before .before .before .before .before .before .before .before .before .before .before .before .before .before .before .args .n) (c .before .before .before .before .before .before .before .before .before .before .before .before .before .before .before .args .a) (c .before .before .before .before .before .before .before .before .before .before .before .before .before .before .before .args .b) (edgesOf (c .before .before .before .before .before .before .before .before .before .before .before .before .before .before .before .args .keys .now)) (c .before .before .before .before .before .before .before .before .before .before .before .before .mark .last .1 .1 .1 .0) (c .before .before .before .before .before .before .before .before .before .mark2 .last .1 .1 .1 .0) (c .before .before .before .before .before .before .before .before .before .before .before .before .mark .ensures) (c .before .before .before .before .before .before .before .before .before .mark2 .ensures) x y e _ (c .before .before .before .before .before .first-common .ensures) in let C : Common (c .before .before .before .before .before .before .before .before .before .before .before .before .mark .last .1 .1 .1 .0) (c .before .before .before .before .before .before .before .before .before .mark2 .last .1 .1 .1 .0) (x + 1) (c .before .before .before .before .before .before .before .before .before .before .before .before .before .before .before .args .n) (c .before .first-common2 .result) = rw (F .0) at (c .before .first-common2 .ensures) in absurd (omega (arith, c .if2 .taken, second-found (c .before .before .before .before .before .before .before .before .before .before .before .before .before .before .before .args .n) (c .before .before .before .before .before .before .before .before .before .before .before .before .before .before .before .args .a) (c .before .before .before .before .before .before .before .before .before .before .before .before .before .before .before .args .b) (edgesOf (c .before .before .before .before .before .before .before .before .before .before .before .before .before .before .before .args .keys .now)) (c .before .before .before .before .before .before .before .before .before .before .before .before .mark .last .1 .1 .1 .0) (c .before .before .before .before .before .before .before .before .before .mark2 .last .1 .1 .1 .0) (c .before .before .before .before .before .before .before .before .before .before .before .before .mark .ensures) (c .before .before .before .before .before .before .before .before .before .mark2 .ensures) x y e _ C))
+
+key-requires : tie.Need-key-requires
+key-requires c κs = omega (arith, c .before .before .before .before .before .before .before .before .before .before .before .before .before .before .before .pre .1, c .before .before .before .before .before .first-common .ensures, c .before .first-common2 .ensures, c .before .before .before .before .if1 .left, c .if2 .left)
+
+returns-3 : tie.Need-returns-3
+returns-3 c = λ x y e. let F = first-found (c .before .before .before .before .before .before .before .before .before .before .before .before .before .before .before .before .args .n) (c .before .before .before .before .before .before .before .before .before .before .before .before .before .before .before .before .args .a) (c .before .before .before .before .before .before .before .before .before .before .before .before .before .before .before .before .args .b) (edgesOf (c .before .before .before .before .before .before .before .before .before .before .before .before .before .before .before .before .args .keys .now)) (c .before .before .before .before .before .before .before .before .before .before .before .before .before .mark .last .1 .1 .1 .0) (c .before .before .before .before .before .before .before .before .before .before .mark2 .last .1 .1 .1 .0) (c .before .before .before .before .before .before .before .before .before .before .before .before .before .mark .ensures) (c .before .before .before .before .before .before .before .before .before .before .mark2 .ensures) x y e _ (c .before .before .before .before .before .before .first-common .ensures) in let C : Common (c .before .before .before .before .before .before .before .before .before .before .before .before .before .mark .last .1 .1 .1 .0) (c .before .before .before .before .before .before .before .before .before .before .mark2 .last .1 .1 .1 .0) (x + 1) (c .before .before .before .before .before .before .before .before .before .before .before .before .before .before .before .before .args .n) (c .before .before .first-common2 .result) = rw (F .0) at (c .before .before .first-common2 .ensures) in c .key .ensures ∙ rw (F .0, second-found (c .before .before .before .before .before .before .before .before .before .before .before .before .before .before .before .before .args .n) (c .before .before .before .before .before .before .before .before .before .before .before .before .before .before .before .before .args .a) (c .before .before .before .before .before .before .before .before .before .before .before .before .before .before .before .before .args .b) (edgesOf (c .before .before .before .before .before .before .before .before .before .before .before .before .before .before .before .before .args .keys .now)) (c .before .before .before .before .before .before .before .before .before .before .before .before .before .mark .last .1 .1 .1 .0) (c .before .before .before .before .before .before .before .before .before .before .mark2 .last .1 .1 .1 .0) (c .before .before .before .before .before .before .before .before .before .before .before .before .before .mark .ensures) (c .before .before .before .before .before .before .before .before .before .before .mark2 .ensures) x y e _ C .0)
+
+pub turned-key-spec : {M : Type 1} → statement M
+turned-key-spec = tie.close (tie.spec slice-aggregate-mark mark-requires slice-aggregate-mark-2 mark-requires-2 slice-aggregate-first-common slice-aggregate-first-common-2 first-common-requires returns slice-aggregate-first-common-3 slice-aggregate-first-common-4 add-first-common first-common-requires-2 returns-2 key-requires returns-3)

@@ -1,0 +1,44 @@
+-- The loop's invariant: no corner before x is marked in both tables.
+use mathlib.Core.Path.{_≡_}
+use mathlib.Core.Logic.{⊎-elim}
+use Prim.Native.Nat.{ℕ, _≤_, _<_, _-_}
+use native.Mathlib.Omega.{arith}
+use lib.ListN.{getD}
+use Rattle.edit.proofs.Marking.{between-more}
+use Rattle.edit.proofs.near.first_common.Statement.{statement}
+use Rattle.edit.proofs.near.first_common.Tie as tie
+use Rattle.edit.proofs.near.first_common.Reads as reads
+use Rattle.edit.proofs.near.first_common.Lts as lts
+
+abbrev Inv-loop : tie.InvT-loop
+Inv-loop p q from n x₀ x = (from ≤ x) × (x ≤ n) × ((y : ℕ) → from ≤ y → y < x → ¬ ((getD p y 0 ≡ 1) × (getD q y 0 ≡ 1)))
+
+abbrev μ-loop : tie.MeasureT-loop
+μ-loop p q from n x₀ x = n - x
+
+loop-holds : tie.Need-loop-holds Inv-loop μ-loop
+loop-holds c = (omega arith, omega arith, λ y a b. absurd (omega arith))
+
+shared-slice-read-if1 : tie.Need-shared-slice-read-if1 Inv-loop μ-loop
+shared-slice-read-if1 c = omega arith
+
+shared-slice-read-if2 : tie.Need-shared-slice-read-if2 Inv-loop μ-loop
+shared-slice-read-if2 c = omega arith
+
+returns : tie.Need-returns Inv-loop μ-loop
+returns c = record { low = omega arith; high = omega arith; here = λ h. (c .before .before .if1 .taken, c .if2 .taken); none = c .before .before .before .before .before .loop .inv .2 }
+
+add-x : tie.Need-add-x Inv-loop μ-loop
+add-x c = omega arith
+
+loop-less : tie.Need-loop-less Inv-loop μ-loop
+loop-less c = omega arith
+
+loop-again : tie.Need-loop-again Inv-loop μ-loop
+loop-again c = (omega arith, omega arith, between-more (λ y. (getD (c .before .before .before .before .args .p .now) y 0 ≡ 1) × (getD (c .before .before .before .before .args .q .now) y 0 ≡ 1)) (c .before .before .before .before .args .from) (c .before .before .before .loop .x) (c .before .before .before .loop .inv .2) (⊎-elim (λ w. λ h. w .2 .left (h .1)) (λ w. λ h. w .left (h .0)) (c .if1 .came)))
+
+returns-2 : tie.Need-returns-2 Inv-loop μ-loop
+returns-2 c = record { low = omega arith; high = omega arith; here = λ h. absurd (omega arith); none = c .before .loop .inv .2 }
+
+pub first-common-spec : {M : Type 1} → statement M
+first-common-spec = tie.close (tie.spec Inv-loop μ-loop loop-holds shared-slice-read-if1 shared-slice-read-if2 returns add-x loop-less loop-again returns-2)

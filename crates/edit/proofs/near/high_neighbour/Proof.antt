@@ -1,0 +1,33 @@
+-- By the two tests.
+use mathlib.Core.Path.{ap, sym}
+use native.Mathlib.Omega.{arith}
+use Rattle.polygon.specs.Polygon.{Edge}
+use Rattle.edit.proofs.Marking.{neighbours-first, neighbours-last, neighbours-inside}
+use Rattle.edit.proofs.near.high_neighbour.Statement.{statement}
+use Rattle.edit.proofs.near.high_neighbour.Tie as tie
+use Rattle.edit.proofs.near.high_neighbour.Reads as reads
+use Rattle.edit.proofs.near.high_neighbour.Lts as lts
+
+sub-result : tie.Need-sub-result
+sub-result c = omega arith
+
+returns : tie.Need-returns
+returns c = (ap (λ (e : Edge). e .1) (sym (neighbours-first (c .before .args .n) (c .before .args .k) (c .if1 .taken))), omega arith)
+
+add-if2 : tie.Need-add-if2
+add-if2 c = omega arith
+
+sub-result-2 : tie.Need-sub-result-2
+sub-result-2 c = omega arith
+
+returns-2 : tie.Need-returns-2
+returns-2 c = (ap (λ (e : Edge). e .1) (sym (neighbours-last (c .before .before .args .n) (c .before .before .args .k) (c .before .if1 .left) (c .if2 .taken))), omega arith)
+
+add-result : tie.Need-add-result
+add-result c = omega arith
+
+returns-3 : tie.Need-returns-3
+returns-3 c = (ap (λ (e : Edge). e .1) (sym (neighbours-inside (c .before .before .args .n) (c .before .before .args .k) (c .before .if1 .left) (c .if2 .left))), omega arith)
+
+pub high-neighbour-spec : {M : Type 1} → statement M
+high-neighbour-spec = tie.close (tie.spec sub-result returns add-if2 sub-result-2 returns-2 add-result returns-3)

@@ -1,0 +1,64 @@
+-- The loop's invariant: no edge before j ends at k.
+use mathlib.Core.Path.{_≡_, sym, _∙_}
+use mathlib.Core.Bool.{true≢false, false≢true}
+use Prim.Native.Nat.{ℕ, _≤_, _<_, _-_}
+use borrow.Author.Count.{below-more}
+use native.Mathlib.Omega.{arith}
+use lib.ListN.{length, getD}
+use Rattle.keys.specs.Keys.{edgeOf}
+use Rattle.edit.specs.Rules.{Away}
+use Rattle.edit.proofs.Marking.{away-all, all-away}
+use Rattle.edit.proofs.near.is_ear.Statement.{statement}
+use Rattle.edit.proofs.near.is_ear.Tie as tie
+use Rattle.edit.proofs.near.is_ear.Reads as reads
+use Rattle.edit.proofs.near.is_ear.Lts as lts
+use Rattle.keys.proofs.high.Reads as high-reads
+use Rattle.keys.proofs.low.Reads as low-reads
+
+abbrev Inv-loop : tie.InvT-loop
+Inv-loop keys k j₀ j = (j ≤ length keys) × ((i : ℕ) → i < j → Away k (edgeOf (getD keys i 0)))
+
+abbrev μ-loop : tie.MeasureT-loop
+μ-loop keys k j₀ j = length keys - j
+
+loop-holds : tie.Need-loop-holds Inv-loop μ-loop
+loop-holds c = (omega arith, λ i h. absurd (omega arith))
+
+mul-low : tie.Need-mul-low Inv-loop μ-loop
+mul-low c = omega arith
+
+shared-slice-read-low : tie.Need-shared-slice-read-low Inv-loop μ-loop
+shared-slice-read-low c = omega arith
+
+low-requires : tie.Need-low-requires Inv-loop μ-loop
+low-requires c κs = omega arith
+
+returns : tie.Need-returns Inv-loop μ-loop
+returns c = (λ h. absurd (false≢true h), λ h a. all-away (c .before .before .before .before .before .before .args .k) (c .before .before .before .before .before .before .args .keys .now) a (c .before .before .before .before .loop .j) (c .before .before .before .loop-test .taken) .0 (sym (c .before .low .ensures) ∙ c .if1 .taken))
+
+mul-high : tie.Need-mul-high Inv-loop μ-loop
+mul-high c = omega arith
+
+shared-slice-read-high : tie.Need-shared-slice-read-high Inv-loop μ-loop
+shared-slice-read-high c = omega arith
+
+high-requires : tie.Need-high-requires Inv-loop μ-loop
+high-requires c κs = omega arith
+
+returns-2 : tie.Need-returns-2 Inv-loop μ-loop
+returns-2 c = (λ h. absurd (false≢true h), λ h a. all-away (c .before .before .before .before .before .before .before .before .before .args .k) (c .before .before .before .before .before .before .before .before .before .args .keys .now) a (c .before .before .before .before .before .before .before .loop .j) (c .before .before .before .before .before .before .loop-test .taken) .1 (sym (c .before .high .ensures .0) ∙ c .if2 .taken))
+
+add-j : tie.Need-add-j Inv-loop μ-loop
+add-j c = omega arith
+
+loop-less : tie.Need-loop-less Inv-loop μ-loop
+loop-less c = omega arith
+
+loop-again : tie.Need-loop-again Inv-loop μ-loop
+loop-again c = (omega arith, below-more _ _ (c .before .before .before .before .before .before .before .loop .inv .1) ((λ e. c .before .before .before .if1 .left (c .before .before .before .before .low .ensures ∙ e)), (λ e. c .if2 .left (c .before .high .ensures .0 ∙ e))))
+
+returns-3 : tie.Need-returns-3 Inv-loop μ-loop
+returns-3 c = (λ h. away-all (c .before .before .before .args .k) (c .before .before .before .args .keys .now) (λ i l. c .before .loop .inv .1 i (omega arith)), λ h. absurd (true≢false h))
+
+pub is-ear-spec : {M : Type 1} → statement M
+is-ear-spec = tie.close (tie.spec Inv-loop μ-loop loop-holds mul-low shared-slice-read-low low-requires returns mul-high shared-slice-read-high high-requires returns-2 add-j loop-less loop-again returns-3)

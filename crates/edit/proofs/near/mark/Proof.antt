@@ -1,0 +1,67 @@
+-- The loop's invariant: the corners joined to c by a side or by an edge before j are marked.
+use mathlib.Core.Path.{_≡_, sym, _∙_}
+use Prim.Native.Nat.{_≤_, _-_}
+use native.Mathlib.Omega.{arith}
+use lib.ListN.{length, take, getD, length-set}
+use lib.Seq.{take-all}
+use Rattle.keys.specs.Keys.{edgeOf, edgesOf}
+use Rattle.edit.specs.Tables.{Near, OtherEnd}
+use Rattle.edit.proofs.Marking.{near-begin, near-next, edges-next, end-below}
+use Rattle.edit.proofs.near.mark.Statement.{statement}
+use Rattle.edit.proofs.near.mark.Tie as tie
+use Rattle.edit.proofs.near.mark.Reads as reads
+use Rattle.edit.proofs.near.mark.Lts as lts
+use Rattle.edit.proofs.near.high_neighbour.Reads as high-neighbour-reads
+use Rattle.edit.proofs.near.low_neighbour.Reads as low-neighbour-reads
+use Rattle.edit.proofs.near.other_end.Reads as other-end-reads
+
+abbrev Inv-loop : tie.InvT-loop
+Inv-loop keys n c near₀ a b j₀ near j = (j ≤ length keys) × (length near ≡ 1025) × Near n (edgesOf (take j keys)) c near
+
+abbrev μ-loop : tie.MeasureT-loop
+μ-loop keys n c near₀ a b j₀ near j = length keys - j
+
+low-neighbour-requires : tie.Need-low-neighbour-requires Inv-loop μ-loop
+low-neighbour-requires c κs = omega arith
+
+slice-write-near : tie.Need-slice-write-near Inv-loop μ-loop
+slice-write-near c = omega (arith, c .low-neighbour .ensures, c .before .before .before .pre .0)
+
+high-neighbour-requires : tie.Need-high-neighbour-requires Inv-loop μ-loop
+high-neighbour-requires c κs = omega arith
+
+slice-write-near-2 : tie.Need-slice-write-near-2 Inv-loop μ-loop
+slice-write-near-2 c = simp length-set (omega (arith, c .high-neighbour .ensures, c .before .before .before .before .pre .0))
+
+loop-holds : tie.Need-loop-holds Inv-loop μ-loop
+loop-holds c = (omega arith, simp (length-set, length-set) (c .before .before .before .before .pre .0 .3), rw (c .before .low-neighbour .ensures .0, c .high-neighbour .ensures .0) (near-begin (c .before .before .before .before .args .n) (c .before .before .before .before .args .c) (c .before .before .before .before .args .near .now) (c .before .before .before .before .pre .0 .0) (c .before .before .before .before .pre .0 .1) (c .before .before .before .before .pre .0 .2) (c .before .before .before .before .pre .0 .3) (c .before .before .before .before .pre .1)))
+
+mul-other-end : tie.Need-mul-other-end Inv-loop μ-loop
+mul-other-end c = omega arith
+
+shared-slice-read-other-end : tie.Need-shared-slice-read-other-end Inv-loop μ-loop
+shared-slice-read-other-end c = omega arith
+
+other-end-requires : tie.Need-other-end-requires Inv-loop μ-loop
+other-end-requires c κs = c .before .before .before .before .before .before .before .pre .0 .4 (c .before .before .loop .j) (c .before .loop-test .taken)
+
+slice-write-near-3 : tie.Need-slice-write-near-3 Inv-loop μ-loop
+slice-write-near-3 c = omega (arith, c .before .before .before .loop .inv .1, end-below (c .before .before .before .before .before .before .before .before .args .c) (getD (c .before .before .before .before .before .before .before .before .args .keys .now) (c .before .before .before .loop .j) 0) (c .other-end .result) (c .before .before .before .before .before .before .before .before .pre .0 .4 (c .before .before .before .loop .j) (c .before .before .loop-test .taken)) (c .other-end .ensures))
+
+add-j : tie.Need-add-j Inv-loop μ-loop
+add-j c = omega arith
+
+loop-less : tie.Need-loop-less Inv-loop μ-loop
+loop-less c = omega arith
+
+loop-again : tie.Need-loop-again Inv-loop μ-loop
+loop-again c = (omega arith, simp length-set (c .before .before .before .loop .inv .1), rw (edges-next (c .before .before .before .before .before .before .before .before .args .keys .now) (c .before .before .before .loop .j) (c .before .before .loop-test .taken)) (near-next (c .before .before .before .before .before .before .before .before .args .n) (c .before .before .before .before .before .before .before .before .args .c) (edgesOf (take (c .before .before .before .loop .j) (c .before .before .before .before .before .before .before .before .args .keys .now))) (edgeOf (getD (c .before .before .before .before .before .before .before .before .args .keys .now) (c .before .before .before .loop .j) 0)) (c .before .before .before .loop .near) (c .before .before .before .loop .inv .2) (c .before .before .before .before .before .before .before .before .pre .0 .1) (c .before .before .before .loop .inv .1) (c .other-end .result) (c .other-end .ensures)))
+
+same-length : tie.Need-same-length Inv-loop μ-loop
+same-length c = c .before .loop .inv .1 ∙ sym (c .before .before .before .before .before .before .pre .0 .3)
+
+returns : tie.Need-returns Inv-loop μ-loop
+returns c = rw (take-all (c .before .loop .j) (c .before .before .before .before .before .before .args .keys .now) (c .loop-test .left)) at (c .before .loop .inv .2)
+
+pub mark-spec : {M : Type 1} → statement M
+mark-spec = tie.close (tie.spec Inv-loop μ-loop low-neighbour-requires slice-write-near high-neighbour-requires slice-write-near-2 loop-holds mul-other-end shared-slice-read-other-end other-end-requires slice-write-near-3 add-j loop-less loop-again same-length returns)

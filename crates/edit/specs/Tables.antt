@@ -1,0 +1,27 @@
+-- What the code's tables say of a polygon. For the contracts of src/.
+use mathlib.Core.Path.{_≡_}
+use mathlib.Core.Logic.{_⊎_}
+use mathlib.Core.List.{List}
+use Prim.Native.Nat.{ℕ, _/_, _%_, _<_, _≤_}
+use lib.ListN.{getD}
+use Rattle.polygon.specs.Polygon.{Edge, Joined}
+
+-- the corners of the first m keys can go up by one
+abbrev pub Below : ℕ → List ℕ → Type 0
+Below m ks = (j : ℕ) → j < m → (getD ks j 0 / 1024 < 1023) × (getD ks j 0 % 1024 < 1023)
+
+-- r is the other end of an edge with an end at c, or 1,024 if neither end is c
+abbrev pub OtherEnd : Edge → ℕ → ℕ → Type 0
+OtherEnd e c r = ((e .0 ≡ c) × (r ≡ e .1)) ⊎ (((e .1 ≡ c) × (r ≡ e .0)) ⊎ ((¬ (e .0 ≡ c)) × (¬ (e .1 ≡ c)) × (r ≡ 1024)))
+
+-- the places marked by 1 are the corners joined to c
+pub record Near (n : ℕ) (ds : List Edge) (c : ℕ) (near : List ℕ) : Type 0 where
+  pub joined : (x : ℕ) → x < n → getD near x 0 ≡ 1 → Joined n ds x c
+  pub apart : (x : ℕ) → x < n → ¬ (getD near x 0 ≡ 1) → ¬ Joined n ds x c
+
+-- r is the first corner from `from` on that is marked in both tables, or n
+pub record Common (p q : List ℕ) (from n r : ℕ) : Type 0 where
+  pub low : from ≤ r
+  pub high : r ≤ n
+  pub here : r < n → (getD p r 0 ≡ 1) × (getD q r 0 ≡ 1)
+  pub none : (x : ℕ) → from ≤ x → x < r → ¬ ((getD p x 0 ≡ 1) × (getD q x 0 ≡ 1))
