@@ -79,6 +79,13 @@ uint64_t bend_remove_ear(const uint8_t *sheet, size_t sheet_len, size_t corner,
 uint64_t bend_flip(const uint8_t *sheet, size_t sheet_len, size_t a, size_t b,
                    uint8_t *out, size_t out_len);
 
+/*
+ * Plan: gives the levels, umbrellas and stems of the plan that is drawn. No
+ * plan of the part has fewer levels.
+ * Refusals: 1 to 7 as for bend_normalize.
+ */
+uint64_t bend_plan(const uint8_t *sheet, size_t sheet_len);
+
 /* The number in an answer: 0, or the refusal. */
 static inline unsigned bend_number(uint64_t answer)
 {

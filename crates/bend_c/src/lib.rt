@@ -1,5 +1,6 @@
 // Every operation without record lists, for C: numbers and byte runs in, one number out. include/bend.h declares them.
-// The low 16 bits of an answer are the number, 0 or that of a refusal; the length of what was written stands above it.
+// The low 16 bits of an answer are the number, 0 or that of a refusal. Above it stands the length of what was written, or for Plan the levels,
+// umbrellas and stems, 16 bits each.
 ghost use mathlib.Core.Path.{_≡_};
 ghost use mathlib.Core.List.{List};
 ghost use Prim.Native.Nat.{ℕ};
@@ -7,7 +8,9 @@ ghost use Rattle.codec.specs.Answer.{written, answered, packed, Packable};
 ghost use Rattle.sheet.specs.Sheet.{ordered};
 ghost use Rattle.edit.specs.Rules.{addEar, removeEar, flip};
 ghost use Rattle.edit.specs.Calls.{edited};
+ghost use Rattle.plan.specs.Answer.{planned, plannedOf, packedPlan};
 use codec::Written;
+use plan::Planned;
 
 // The answer in one number.
 fn pack(w: Written) -> u64
@@ -54,4 +57,24 @@ pub extern "C" fn bend_flip(sheet: &[u8], a: usize, b: usize, out: &mut [u8]) ->
     ensures { λ r. ⌜ now (out .exit) ≡ written (edited (flip a b) (now (sheet .entry))) (now (out .entry)) .bytes ⌝ }
 {
     pack(edit::flip(sheet, a, b, out))
+}
+
+// The answer of Plan in one number.
+fn pack_plan(p: Planned) -> u64
+    ensures { λ r. ⌜ r ≡ packedPlan (plannedOf p) ⌝ }
+{
+    match p {
+        Planned::Counts(l, u, s) => {
+            l as u64 * 65536 + u as u64 * 4294967296 + s as u64 * 281474976710656
+        }
+        Planned::Refused(k) => k as u64,
+    }
+}
+
+// Plan.
+#[no_mangle]
+pub extern "C" fn bend_plan(sheet: &[u8]) -> u64
+    ensures { λ r. ⌜ r ≡ packedPlan (planned (now (sheet .entry))) ⌝ }
+{
+    pack_plan(plan::plan(sheet))
 }

@@ -1,0 +1,22 @@
+-- What the operation answers, in one number.
+use mathlib.Core.Path.{ap, _∙_}
+use borrow.Author.Needs.{needs}
+use Rattle.plan.specs.Answer.{packedPlan}
+use Rattle.bend_c.proofs.bend_plan.Statement.{statement}
+use Rattle.bend_c.proofs.bend_plan.Tie as tie
+use Rattle.bend_c.proofs.bend_plan.Reads as reads
+use Rattle.bend_c.proofs.bend_plan.Lts as lts
+use Rattle.bend_c.proofs.pack_plan.Reads as pack-plan-reads
+use Rattle.plan.proofs.plan.Reads as plan-reads
+
+plan-requires : tie.Need-plan-requires
+plan-requires c κs = search needs
+
+pack-plan-requires : tie.Need-pack-plan-requires
+pack-plan-requires c κs = search needs
+
+returns : tie.Need-returns
+returns c = c .pack-plan .ensures ∙ ap packedPlan (c .before .plan .ensures)
+
+pub bend-plan-spec : {M : Type 1} → statement M
+bend-plan-spec = tie.close (tie.spec plan-requires pack-plan-requires returns)

@@ -1,0 +1,76 @@
+-- From the tables and counts of a part, and from what a sheet holds, to what the operation answers.
+-- Rests on Held.antt and Counted.antt, on the theorems of the crate umbrella and on the laws of reading of the crate sheet.
+use mathlib.Core.Path.{_≡_, refl, sym, _∙_}
+use mathlib.Core.List.{List}
+use Prim.Native.Nat.{ℕ, suc, _+_, _*_, _-_}
+use native.Mathlib.Nat.{add-zero}
+use native.Mathlib.Omega.{arith}
+use lib.ListN.{length, take, replicate, length-replicate}
+use Rattle.polygon.specs.Polygon.{Polygon, Triangulated}
+use Rattle.polygon.specs.Tree.{Tree, leaf, treeOf}
+use Rattle.keys.specs.Keys.{edgesOf}
+use Rattle.sheet.specs.Sheet.{refused, held, readSheet}
+use Rattle.sheet.specs.Held.{polygonOf}
+use Rattle.sheet.specs.declared.Head.{Head}
+use Rattle.sheet.proofs.Asks.{held-form}
+use Rattle.sheet.proofs.Valid.{form-triangulates}
+use Rattle.umbrella.specs.Plan.{levels, umbrellas, stems}
+use Rattle.umbrella.specs.Numbers.{ud, handle, fanA, fanB}
+use Rattle.umbrella.specs.Best.{best}
+use Rattle.umbrella.proofs.Theorems.{computed-has}
+use Rattle.plan.specs.declared.levels.Six.{Six}
+use Rattle.plan.specs.declared.counts.Role.the-variants.{Hung}
+use Rattle.plan.specs.declared.counts.Tally.{Tally}
+use Rattle.plan.specs.declared.Planned.{Planned}
+use Rattle.plan.specs.declared.Planned.the-variants.{Counts, Refused}
+use Rattle.plan.specs.Shows.{Shows}
+use Rattle.plan.specs.Numbered.{six, Stored, Known}
+use Rattle.plan.specs.Roles.{counted}
+use Rattle.plan.specs.Answer.{refusal, countsOf, plannedOf, answer, planned, packedPlan}
+use Rattle.plan.proofs.Held.{holds}
+use Rattle.plan.proofs.Counted.{hung-is}
+
+-- a table as it is made, and the tables after the recursion for the levels
+abbrev fresh : List ℕ
+fresh = replicate 1022 0
+
+pub known-stored : {apex left right : List ℕ} {e u v : ℕ} {t : Tree} {w h a b : List ℕ} {r : Six} → Shows apex left right e u v t → Stored left right e t fresh fresh fresh fresh w h a b r → Known apex left right w h a b e u v t
+unfolding ud
+known-stored {apex} {left} {right} s S =
+    let n : length fresh ≡ 1022 = length-replicate {A = ℕ} 1022 0 in
+    record {
+      shows = s;
+      ud-held = rw (S .ud-stored) (holds ud refl apex left right fresh n s);
+      handle-held = rw (S .handle-stored) (holds handle refl apex left right fresh n s);
+      fan-a-held = rw (S .fan-a-stored) (holds fanA refl apex left right fresh n s);
+      fan-b-held = rw (S .fan-b-stored) (holds fanB refl apex left right fresh n s);
+    }
+
+-- the counts of the plan drawn
+umbrellas-are : (t : Tree) (d : ℕ) → counted Hung d t .umbrellas ≡ umbrellas (best t)
+umbrellas-are t d = hung-is (λ u s. u) suc suc refl (λ n. omega arith) (λ n. omega arith) t d
+
+stems-are : (t : Tree) (d : ℕ) → counted Hung d t .stems ≡ stems (best t)
+stems-are t d = hung-is (λ u s. s) (λ n. n) suc refl (λ n. omega arith) (λ n. omega arith) t d
+
+pub part-planned : (t : Tree) (d : ℕ) (s : Six) (x : Tally) → s ≡ six t → x ≡ counted Hung d t → plannedOf (Counts (s .ud) (x .umbrellas) (x .stems)) ≡ countsOf (best t)
+part-planned t d s x p q = rw (p, q, umbrellas-are t d, stems-are t d, ← computed-has t)
+
+-- the part that a sheet holds
+pub held-triangulated : (s : List ℕ) (p : Polygon) → readSheet s ≡ held p → Triangulated (p .n) (p .ds)
+held-triangulated s p e = let W = held-form s p e in rw (W .1) (form-triangulates (W .0))
+
+pub refused-planned : (s : List ℕ) (k : ℕ) → readSheet s ≡ refused k → plannedOf (Refused k) ≡ planned s
+unfolding planned answer
+refused-planned s k e = rw e
+
+pub held-planned : (s : List ℕ) (h : Head) (ks : List ℕ) → readSheet s ≡ held (polygonOf h ks) → countsOf (best (treeOf (h .n) (edgesOf (take (h .n - 3) ks)))) ≡ planned s
+unfolding planned answer
+held-planned s h ks e = rw e
+
+-- the two cases in one number
+pub packed-counts : (p : Planned) (l u s : ℕ) → p ≡ Counts l u s → l * 65536 + u * 4294967296 + s * 281474976710656 ≡ packedPlan (plannedOf p)
+packed-counts p l u s e = rw e (omega arith)
+
+pub packed-refused : (p : Planned) (k : ℕ) → p ≡ Refused k → k ≡ packedPlan (plannedOf p)
+packed-refused p k e = rw e (omega arith)

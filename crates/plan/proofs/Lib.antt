@@ -1,0 +1,10 @@
+pub mod Places
+pub mod Entries
+pub mod ShowsTree
+pub mod Pieces
+pub mod Storing
+pub mod Steps
+pub mod Held
+pub mod Counted
+pub mod Counting
+pub mod Answers

@@ -1,0 +1,48 @@
+-- Read, then planned.
+use mathlib.Core.Path.{_≡_, sym, _∙_}
+use Prim.Native.Nat.{_-_}
+use borrow.Author.Needs.{needs}
+use native.Mathlib.Omega.{arith}
+use lib.ListN.{length}
+use lib.Seq.{length-take-le}
+use Rattle.sheet.proofs.Outcomes.{read-refused, read-held, held-fits}
+use Rattle.plan.proofs.Answers.{held-triangulated, refused-planned, held-planned}
+use Rattle.plan.proofs.plan.Statement.{statement}
+use Rattle.plan.proofs.plan.Tie as tie
+use Rattle.plan.proofs.plan.Reads as reads
+use Rattle.plan.proofs.plan.Lts as lts
+use Rattle.plan.proofs.plan_part.Reads as plan-part-reads
+use Rattle.sheet.proofs.reader.read_sheet.Reads as read-sheet-reads
+
+slice-aggregate-read-sheet : tie.Need-slice-aggregate-read-sheet
+slice-aggregate-read-sheet c = search needs
+
+read-sheet-requires : tie.Need-read-sheet-requires
+read-sheet-requires c κs = search needs
+
+enum-known-k : tie.Need-enum-known-k
+enum-known-k c = search needs
+
+enum-known-h : tie.Need-enum-known-h
+enum-known-h c = search needs
+
+sub-m : tie.Need-sub-m
+sub-m c = omega (arith, held-fits (c .before .before .before .before .read-sheet .result) _ _ (c .before .before .before .before .read-sheet .ensures .1) (c .before .h .given .1))
+
+array-share-prefix-keys : tie.Need-array-share-prefix-keys
+array-share-prefix-keys c = omega (arith, held-fits (c .before .before .before .before .read-sheet .result) _ _ (c .before .before .before .before .read-sheet .ensures .1) (c .before .h .given .1), c .before .before .before .before .read-sheet .kept .1 .0)
+
+slice-aggregate-plan-part : tie.Need-slice-aggregate-plan-part
+slice-aggregate-plan-part c = sym (length-take-le (c .before .before .h .given .0 .0 .n - 3) (c .before .before .before .before .before .read-sheet .last .1 .0) (omega (arith, held-fits (c .before .before .before .before .before .read-sheet .result) _ _ (c .before .before .before .before .before .read-sheet .ensures .1) (c .before .before .h .given .1), c .before .before .before .before .before .read-sheet .kept .1 .0)))
+
+plan-part-requires : tie.Need-plan-part-requires
+plan-part-requires c κs = (held-triangulated (c .before .before .before .before .before .before .before .before .args .sheet .now) _ (read-held (c .before .before .before .before .before .before .before .before .args .sheet .now) (c .before .before .before .before .before .read-sheet .result) (c .before .before .before .before .before .read-sheet .last .1 .0) (c .before .before .h .given .0 .0) (c .before .before .before .before .before .read-sheet .ensures .0) (c .before .before .h .given .1)), held-fits (c .before .before .before .before .before .read-sheet .result) _ _ (c .before .before .before .before .before .read-sheet .ensures .1) (c .before .before .h .given .1) .most)
+
+returns : tie.Need-returns
+returns c = refused-planned (c .before .before .before .before .before .before .before .args .sheet .now) _ (read-refused (c .before .before .before .before .before .before .before .args .sheet .now) (c .before .before .before .before .read-sheet .result) (c .before .before .before .before .read-sheet .last .1 .0) _ (c .before .before .before .before .read-sheet .ensures .0) (c .before .k .given .1))
+
+returns-2 : tie.Need-returns-2
+returns-2 c = c .plan-part .ensures ∙ held-planned (c .before .before .before .before .before .before .before .before .before .args .sheet .now) (c .before .before .before .h .given .0 .0) (c .before .before .before .before .before .before .read-sheet .last .1 .0) (read-held (c .before .before .before .before .before .before .before .before .before .args .sheet .now) (c .before .before .before .before .before .before .read-sheet .result) (c .before .before .before .before .before .before .read-sheet .last .1 .0) (c .before .before .before .h .given .0 .0) (c .before .before .before .before .before .before .read-sheet .ensures .0) (c .before .before .before .h .given .1))
+
+pub plan-spec : {M : Type 1} → statement M
+plan-spec = tie.close (tie.spec slice-aggregate-read-sheet read-sheet-requires enum-known-k enum-known-h sub-m array-share-prefix-keys slice-aggregate-plan-part plan-part-requires returns returns-2)

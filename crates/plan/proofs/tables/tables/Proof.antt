@@ -1,0 +1,69 @@
+-- The tables of the diagonals, then the root edge's entries, then the right pieces, by the laws of ShowsTree.antt.
+use mathlib.Core.Path.{_≡_, refl, sym, _∙_}
+use Prim.Native.Nat.{ℕ, _+_, _-_, _<_, _≤_}
+use borrow.Author.Needs.{needs}
+use native.Mathlib.Omega.{arith}
+use lib.ListN.{length, getD, length-set, length-map, getD-replicate}
+use Rattle.keys.specs.Keys.{edgeOf, edgesOf}
+use Rattle.plan.proofs.ShowsTree.{apex-below, filled-shows}
+use Rattle.plan.proofs.tables.tables.Statement.{statement}
+use Rattle.plan.proofs.tables.tables.Tie as tie
+use Rattle.plan.proofs.tables.tables.Reads as reads
+use Rattle.plan.proofs.tables.tables.Lts as lts
+use Rattle.keys.proofs.cross.apexes.Reads as apexes-reads
+use Rattle.plan.proofs.tables.lefts.Reads as lefts-reads
+use Rattle.plan.proofs.tables.rights.Reads as rights-reads
+
+slice-aggregate-apexes : tie.Need-slice-aggregate-apexes
+slice-aggregate-apexes c = search needs
+
+apexes-requires : tie.Need-apexes-requires
+apexes-requires c κs = ((record { ascending = (c .before .before .before .before .before .before .pre .0) .ascending; diagonals = (c .before .before .before .before .before .before .pre .0) .diagonals }), omega (arith, c .before .before .before .before .before .before .pre .1, (c .before .before .before .before .before .before .pre .0) .full, length-map (c .before .before .before .before .before .before .args .keys .now) edgeOf))
+
+slice-aggregate-lefts : tie.Need-slice-aggregate-lefts
+slice-aggregate-lefts c = search needs
+
+lefts-requires : tie.Need-lefts-requires
+lefts-requires c κs = ((record { ascending = (c .before .before .before .before .before .before .before .before .before .before .before .before .pre .0) .ascending; diagonals = (c .before .before .before .before .before .before .before .before .before .before .before .before .pre .0) .diagonals }), (omega (arith, c .before .before .before .before .before .before .before .before .before .before .before .before .pre .1, (c .before .before .before .before .before .before .before .before .before .before .before .before .pre .0) .full, length-map (c .before .before .before .before .before .before .before .before .before .before .before .before .args .keys .now) edgeOf), λ i h. getD-replicate 1024 i 65535 0 h))
+
+array-read-apex : tie.Need-array-read-apex
+array-read-apex c = search needs
+
+mul-apex : tie.Need-mul-apex
+mul-apex c = search needs
+
+slice-write-apex : tie.Need-slice-write-apex
+slice-write-apex c = omega (arith, c .before .before .before .before .before .before .before .before .before .before .before .before .before .before .before .before .pre .1, (c .before .before .before .before .before .before .before .before .before .before .before .before .before .before .before .before .pre .0) .full, length-map (c .before .before .before .before .before .before .before .before .before .before .before .before .before .before .before .before .args .keys .now) edgeOf, c .before .before .before .before .before .before .before .before .before .apexes .kept .1 .1 .1 .0, c .before .before .before .lefts .kept .1 .1 .1 .0)
+
+array-read-left : tie.Need-array-read-left
+array-read-left c = search needs
+
+mul-left : tie.Need-mul-left
+mul-left c = search needs
+
+slice-write-left : tie.Need-slice-write-left
+slice-write-left c = omega (arith, c .before .before .before .before .before .before .before .before .before .before .before .before .before .before .before .before .pre .1, (c .before .before .before .before .before .before .before .before .before .before .before .before .before .before .before .before .pre .0) .full, length-map (c .before .before .before .before .before .before .before .before .before .before .before .before .before .before .before .before .args .keys .now) edgeOf, c .before .before .before .before .before .before .before .before .before .apexes .kept .1 .1 .1 .0, c .before .before .before .lefts .kept .1 .1 .1 .0)
+
+slice-aggregate-rights : tie.Need-slice-aggregate-rights
+slice-aggregate-rights c = search needs
+
+add-rights : tie.Need-add-rights
+add-rights c = search needs
+
+rights-requires : tie.Need-rights-requires
+rights-requires c κs = (simp length-set (omega (arith, c .before .before .before .before .before .before .before .before .before .before .before .before .before .before .before .before .before .before .before .pre .1, (c .before .before .before .before .before .before .before .before .before .before .before .before .before .before .before .before .before .before .before .pre .0) .full, length-map (c .before .before .before .before .before .before .before .before .before .before .before .before .before .before .before .before .before .before .before .args .keys .now) edgeOf, c .before .before .before .before .before .before .before .before .before .before .before .before .apexes .kept .1 .1 .1 .0, c .before .before .before .before .before .before .lefts .kept .1 .1 .1 .0)), λ j h. omega (arith, apex-below (c .before .before .before .before .before .before .before .before .before .before .before .before .before .before .before .before .before .before .before .args .n) (edgesOf (c .before .before .before .before .before .before .before .before .before .before .before .before .before .before .before .before .before .before .before .args .keys .now)) (c .before .before .before .before .before .before .before .before .before .before .before .before .before .before .before .before .before .before .before .pre .0) (length (c .before .before .before .before .before .before .before .before .before .before .before .before .before .before .before .before .before .before .before .args .keys .now)) (sym (length-map (c .before .before .before .before .before .before .before .before .before .before .before .before .before .before .before .before .before .before .before .args .keys .now) edgeOf)) (c .before .before .before .before .before .before .before .before .before .before .before .before .apexes .last .1 .1 .0) (c .before .before .before .before .before .before .lefts .last .1 .1 .0) (c .before .before .before .before .before .before .before .before .before .before .before .before .apexes .last .1 .1 .1 .0) (c .before .before .before .before .before .before .lefts .last .1 .1 .1 .0) (c .before .before .before .before .before .before .before .before .before .before .before .before .apexes .ensures .0) (c .before .before .before .before .before .before .lefts .ensures .0) (c .before .before .before .before .before .before .before .before .before .before .before .before .apexes .ensures .1) (c .before .before .before .before .before .before .lefts .ensures .1) (omega (arith, c .before .before .before .before .before .before .before .before .before .before .before .before .before .before .before .before .before .before .before .pre .1, (c .before .before .before .before .before .before .before .before .before .before .before .before .before .before .before .before .before .before .before .pre .0) .full, length-map (c .before .before .before .before .before .before .before .before .before .before .before .before .before .before .before .before .before .before .before .args .keys .now) edgeOf, c .before .before .before .before .before .before .before .before .before .before .before .before .apexes .kept .1 .1 .1 .0, c .before .before .before .before .before .before .lefts .kept .1 .1 .1 .0)) (omega (arith, c .before .before .before .before .before .before .before .before .before .before .before .before .before .before .before .before .before .before .before .pre .1, (c .before .before .before .before .before .before .before .before .before .before .before .before .before .before .before .before .before .before .before .pre .0) .full, length-map (c .before .before .before .before .before .before .before .before .before .before .before .before .before .before .before .before .before .before .before .args .keys .now) edgeOf, c .before .before .before .before .before .before .before .before .before .before .before .before .apexes .kept .1 .1 .1 .0, c .before .before .before .before .before .before .lefts .kept .1 .1 .1 .0)) j h, c .before .before .before .before .before .before .before .before .before .before .before .before .before .before .before .before .before .before .before .pre .1, c .before .before .before .before .before .before .lefts .kept .1 .1 .0))
+
+same-length : tie.Need-same-length
+same-length c = search needs
+
+same-length-2 : tie.Need-same-length-2
+same-length-2 c = search needs
+
+same-length-3 : tie.Need-same-length-3
+same-length-3 c = search needs
+
+returns : tie.Need-returns
+returns c = filled-shows (c .before .before .before .before .before .before .before .before .before .before .before .before .before .before .before .before .before .before .before .before .before .before .args .n) (edgesOf (c .before .before .before .before .before .before .before .before .before .before .before .before .before .before .before .before .before .before .before .before .before .before .args .keys .now)) (c .before .before .before .before .before .before .before .before .before .before .before .before .before .before .before .before .before .before .before .before .before .before .pre .0) (length (c .before .before .before .before .before .before .before .before .before .before .before .before .before .before .before .before .before .before .before .before .before .before .args .keys .now)) (sym (length-map (c .before .before .before .before .before .before .before .before .before .before .before .before .before .before .before .before .before .before .before .before .before .before .args .keys .now) edgeOf)) (c .before .before .before .before .before .before .before .before .before .before .before .before .before .before .before .apexes .last .1 .1 .0) (c .before .before .before .before .before .before .before .before .before .lefts .last .1 .1 .0) (c .before .before .before .before .before .before .before .before .before .before .before .before .before .before .before .apexes .last .1 .1 .1 .0) (c .before .before .before .before .before .before .before .before .before .lefts .last .1 .1 .1 .0) (c .before .before .before .before .before .before .before .before .before .before .before .before .before .before .before .apexes .ensures .0) (c .before .before .before .before .before .before .before .before .before .lefts .ensures .0) (c .before .before .before .before .before .before .before .before .before .before .before .before .before .before .before .apexes .ensures .1) (c .before .before .before .before .before .before .before .before .before .lefts .ensures .1) (omega (arith, c .before .before .before .before .before .before .before .before .before .before .before .before .before .before .before .before .before .before .before .before .before .before .pre .1, (c .before .before .before .before .before .before .before .before .before .before .before .before .before .before .before .before .before .before .before .before .before .before .pre .0) .full, length-map (c .before .before .before .before .before .before .before .before .before .before .before .before .before .before .before .before .before .before .before .before .before .before .args .keys .now) edgeOf, c .before .before .before .before .before .before .before .before .before .before .before .before .before .before .before .apexes .kept .1 .1 .1 .0, c .before .before .before .before .before .before .before .before .before .lefts .kept .1 .1 .1 .0)) (omega (arith, c .before .before .before .before .before .before .before .before .before .before .before .before .before .before .before .before .before .before .before .before .before .before .pre .1, (c .before .before .before .before .before .before .before .before .before .before .before .before .before .before .before .before .before .before .before .before .before .before .pre .0) .full, length-map (c .before .before .before .before .before .before .before .before .before .before .before .before .before .before .before .before .before .before .before .before .before .before .args .keys .now) edgeOf, c .before .before .before .before .before .before .before .before .before .before .before .before .before .before .before .apexes .kept .1 .1 .1 .0, c .before .before .before .before .before .before .before .before .before .lefts .kept .1 .1 .1 .0)) (c .before .before .before .before .before .before .before .before .before .before .before .before .before .before .before .before .before .before .before .before .before .before .pre .1 .0) (c .before .before .rights .last .1 .1 .1 .0) (c .before .before .rights .ensures)
+
+pub tables-spec : {M : Type 1} → statement M
+tables-spec = tie.close (tie.spec slice-aggregate-apexes apexes-requires slice-aggregate-lefts lefts-requires array-read-apex mul-apex slice-write-apex array-read-left mul-left slice-write-left slice-aggregate-rights add-rights rights-requires same-length same-length-2 same-length-3 returns)

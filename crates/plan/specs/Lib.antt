@@ -1,0 +1,4 @@
+pub mod Shows
+pub mod Numbered
+pub mod Roles
+pub mod Answer

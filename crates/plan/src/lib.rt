@@ -1,0 +1,86 @@
+// The operation Plan: levels, umbrellas and stems of the plan drawn of a sheet's part.
+// tables.rt holds the part's tree in tables, levels.rt works out the numbers of its pieces, counts.rt counts the umbrellas and stems of the plan drawn.
+// The definitions that the contracts cite are in specs/; Answer.antt says what the operation answers.
+ghost use mathlib.Core.Path.{_≡_};
+ghost use Prim.Native.Nat.{_≤_};
+ghost use Rattle.polygon.specs.Polygon.{Triangulated};
+ghost use Rattle.polygon.specs.Tree.{treeOf};
+ghost use Rattle.keys.specs.Keys.{edgesOf};
+ghost use Rattle.umbrella.specs.Best.{best};
+ghost use Rattle.plan.specs.Answer.{plannedOf, countsOf, planned};
+use crate::counts::Role;
+use crate::counts::count;
+use crate::levels::levels;
+use crate::tables::tables;
+use sheet::Read;
+use sheet::reader::read_sheet;
+
+pub mod counts;
+pub mod levels;
+pub mod tables;
+
+// The answer: levels, umbrellas and stems, or the number of the refusal.
+pub enum Planned {
+    Counts(u16, u16, u16),
+    Refused(u16),
+}
+
+// The counts of a part of n corners from the keys of its diagonals.
+fn plan_part(keys: &[u32], n: usize) -> Planned
+    requires { ⌜ Triangulated n (edgesOf (now keys)) ⌝ }
+    requires { ⌜ n ≤ 1024 ⌝ }
+    ensures { λ r. ⌜ plannedOf r ≡ countsOf (best (treeOf n (edgesOf (now (keys .entry))))) ⌝ }
+{
+    let mut apex = [0u16; 1022];
+    let mut left = [0u16; 1022];
+    let mut right = [0u16; 1022];
+    let mut ud = [0u16; 1022];
+    let mut handle = [0u16; 1022];
+    let mut fan_a = [0u16; 1022];
+    let mut fan_b = [0u16; 1022];
+    tables(keys, n, &mut apex, &mut left, &mut right);
+    let root = n - 3;
+    let v = n - 1;
+    let s = levels(
+        &apex,
+        &left,
+        &right,
+        &mut ud,
+        &mut handle,
+        &mut fan_a,
+        &mut fan_b,
+        root,
+        0,
+        v,
+    );
+    let t = count(
+        &apex,
+        &left,
+        &right,
+        &ud,
+        &handle,
+        &fan_a,
+        &fan_b,
+        root,
+        0,
+        v,
+        Role::Hung,
+        0,
+    );
+    Planned::Counts(s.ud, t.umbrellas, t.stems)
+}
+
+// Plan.
+pub fn plan(sheet: &[u8]) -> Planned
+    ensures { λ r. ⌜ plannedOf r ≡ planned (now (sheet .entry)) ⌝ }
+{
+    let mut keys = [0u32; 1021];
+    match read_sheet(sheet, &mut keys) {
+        Read::Refused(k) => Planned::Refused(k),
+        Read::Held(h) => {
+            let n = h.n;
+            let m = n - 3;
+            plan_part(&keys[..m], n)
+        }
+    }
+}
