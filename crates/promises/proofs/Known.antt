@@ -1,0 +1,26 @@
+-- Every case of the list of known parts holds, by computation.
+use mathlib.Core.Path.{refl}
+use mathlib.Core.Logic.{Dec·and}
+use mathlib.Core.List.{flatMap}
+use native.Mathlib.Decide.{decLe, decLt, ℕ-discrete}
+use Rattle.polygon.specs.Lists.{All, all-nil, all-cons, choose, put, keep, numbers, below, not?, either?, all?, sorted?, mem?}
+use Rattle.polygon.specs.Order.{before?, same?, cross?, none-cross?, diagonal?, distinct?, remove, place, insert, sort, lower-first}
+use Rattle.polygon.specs.Tree.{span, chordsAt, treeOf, grow, far, farther, near?}
+use Rattle.sheet.specs.Sheet.{ask, pairs, partNumber, count?, more, readSheet, pairBytes, numberBytes, numberBit, mapByte, normalSheet, outcome}
+use Rattle.edit.specs.Rules.{side?, linked?, joined?, common, enter, flipped, rule}
+use Rattle.edit.specs.Calls.{onHeld, edited}
+use Rattle.umbrella.specs.Plan.{fold}
+use Rattle.umbrella.specs.Numbers.{ud}
+use Rattle.umbrella.specs.Best.{best, umbrella, leftAt, rightAt, stemAt, over-node}
+use Rattle.plan.specs.Answer.{answer, planned}
+use Rattle.chart.specs.Places.{cols, rows}
+use Rattle.chart.specs.Edges.{edges, edgesAt, edgesPast}
+use Rattle.chart.specs.Chart.{barsOf, meets?, first, last, stroke, layout, chart, chartOf}
+use Rattle.chart.specs.Bytes.{barBytes, strokeBytes, bytesOf}
+use Rattle.draw.specs.Answer as draw
+use Rattle.promises.specs.Known.{sheet, barsIn, columnsIn, Holds, cases}
+
+pub known : All Holds cases
+unfolding sheet barsIn columnsIn readSheet ask pairs partNumber count? more pairBytes numberBytes numberBit mapByte normalSheet outcome Dec·and choose put keep numbers below all? diagonal? distinct? sorted? not? mem? same? none-cross? cross? sort insert place before? either? lower-first remove decLe ℕ-discrete decLt side? linked? joined? common enter flipped rule onHeld edited planned answer draw.drawn draw.charted chartOf chart layout treeOf grow far farther near? span chordsAt best umbrella leftAt rightAt stemAt over-node ud fold cols rows edges edgesAt edgesPast barsOf meets? first last stroke barBytes strokeBytes bytesOf flatMap
+known =
+    all-cons refl (all-cons refl (all-cons refl (all-cons refl (all-cons refl (all-cons refl (all-cons refl (all-cons refl (all-cons refl (all-cons refl (all-cons refl (all-cons refl (all-cons refl (all-cons refl (all-cons refl all-nil))))))))))))))

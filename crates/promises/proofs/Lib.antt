@@ -1,0 +1,2 @@
+pub mod DemandThree
+pub mod Known

@@ -1,0 +1,78 @@
+-- The known parts of document 01 that are marked M, as one list of cases, each on a sheet's bytes. proofs/Known.antt proves them all.
+use mathlib.Core.Path.{_≡_}
+use mathlib.Core.List.{List, [], _∷_, _++_}
+use Prim.Native.Nat.{ℕ}
+use Rattle.polygon.specs.Polygon.{Edge, _—_}
+use Rattle.codec.specs.Numbers.{bytes16}
+use Rattle.codec.specs.Answer.{write}
+use Rattle.sheet.specs.Sheet.{Reading, refused, held, readSheet, pairBytes}
+use Rattle.edit.specs.Rules.{flip}
+use Rattle.edit.specs.Calls.{edited}
+use Rattle.plan.specs.Answer.{planned}
+use Rattle.chart.specs.Chart.{Bar, barsOf, chartOf}
+use Rattle.draw.specs.Answer.{drawn}
+
+-- a sheet without part number: its corner count, and its pairs as they are listed
+unfoldable pub sheet : ℕ → List Edge → List ℕ
+sheet n [] = 1 ∷ bytes16 n
+sheet n (e ∷ es) = 3 ∷ (bytes16 n ++ pairBytes (e ∷ es))
+
+-- the bars and the columns of what a sheet holds
+unfoldable pub barsIn : Reading → List Bar
+barsIn (refused k) = []
+barsIn (held p) = barsOf (chartOf p)
+
+unfoldable pub columnsIn : Reading → ℕ
+columnsIn (refused k) = 0
+columnsIn (held p) = chartOf p .columns
+
+abbrev pub bar : ℕ → ℕ → ℕ → Bar
+bar r l s = record { row = r; left = l; right = s }
+
+-- a case: a sheet refused by a number; one with these levels, umbrellas and stems; with these chart bytes; with these bars; with so many columns; a sheet whose diagonal is turned
+pub data Case : Type 0 where
+  refusedBy : List ℕ → ℕ → Case
+  counted : List ℕ → ℕ → ℕ → ℕ → Case
+  charted : List ℕ → List ℕ → Case
+  barred : List ℕ → List Bar → Case
+  wide : List ℕ → ℕ → Case
+  turned : List ℕ → ℕ → ℕ → List ℕ → Case
+
+abbrev pub Holds : Case → Type 0
+Holds (refusedBy s k) = readSheet s ≡ refused k
+Holds (counted s l u t) = planned s ≡ record { number = 0; levels = l; umbrellas = u; stems = t }
+Holds (charted s bs) = drawn s ≡ write bs
+Holds (barred s bs) = barsIn (readSheet s) ≡ bs
+Holds (wide s k) = columnsIn (readSheet s) ≡ k
+Holds (turned s a b t) = edited (flip a b) s ≡ write t
+
+abbrev pub cases : List Case
+cases =
+    -- "n = 3: 1 level." "levels 1 umbrellas 1 stems 0"
+    counted (sheet 3 []) 1 1 0
+    -- "Chart in hexadecimal: 0003 0002 0003; 0000 0000 0000, 0002 0000 0001, 0000 0001 0001; 01 0000 0001 0000, 00 0000 0002, 01 0001 0002 0001."
+    ∷ charted (sheet 3 [])
+    (0 ∷ 3 ∷ 0 ∷ 2 ∷ 0 ∷ 3 ∷
+    0 ∷ 0 ∷ 0 ∷ 0 ∷ 0 ∷ 0 ∷ 0 ∷ 2 ∷ 0 ∷ 0 ∷ 0 ∷ 1 ∷ 0 ∷ 0 ∷ 0 ∷ 1 ∷ 0 ∷ 1 ∷
+    1 ∷ 0 ∷ 0 ∷ 0 ∷ 1 ∷ 0 ∷ 0 ∷ 0 ∷ 0 ∷ 0 ∷ 0 ∷ 2 ∷ 1 ∷ 0 ∷ 1 ∷ 0 ∷ 2 ∷ 0 ∷ 1 ∷ [])
+    -- "n = 4, (0,2): bars, row and columns: 0: 0, 0-1; 1: 2, 0-0; 2: 2, 1-2; 3: 0, 2-2."
+    ∷ barred (sheet 4 ((0 — 2) ∷ [])) (bar 0 0 1 ∷ bar 2 0 0 ∷ bar 2 1 2 ∷ bar 0 2 2 ∷ [])
+    -- "n = 5, (0,3) (1,3): stem; 0: 0, 0-3; 1: 1, 1-2; 2: 1, 0-0; 3: 2, 0-4; 4: 0, 4-4."
+    ∷ counted (sheet 5 ((0 — 3) ∷ (1 — 3) ∷ [])) 1 1 1
+    ∷ barred (sheet 5 ((0 — 3) ∷ (1 — 3) ∷ [])) (bar 0 0 3 ∷ bar 1 1 2 ∷ bar 1 0 0 ∷ bar 2 0 4 ∷ bar 0 4 4 ∷ [])
+    -- "n = 5, (1,4) (1,3): 0: 0, 0-0; 1: 2, 0-4; 2: 1, 4-4; 3: 1, 2-3; 4: 0, 1-4."
+    ∷ barred (sheet 5 ((1 — 4) ∷ (1 — 3) ∷ [])) (bar 0 0 0 ∷ bar 2 0 4 ∷ bar 1 4 4 ∷ bar 1 2 3 ∷ bar 0 1 4 ∷ [])
+    -- "n = 6, (0,2) (2,4) (0,4): 1 level, 1 stem, 6 columns."
+    ∷ counted (sheet 6 ((0 — 2) ∷ (2 — 4) ∷ (0 — 4) ∷ [])) 1 1 1
+    ∷ wide (sheet 6 ((0 — 2) ∷ (2 — 4) ∷ (0 — 4) ∷ [])) 6
+    -- "n = 7, (0,5) (1,5) (1,3) (3,5): 2 levels, 2 umbrellas, no stem, 7 columns."
+    ∷ counted (sheet 7 ((0 — 5) ∷ (1 — 5) ∷ (1 — 3) ∷ (3 — 5) ∷ [])) 2 2 0
+    ∷ wide (sheet 7 ((0 — 5) ∷ (1 — 5) ∷ (1 — 3) ∷ (3 — 5) ∷ [])) 7
+    -- "n = 5, (0,2) (1,3): 7. (0,2) (2,0): 6. (0,4) (1,3): 5."
+    ∷ refusedBy (sheet 5 ((0 — 2) ∷ (1 — 3) ∷ [])) 7
+    ∷ refusedBy (sheet 5 ((0 — 2) ∷ (2 — 0) ∷ [])) 6
+    ∷ refusedBy (sheet 5 ((0 — 4) ∷ (1 — 3) ∷ [])) 5
+    -- "n = 4, (0,2) turned: (1,3); turned again: (0,2)."
+    ∷ turned (sheet 4 ((0 — 2) ∷ [])) 0 2 (sheet 4 ((1 — 3) ∷ []))
+    ∷ turned (sheet 4 ((1 — 3) ∷ [])) 1 3 (sheet 4 ((0 — 2) ∷ []))
+    ∷ []
