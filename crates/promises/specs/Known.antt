@@ -11,6 +11,7 @@ use Rattle.edit.specs.Calls.{edited}
 use Rattle.plan.specs.Answer.{planned}
 use Rattle.chart.specs.Chart.{Bar, barsOf, chartOf}
 use Rattle.draw.specs.Answer.{drawn}
+use Rattle.draw.specs.Printed.{printed}
 
 -- a sheet without part number: its corner count, and its pairs as they are listed
 unfoldable pub sheet : ℕ → List Edge → List ℕ
@@ -29,7 +30,7 @@ columnsIn (held p) = chartOf p .columns
 abbrev pub bar : ℕ → ℕ → ℕ → Bar
 bar r l s = record { row = r; left = l; right = s }
 
--- a case: a sheet refused by a number; one with these levels, umbrellas and stems; with these chart bytes; with these bars; with so many columns; a sheet whose diagonal is turned
+-- a case: a sheet refused by a number; one with these levels, umbrellas and stems; with these chart bytes; with these bars; with so many columns; a sheet whose diagonal is turned; one with this line
 pub data Case : Type 0 where
   refusedBy : List ℕ → ℕ → Case
   counted : List ℕ → ℕ → ℕ → ℕ → Case
@@ -37,6 +38,7 @@ pub data Case : Type 0 where
   barred : List ℕ → List Bar → Case
   wide : List ℕ → ℕ → Case
   turned : List ℕ → ℕ → ℕ → List ℕ → Case
+  lined : List ℕ → List ℕ → Case
 
 abbrev pub Holds : Case → Type 0
 Holds (refusedBy s k) = readSheet s ≡ refused k
@@ -45,6 +47,7 @@ Holds (charted s bs) = drawn s ≡ write bs
 Holds (barred s bs) = barsIn (readSheet s) ≡ bs
 Holds (wide s k) = columnsIn (readSheet s) ≡ k
 Holds (turned s a b t) = edited (flip a b) s ≡ write t
+Holds (lined s bs) = printed s ≡ bs
 
 abbrev pub cases : List Case
 cases =
@@ -55,6 +58,11 @@ cases =
     (0 ∷ 3 ∷ 0 ∷ 2 ∷ 0 ∷ 3 ∷
     0 ∷ 0 ∷ 0 ∷ 0 ∷ 0 ∷ 0 ∷ 0 ∷ 2 ∷ 0 ∷ 0 ∷ 0 ∷ 1 ∷ 0 ∷ 0 ∷ 0 ∷ 1 ∷ 0 ∷ 1 ∷
     1 ∷ 0 ∷ 0 ∷ 0 ∷ 1 ∷ 0 ∷ 0 ∷ 0 ∷ 0 ∷ 0 ∷ 0 ∷ 2 ∷ 1 ∷ 0 ∷ 1 ∷ 0 ∷ 2 ∷ 0 ∷ 1 ∷ [])
+    -- "Line for sheet 01 00 03: `part - corners 3 levels 1 umbrellas 1 stems 0 rows 3 columns 2`"
+    ∷ lined (sheet 3 [])
+    (112 ∷ 97 ∷ 114 ∷ 116 ∷ 32 ∷ 45 ∷ 32 ∷ 99 ∷ 111 ∷ 114 ∷ 110 ∷ 101 ∷ 114 ∷ 115 ∷ 32 ∷ 51 ∷ 32 ∷ 108 ∷ 101 ∷ 118 ∷ 101 ∷ 108 ∷ 115 ∷ 32 ∷ 49 ∷ 32 ∷ 117 ∷ 109 ∷ 98 ∷ 114 ∷ 101 ∷ 108 ∷ 108 ∷ 97 ∷ 115 ∷ 32 ∷ 49 ∷ 32 ∷ 115 ∷ 116 ∷ 101 ∷ 109 ∷ 115 ∷ 32 ∷ 48 ∷ 32 ∷ 114 ∷ 111 ∷ 119 ∷ 115 ∷ 32 ∷ 51 ∷ 32 ∷ 99 ∷ 111 ∷ 108 ∷ 117 ∷ 109 ∷ 110 ∷ 115 ∷ 32 ∷ 50 ∷ 10 ∷ [])
+    -- "A refusal prints `refused` and its number, as `refused 3`"
+    ∷ lined (sheet 2 []) (114 ∷ 101 ∷ 102 ∷ 117 ∷ 115 ∷ 101 ∷ 100 ∷ 32 ∷ 51 ∷ 10 ∷ [])
     -- "n = 4, (0,2): bars, row and columns: 0: 0, 0-1; 1: 2, 0-0; 2: 2, 1-2; 3: 0, 2-2."
     ∷ barred (sheet 4 ((0 — 2) ∷ [])) (bar 0 0 1 ∷ bar 2 0 0 ∷ bar 2 1 2 ∷ bar 0 2 2 ∷ [])
     -- "n = 5, (0,3) (1,3): stem; 0: 0, 0-3; 1: 1, 1-2; 2: 1, 0-0; 3: 2, 0-4; 4: 0, 4-4."

@@ -1,0 +1,29 @@
+-- The word, then the number.
+use mathlib.Core.Path.{_≡_, _∙_}
+use borrow.Author.Needs.{needs}
+use native.Mathlib.Omega.{arith}
+use Rattle.log_line.specs.Line.{decimal}
+use Rattle.log_line.proofs.Digits.{digits-length}
+use Rattle.log_line.proofs.Putting.{put-then, put-length}
+use Rattle.log_line.proofs.put_field.Statement.{statement}
+use Rattle.log_line.proofs.put_field.Tie as tie
+use Rattle.log_line.proofs.put_field.Reads as reads
+use Rattle.log_line.proofs.put_field.Lts as lts
+use Rattle.log_line.proofs.put_digits.Reads as put-digits-reads
+use Rattle.log_line.proofs.put_word.Reads as put-word-reads
+
+put-word-requires : tie.Need-put-word-requires
+put-word-requires c κs = search needs
+
+put-digits-requires : tie.Need-put-digits-requires
+put-digits-requires c κs = omega (arith, digits-length 20 (c .before .before .before .before .before .before .before .args .n), c .before .before .before .put-word .ensures .end, c .before .before .before .put-word .kept .0)
+
+same-length : tie.Need-same-length
+same-length c = search needs
+
+returns : tie.Need-returns
+unfolding decimal
+returns c = (put-then (c .before .before .before .before .before .before .put-word .ensures) (c .before .before .put-digits .ensures), omega (arith, c .before .before .put-digits .ensures .end, c .before .before .before .before .before .before .put-word .ensures .end, digits-length 20 (c .before .before .before .before .before .before .before .before .before .before .args .n)))
+
+pub put-field-spec : {M : Type 1} → statement M
+put-field-spec = tie.close (tie.spec put-word-requires put-digits-requires same-length returns)

@@ -1,0 +1,38 @@
+-- By the two cases.
+use mathlib.Core.Path.{_≡_}
+use borrow.Author.Needs.{needs}
+use native.Mathlib.Omega.{arith}
+use Rattle.log_line.specs.Line.{decimal, numberWord}
+use Rattle.log_line.proofs.Digits.{digits-length}
+use Rattle.log_line.proofs.put_number.Statement.{statement}
+use Rattle.log_line.proofs.put_number.Tie as tie
+use Rattle.log_line.proofs.put_number.Reads as reads
+use Rattle.log_line.proofs.put_number.Lts as lts
+use Rattle.log_line.proofs.put_digits.Reads as put-digits-reads
+use Rattle.log_line.proofs.put_word.Reads as put-word-reads
+
+put-digits-requires : tie.Need-put-digits-requires
+put-digits-requires c κs = omega (arith, digits-length 20 (c .before .before .before .args .number))
+
+same-length : tie.Need-same-length
+same-length c = search needs
+
+returns : tie.Need-returns
+unfolding numberWord decimal
+returns c = rw (c .before .before .before .before .if1 .taken) (c .before .before .put-digits .ensures, omega (arith, c .before .before .put-digits .ensures .end, digits-length 20 (c .before .before .before .before .before .before .args .number)))
+
+slice-aggregate-put-word : tie.Need-slice-aggregate-put-word
+slice-aggregate-put-word c = search needs
+
+put-word-requires : tie.Need-put-word-requires
+put-word-requires c κs = search needs
+
+same-length-2 : tie.Need-same-length-2
+same-length-2 c = search needs
+
+returns-2 : tie.Need-returns-2
+unfolding numberWord
+returns-2 c = rw (c .before .before .before .before .before .if1 .left) (c .before .before .put-word .ensures, omega (arith, c .before .before .put-word .ensures .end))
+
+pub put-number-spec : {M : Type 1} → statement M
+put-number-spec = tie.close (tie.spec put-digits-requires same-length returns slice-aggregate-put-word put-word-requires same-length-2 returns-2)

@@ -1,0 +1,32 @@
+-- The word, the number, the line's end.
+use mathlib.Core.Path.{_≡_}
+use borrow.Author.Needs.{needs}
+use native.Mathlib.Omega.{arith}
+use Rattle.log_line.proofs.Putting.{put-then, refused-put}
+use Rattle.log_line.proofs.put_refused.Statement.{statement}
+use Rattle.log_line.proofs.put_refused.Tie as tie
+use Rattle.log_line.proofs.put_refused.Reads as reads
+use Rattle.log_line.proofs.put_refused.Lts as lts
+use Rattle.log_line.proofs.put_field.Reads as put-field-reads
+use Rattle.log_line.proofs.put_word.Reads as put-word-reads
+
+slice-aggregate-put-field : tie.Need-slice-aggregate-put-field
+slice-aggregate-put-field c = search needs
+
+put-field-requires : tie.Need-put-field-requires
+put-field-requires c κs = search needs
+
+slice-aggregate-put-word : tie.Need-slice-aggregate-put-word
+slice-aggregate-put-word c = search needs
+
+put-word-requires : tie.Need-put-word-requires
+put-word-requires c κs = omega (arith, c .before .before .before .before .put-field .ensures .1, c .before .before .before .before .put-field .kept .0, c .before .before .before .before .before .before .before .before .pre)
+
+same-length : tie.Need-same-length
+same-length c = search needs
+
+returns : tie.Need-returns
+returns c = refused-put (c .before .before .before .before .before .before .before .before .before .before .before .args .number) (put-then (c .before .before .before .before .before .before .before .put-field .ensures .0) (c .before .before .put-word .ensures))
+
+pub put-refused-spec : {M : Type 1} → statement M
+put-refused-spec = tie.close (tie.spec slice-aggregate-put-field put-field-requires slice-aggregate-put-word put-word-requires same-length returns)

@@ -1,0 +1,50 @@
+-- The loop's invariant: the first i bytes of the word are written.
+use Prim.Native.Nat.{_≤_, _-_}
+use mathlib.Core.Path.{_≡_, refl, ap, _∙_}
+use native.Mathlib.Omega.{arith}
+use lib.ListN.{length, take, length-set}
+use lib.Seq.{sets, length-sets, take-all}
+use Rattle.log_line.proofs.Putting.{word-next}
+use Rattle.log_line.proofs.put_word.Statement.{statement}
+use Rattle.log_line.proofs.put_word.Tie as tie
+use Rattle.log_line.proofs.put_word.Reads as reads
+use Rattle.log_line.proofs.put_word.Lts as lts
+
+abbrev Inv-loop : tie.InvT-loop
+Inv-loop out₀ at word i₀ out i = (i ≤ length word) × (length out ≡ length out₀) × (out ≡ sets out₀ at (take i word))
+
+abbrev μ-loop : tie.MeasureT-loop
+μ-loop out₀ at word i₀ out i = length word - i
+
+loop-holds : tie.Need-loop-holds Inv-loop μ-loop
+loop-holds c = (omega arith, refl, refl)
+
+shared-slice-read-out : tie.Need-shared-slice-read-out Inv-loop μ-loop
+shared-slice-read-out c = omega arith
+
+add-out : tie.Need-add-out Inv-loop μ-loop
+add-out c = omega arith
+
+slice-write-out : tie.Need-slice-write-out Inv-loop μ-loop
+slice-write-out c = omega arith
+
+add-i : tie.Need-add-i Inv-loop μ-loop
+add-i c = omega arith
+
+loop-less : tie.Need-loop-less Inv-loop μ-loop
+loop-less c = omega arith
+
+loop-again : tie.Need-loop-again Inv-loop μ-loop
+loop-again c = (omega arith, simp length-set (c .before .before .loop .inv .1), rw (c .before .before .loop .inv .2) (word-next (c .before .before .before .args .word .now) (c .before .before .before .args .out .now) (c .before .before .before .args .at) (c .before .before .loop .i) (c .before .loop-test .taken)))
+
+add-result : tie.Need-add-result Inv-loop μ-loop
+add-result c = omega arith
+
+same-length : tie.Need-same-length Inv-loop μ-loop
+same-length c = c .before .loop .inv .1
+
+returns : tie.Need-returns Inv-loop μ-loop
+returns c = let e = take-all (c .before .loop .i) (c .before .before .args .word .now) (c .loop-test .left) in record { bytes = c .before .loop .inv .2 ∙ rw e; end = omega arith }
+
+pub put-word-spec : {M : Type 1} → statement M
+put-word-spec = tie.close (tie.spec Inv-loop μ-loop loop-holds shared-slice-read-out add-out slice-write-out add-i loop-less loop-again add-result same-length returns)
