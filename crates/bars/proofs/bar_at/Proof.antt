@@ -41,4 +41,3 @@ returns c = λ i. record { row = c .before .before .get16 .ensures .0 i; left = 
 
 pub bar-at-spec : {M : Type 1} → statement M
 bar-at-spec = tie.close (tie.spec mul-at add-at get16-requires cast-row add-get16 get16-requires-2 cast-left add-get16-2 get16-requires-3 cast-right returns)
-
