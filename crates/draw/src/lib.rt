@@ -1,1 +1,2 @@
-// The operation Draw: the chart of a sheet's part. So far this crate has the definitions that the operation's contract will cite.
+// The operation Draw: the chart of a sheet's part; and the line that the program prints (line.rt).
+pub mod line;

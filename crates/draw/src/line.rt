@@ -1,0 +1,48 @@
+// The line that the program prints of a sheet.
+ghost use Prim.Native.Nat.{_≤_};
+ghost use Rattle.log_line.specs.Put.{Put};
+ghost use Rattle.log_line.specs.Line.{line};
+ghost use Rattle.draw.specs.Printed.{printed};
+ghost use Rattle.draw.specs.Told.{told};
+use log_line::Facts;
+use log_line::put_line;
+use log_line::put_refused;
+use plan::Planned;
+use plan::plan;
+use sheet::Head;
+use sheet::Read;
+use sheet::reader::read_sheet;
+
+// Writes the line of a part with these counts. "Two rows a level and one more"; "Columns = n − 2 + umbrellas + stems."
+fn part_line(h: Head, levels: u16, umbrellas: u16, stems: u16, out: &mut [u8; 256]) -> usize
+    requires { ⌜ (2 ≤ h .n) × (h .n ≤ 1024) ⌝ }
+    ensures { λ r. ⌜ Put (line (told h levels umbrellas stems)) (now (out .entry)) 0 (now (out .exit)) r ⌝ }
+{
+    let rows = 2 * levels as usize + 1;
+    let columns = h.n - 2 + umbrellas as usize + stems as usize;
+    let f = Facts {
+        numbered: h.numbered,
+        number: h.number,
+        corners: h.n,
+        levels: levels as usize,
+        umbrellas: umbrellas as usize,
+        stems: stems as usize,
+        rows,
+        columns,
+    };
+    put_line(f, out)
+}
+
+// Writes the line of a sheet's part, or of its refusal, and says how long it is.
+pub fn line(sheet: &[u8], out: &mut [u8; 256]) -> usize
+    ensures { λ r. ⌜ Put (printed (now (sheet .entry))) (now (out .entry)) 0 (now (out .exit)) r ⌝ }
+{
+    let mut keys = [0u32; 1021];
+    match read_sheet(sheet, &mut keys) {
+        Read::Refused(k) => put_refused(k as usize, out),
+        Read::Held(h) => match plan(sheet) {
+            Planned::Refused(k) => put_refused(k as usize, out),
+            Planned::Counts(l, u, s) => part_line(h, l, u, s, out),
+        },
+    }
+}
