@@ -12,3 +12,4 @@ pub mod Found
 pub mod Writing
 pub mod Outcomes
 pub mod Size
+pub mod Long
