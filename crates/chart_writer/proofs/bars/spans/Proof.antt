@@ -1,0 +1,43 @@
+-- The first and the last columns, then the root corners' two.
+use mathlib.Core.Path.{_∙_}
+use borrow.Author.Needs.{needs}
+use Rattle.chart_writer.proofs.Extents.{spans-end}
+use Rattle.chart_writer.proofs.bars.spans.Statement.{statement}
+use Rattle.chart_writer.proofs.bars.spans.Tie as tie
+
+lefts-requires : tie.Need-lefts-requires
+lefts-requires c κs = search needs
+
+rights-requires : tie.Need-rights-requires
+rights-requires c κs = search needs
+
+slice-write-left : tie.Need-slice-write-left
+slice-write-left c = search needs
+
+sub-right : tie.Need-sub-right
+sub-right c = search needs
+
+cast-right : tie.Need-cast-right
+cast-right c = search needs
+
+sub-right-2 : tie.Need-sub-right-2
+sub-right-2 c = search needs
+
+mul-right : tie.Need-mul-right
+mul-right c = search needs
+
+slice-write-right : tie.Need-slice-write-right
+slice-write-right c = search needs
+
+same-length : tie.Need-same-length
+same-length c = search needs
+
+same-length-2 : tie.Need-same-length-2
+same-length-2 c = search needs
+
+returns : tie.Need-returns
+returns c = spans-end (c .before .before .before .before .before .before .before .before .before .before .before .args .cols .now) (c .before .before .before .before .before .before .before .before .before .before .before .args .n) (c .before .before .before .before .before .before .lefts .last .1 .0) (c .before .before .rights .last .1 .0) (c .before .before .before .before .before .before .before .before .before .before .before .pre .1 .0 .0) (c .before .before .before .before .before .before .before .before .before .before .before .pre .1 .0 .1) (c .before .before .before .before .before .before .lefts .kept .1 .0 ∙ c .before .before .before .before .before .before .before .before .before .before .before .pre .1 .1 .0 .0) (c .before .before .rights .kept .1 .0 ∙ c .before .before .before .before .before .before .before .before .before .before .before .pre .1 .1 .1 .0) (c .before .before .before .before .before .before .lefts .ensures) (c .before .before .rights .ensures)
+
+pub spans-spec : {M : Type 1} → statement M
+spans-spec = tie.close (tie.spec lefts-requires rights-requires slice-write-left sub-right cast-right sub-right-2 mul-right slice-write-right same-length same-length-2 returns)
+

@@ -1,0 +1,54 @@
+-- The loop's invariant: the strokes before i are stored, up to `at`.
+use mathlib.Core.Path.{_≡_, refl, _∙_}
+use Prim.Native.Nat.{_+_, _-_, _≤_}
+use native.Mathlib.Omega.{arith}
+use lib.ListN.{length}
+use lib.Seq.{sets}
+use Rattle.chart.specs.Bytes.{strokeBytes}
+use Rattle.chart_writer.specs.Tables.{strokeAt, strokeRun}
+use Rattle.chart_writer.proofs.Runs.{run-room, strokes-begin, stroke-stored}
+use Rattle.chart_writer.proofs.bytes.put_strokes.Statement.{statement}
+use Rattle.chart_writer.proofs.bytes.put_strokes.Tie as tie
+
+abbrev Inv-loop : tie.InvT-loop
+Inv-loop out₀ from edges columns at₀ i₀ out at i = (i ≤ length edges) × (length out ≡ length out₀) × (at ≡ from + length (strokeRun edges columns i)) × (out ≡ sets out₀ from (strokeRun edges columns i))
+
+abbrev μ-loop : tie.MeasureT-loop
+μ-loop out₀ from edges columns at₀ i₀ out at i = length edges - i
+
+loop-holds : tie.Need-loop-holds Inv-loop μ-loop
+loop-holds c = let b = strokes-begin (c .before .before .before .args .edges .now) (c .before .before .before .args .columns .now) (c .before .before .before .args .from) (c .before .before .before .args .out .now) in (omega arith, refl, b .0, b .1)
+
+mul-put-stroke : tie.Need-mul-put-stroke Inv-loop μ-loop
+mul-put-stroke c = omega arith
+
+shared-slice-read-put-stroke : tie.Need-shared-slice-read-put-stroke Inv-loop μ-loop
+shared-slice-read-put-stroke c = omega arith
+
+mul-put-stroke-2 : tie.Need-mul-put-stroke-2 Inv-loop μ-loop
+mul-put-stroke-2 c = omega arith
+
+shared-slice-read-put-stroke-2 : tie.Need-shared-slice-read-put-stroke-2 Inv-loop μ-loop
+shared-slice-read-put-stroke-2 c = omega arith
+
+put-stroke-requires : tie.Need-put-stroke-requires Inv-loop μ-loop
+put-stroke-requires c κs = (omega (arith, run-room strokeBytes (strokeAt (c .before .before .before .before .before .before .before .before .args .edges .now) (c .before .before .before .before .before .before .before .before .args .columns .now)) (c .before .before .before .before .loop .i) (length (c .before .before .before .before .before .before .before .before .args .edges .now)) (omega arith), c .before .before .before .before .before .before .before .before .pre .1 .1, c .before .before .before .before .loop .inv .2), c .before .before .before .before .before .before .before .before .pre .0 (c .before .before .before .before .loop .i) (c .before .before .before .loop-test .taken))
+
+add-i : tie.Need-add-i Inv-loop μ-loop
+add-i c = omega arith
+
+loop-less : tie.Need-loop-less Inv-loop μ-loop
+loop-less c = omega arith
+
+loop-again : tie.Need-loop-again Inv-loop μ-loop
+loop-again c = let b = stroke-stored (c .before .before .before .before .before .before .before .before .before .before .before .args .edges .now) (c .before .before .before .before .before .before .before .before .before .before .before .args .columns .now) (c .before .before .before .before .before .before .before .before .before .before .before .args .out .now) (c .before .before .before .before .before .before .before .before .before .before .before .args .from) (c .before .before .before .before .before .before .before .loop .i) (c .before .before .before .before .before .before .before .loop .out) _ (c .before .before .before .before .before .before .before .loop .at) _ (c .before .before .before .before .before .before .before .loop .inv .2) (c .before .before .before .before .before .before .before .loop .inv .3) (c .before .before .put-stroke .ensures .0) (c .before .before .put-stroke .ensures .1) in (omega arith, c .before .before .put-stroke .kept .0 ∙ c .before .before .before .before .before .before .before .loop .inv .1, b .0, b .1)
+
+same-length : tie.Need-same-length Inv-loop μ-loop
+same-length c = c .before .loop .inv .1
+
+returns : tie.Need-returns Inv-loop μ-loop
+returns c = let e : c .before .loop .i ≡ length (c .before .before .before .before .before .args .edges .now) = omega arith in rw (← e) (c .before .loop .inv .3)
+
+pub put-strokes-spec : {M : Type 1} → statement M
+put-strokes-spec = tie.close (tie.spec Inv-loop μ-loop loop-holds mul-put-stroke shared-slice-read-put-stroke mul-put-stroke-2 shared-slice-read-put-stroke-2 put-stroke-requires add-i loop-less loop-again same-length returns)
+

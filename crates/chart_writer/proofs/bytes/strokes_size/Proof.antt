@@ -1,0 +1,48 @@
+-- The loop's invariant: the size is that of the strokes before i.
+use mathlib.Core.Path.{_≡_}
+use mathlib.Core.List.{List}
+use mathlib.Core.Logic.{⊎-elim}
+use Prim.Native.Nat.{ℕ, _*_, _-_, _≤_}
+use native.Mathlib.Omega.{arith}
+use lib.ListN.{length}
+use Rattle.chart_writer.specs.Tables.{strokeRun}
+use Rattle.chart_writer.proofs.Runs.{strokes-none, level-more, upright-more}
+use Rattle.chart_writer.proofs.bytes.strokes_size.Statement.{statement}
+use Rattle.chart_writer.proofs.bytes.strokes_size.Tie as tie
+
+abbrev Inv-loop : tie.InvT-loop
+Inv-loop columns m size₀ i₀ size i = (i ≤ m) × (size ≤ 7 * i) × ((es : List ℕ) → size ≡ length (strokeRun es columns i))
+
+abbrev μ-loop : tie.MeasureT-loop
+μ-loop columns m size₀ i₀ size i = m - i
+
+loop-holds : tie.Need-loop-holds Inv-loop μ-loop
+loop-holds c = (omega arith, omega arith, λ es. strokes-none es (c .args .columns .now))
+
+mul-if1 : tie.Need-mul-if1 Inv-loop μ-loop
+mul-if1 c = omega arith
+
+shared-slice-read-if1 : tie.Need-shared-slice-read-if1 Inv-loop μ-loop
+shared-slice-read-if1 c = omega arith
+
+add-size : tie.Need-add-size Inv-loop μ-loop
+add-size c = omega arith
+
+add-size-2 : tie.Need-add-size-2 Inv-loop μ-loop
+add-size-2 c = omega arith
+
+add-i : tie.Need-add-i Inv-loop μ-loop
+add-i c = omega arith
+
+loop-less : tie.Need-loop-less Inv-loop μ-loop
+loop-less c = omega arith
+
+loop-again : tie.Need-loop-again Inv-loop μ-loop
+loop-again c = ⊎-elim (λ w. rw (w .1) (omega arith, omega arith, λ es. omega (arith, c .before .before .before .loop .inv .2 es, level-more es (c .before .before .before .before .args .columns .now) (c .before .before .before .loop .i) (w .0 .taken)))) (λ w. rw (w .1) (omega arith, omega arith, λ es. omega (arith, c .before .before .before .loop .inv .2 es, upright-more es (c .before .before .before .before .args .columns .now) (c .before .before .before .loop .i) (w .0 .left)))) (c .if1 .came)
+
+returns : tie.Need-returns Inv-loop μ-loop
+returns c = let e : c .before .loop .i ≡ c .before .before .args .m = omega arith in rw (← e) (c .before .loop .inv .2, c .before .loop .inv .1)
+
+pub strokes-size-spec : {M : Type 1} → statement M
+strokes-size-spec = tie.close (tie.spec Inv-loop μ-loop loop-holds mul-if1 shared-slice-read-if1 add-size add-size-2 add-i loop-less loop-again returns)
+

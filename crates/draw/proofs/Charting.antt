@@ -1,0 +1,51 @@
+-- From the columns, rows and levels of the plan drawn to its chart.
+use mathlib.Core.Path.{_≡_, refl, ap, sym, _∙_}
+use mathlib.Core.List.{List}
+use Prim.Native.Nat.{ℕ, suc, _+_, _*_, _-_, _≤_, _<_}
+use native.Mathlib.Nat.{zero-add}
+use native.Mathlib.Omega.{arith}
+use lib.ListN.{length}
+use Rattle.polygon.specs.Lists.{Mem, All}
+use Rattle.polygon.specs.Polygon.{Edge, Polygon, Triangulated}
+use Rattle.polygon.specs.Order.{same?}
+use Rattle.polygon.specs.Tree.{Tree, span, treeOf}
+use Rattle.polygon.proofs.Lists.{all-of}
+use Rattle.polygon.proofs.TreeTheorem.{tree-of}
+use Rattle.codec.specs.Answer.{refusal, written, write}
+use Rattle.sheet.specs.Sheet.{refused, held, readSheet}
+use Rattle.umbrella.specs.Plan.{Plan, levels, umbrellas, stems}
+use Rattle.umbrella.specs.Best.{best, planOf}
+use Rattle.umbrella.proofs.Occurs.{mem-occurs, occurs-mem}
+use Rattle.umbrella.proofs.Theorems.{umbrellas-bound}
+use Rattle.chart.specs.Places.{cols, rows}
+use Rattle.chart.specs.Edges.{edges}
+use Rattle.chart.specs.Chart.{layout, chart, chartOf}
+use Rattle.chart.specs.Bytes.{bytesOf}
+use Rattle.chart.proofs.EachEdge.{each-drawn}
+use Rattle.chart.proofs.Width.{width}
+use Rattle.draw.specs.Answer.{charted, drawn}
+
+-- each column's upright is an edge of the part
+pub cols-are-edges : {t : Tree} (p : Plan t) → All (λ e. Mem e (edges 0 t)) (cols p 0 (span t))
+cols-are-edges {t} p = all-of (cols p 0 (span t)) (λ e m. occurs-mem same? e (edges 0 t) (omega (arith, each-drawn e p 0 (span t) (zero-add (span t)), mem-occurs same? e m)))
+
+-- there are some, and not too many; and few levels
+pub sizes : {t : Tree} (p : Plan t) → 2 ≤ span t → span t ≤ 1023 → (1 ≤ length (cols p 0 (span t))) × (length (cols p 0 (span t)) < 4096) × (levels p < 1024)
+sizes {t} p h k = omega (arith, width p 0 (span t), umbrellas-bound p)
+
+-- the chart of the plan drawn, laid out
+pub laid-out : (n : ℕ) (ds : List Edge) → Triangulated n ds → 3 ≤ n → (b : ℕ) → b ≡ levels (best (treeOf n ds))
+    → bytesOf (layout (n - 1) b (rows (best (treeOf n ds))) (cols (best (treeOf n ds)) 0 (n - 1)) (edges 0 (treeOf n ds))) ≡ bytesOf (chart (best (treeOf n ds)))
+unfolding chart
+laid-out n ds T h b e =
+    let s : n - 1 ≡ span (treeOf n ds) = omega (arith, tree-of n ds T .size) in
+    rw (e, s)
+
+-- the answer of the operation
+pub drawn-refused : (s out : List ℕ) (k : ℕ) → readSheet s ≡ refused k → refusal k out ≡ written (drawn s) out
+unfolding drawn charted written
+drawn-refused s out k e = rw e
+
+pub drawn-held : (s out : List ℕ) (p : Polygon) → readSheet s ≡ held p → written (write (bytesOf (chartOf p))) out ≡ written (drawn s) out
+unfolding drawn charted
+drawn-held s out p e = rw e
