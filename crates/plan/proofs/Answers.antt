@@ -1,20 +1,18 @@
 -- From the tables and counts of a part, and from what a sheet holds, to what the operation answers.
 -- Rests on Held.antt and Counted.antt, on the theorems of the crate umbrella and on the laws of reading of the crate sheet.
-use mathlib.Core.Path.{_≡_, refl, sym, _∙_}
+use mathlib.Core.Path.{_≡_, refl, _∙_}
 use mathlib.Core.List.{List}
-use Prim.Native.Nat.{ℕ, suc, _+_, _*_, _-_}
-use native.Mathlib.Nat.{add-zero}
+use Prim.Native.Nat.{ℕ, _+_, _*_, _-_}
 use native.Mathlib.Omega.{arith}
 use lib.ListN.{length, take, replicate, length-replicate}
 use Rattle.polygon.specs.Polygon.{Polygon, Triangulated}
-use Rattle.polygon.specs.Tree.{Tree, leaf, treeOf}
+use Rattle.polygon.specs.Tree.{Tree, treeOf}
 use Rattle.keys.specs.Keys.{edgesOf}
 use Rattle.sheet.specs.Sheet.{refused, held, readSheet}
 use Rattle.sheet.specs.Held.{polygonOf}
 use Rattle.sheet.specs.declared.Head.{Head}
 use Rattle.sheet.proofs.Asks.{held-form}
 use Rattle.sheet.proofs.Valid.{form-triangulates}
-use Rattle.umbrella.specs.Plan.{levels, umbrellas, stems}
 use Rattle.umbrella.specs.Numbers.{ud, handle, fanA, fanB}
 use Rattle.umbrella.specs.Best.{best}
 use Rattle.umbrella.proofs.Theorems.{computed-has}
@@ -26,9 +24,9 @@ use Rattle.plan.specs.declared.Planned.the-variants.{Counts, Refused}
 use Rattle.plan.specs.Shows.{Shows}
 use Rattle.plan.specs.Numbered.{six, Stored, Known}
 use Rattle.plan.specs.Roles.{counted}
-use Rattle.plan.specs.Answer.{refusal, countsOf, plannedOf, answer, planned, packedPlan}
+use Rattle.plan.specs.Answer.{countsOf, plannedOf, answer, planned, packedPlan}
 use Rattle.plan.proofs.Held.{holds}
-use Rattle.plan.proofs.Counted.{hung-is}
+use Rattle.plan.proofs.Counted.{counted-best}
 
 -- a table as it is made, and the tables after the recursion for the levels
 abbrev fresh : List ℕ
@@ -47,14 +45,8 @@ known-stored {apex} {left} {right} s S =
     }
 
 -- the counts of the plan drawn
-umbrellas-are : (t : Tree) (d : ℕ) → counted Hung d t .umbrellas ≡ umbrellas (best t)
-umbrellas-are t d = hung-is (λ u s. u) suc suc refl (λ n. omega arith) (λ n. omega arith) t d
-
-stems-are : (t : Tree) (d : ℕ) → counted Hung d t .stems ≡ stems (best t)
-stems-are t d = hung-is (λ u s. s) (λ n. n) suc refl (λ n. omega arith) (λ n. omega arith) t d
-
 pub part-planned : (t : Tree) (d : ℕ) (s : Six) (x : Tally) → s ≡ six t → x ≡ counted Hung d t → plannedOf (Counts (s .ud) (x .umbrellas) (x .stems)) ≡ countsOf (best t)
-part-planned t d s x p q = rw (p, q, umbrellas-are t d, stems-are t d, ← computed-has t)
+part-planned t d s x p q = let k = q ∙ counted-best t d in rw (p, k, ← computed-has t)
 
 -- the part that a sheet holds
 pub held-triangulated : (s : List ℕ) (p : Polygon) → readSheet s ≡ held p → Triangulated (p .n) (p .ds)

@@ -1,20 +1,17 @@
 -- The counts by roles are those of the plan drawn. Rests on the definitions of Best.antt of the crate umbrella, and on the inequalities between the six numbers there.
-use mathlib.Core.Path.{_≡_, refl, ap, ap₂, sym, _∙_}
-use mathlib.Core.Logic.{_⊎_}
-use Prim.Native.Nat.{ℕ, zero, suc, _+_, _-_, _≤_, _<_, min, max}
+use mathlib.Core.Path.{_≡_, refl, _∙_}
+use Prim.Native.Nat.{ℕ, suc, _+_, _-_, _≤_, max}
 use native.Mathlib.Decide.{decLe}
-use native.Mathlib.Nat.{add-zero}
 use native.Mathlib.Omega.{arith}
 use Rattle.polygon.specs.Lists.{choose}
-use Rattle.polygon.specs.Tree.{Tree, leaf, node, span}
-use Rattle.umbrella.specs.Plan.{fold, foldLeft, foldRight, foldLeftGate, foldRightGate, foldStem}
+use Rattle.polygon.specs.Tree.{Tree, leaf, node}
+use Rattle.umbrella.specs.Plan.{fold, foldLeft, foldRight, foldLeftGate, foldRightGate, foldStem, umbrellas, stems}
 use Rattle.umbrella.specs.Numbers.{ud, handle, fanA, fanB, partA, partB}
-use Rattle.umbrella.specs.Best.{Over, Node, two, over-node, umbrella, leftAt, rightAt, stemAt, under, best, bestLeft, bestRight, gateLeft, gateRight, bestStem}
-use Rattle.umbrella.proofs.Inequalities.{Inequalities, inequalities}
+use Rattle.umbrella.specs.Best.{Over, Node, two, umbrella, leftAt, rightAt, stemAt, under, best, bestLeft, bestRight, gateLeft, gateRight, bestStem}
+use Rattle.umbrella.proofs.Inequalities.{inequalities}
 use Rattle.plan.specs.declared.counts.Role.{Role}
 use Rattle.plan.specs.declared.counts.Role.the-variants.{Hung, LeftRim, RightRim, Entered}
-use Rattle.plan.specs.declared.counts.Step.{Step}
-use Rattle.plan.specs.Roles.{rimRole, on, ownStems, gateStep, stepAt, total}
+use Rattle.plan.specs.Roles.{rimRole, on, ownStems, gateStep, stepAt, total, counted}
 use Rattle.plan.proofs.Steps.{rim-hung, rim-entered, left-empty-end, left-empty-right, right-empty-end, right-empty-left, both-left, both-right, both-past}
 
 -- a number g of the umbrellas and stems at a triangle, and the steps of the fold that it belongs to
@@ -123,7 +120,7 @@ module _ (g : ℕ → ℕ → ℕ) (bare stemmed : ℕ → ℕ) (none-added : g 
   mutual
     unfolding best ud
 
-    pub hung-is : (t : Tree) (d : ℕ) → HungIs d t
+    hung-is : (t : Tree) (d : ℕ) → HungIs d t
     hung-is leaf d = hung-side d
     hung-is (node l r) d = root-next d l r (left-is l (under l r) (omega (arith, inequalities l))) (right-is r (under l r) (omega (arith, inequalities r)))
 
@@ -138,3 +135,13 @@ module _ (g : ℕ → ℕ → ℕ) (bare stemmed : ℕ → ℕ) (none-added : g 
     entered-is : (t : Tree) (d : ℕ) → EnteredIs d t
     entered-is leaf d n = elim n [ ]
     entered-is (node a b) d n = gate-next d a b (hung-is a d) (hung-is b d) (λ m. entered-is a d m) (λ m. entered-is b d m) (decLe (ud a) d) (decLe (ud b) d) (decLe (handle a) d)
+
+-- The umbrellas and stems of the plan drawn of a piece; d is not looked at there.
+pub counted-best : (t : Tree) (d : ℕ) → counted Hung d t ≡ record { umbrellas = umbrellas (best t); stems = stems (best t) }
+counted-best t d = rw (all-umbrellas, all-stems)
+  where
+    all-umbrellas : total (λ u s. u) Hung d t ≡ umbrellas (best t)
+    all-umbrellas = hung-is (λ u s. u) suc suc refl (λ n. omega arith) (λ n. omega arith) t d
+
+    all-stems : total (λ u s. s) Hung d t ≡ stems (best t)
+    all-stems = hung-is (λ u s. s) (λ n. n) suc refl (λ n. omega arith) (λ n. omega arith) t d

@@ -1,6 +1,6 @@
 -- Laws of the counts as the recursion over the tree meets them: what the tables give at a triangle, how the counts of its two pieces add up, and that they stay small.
 -- Rests on Pieces.antt and Held.antt.
-use mathlib.Core.Path.{_≡_, refl, sym, _∙_}
+use mathlib.Core.Path.{_≡_}
 use mathlib.Core.List.{List}
 use Prim.Native.Nat.{ℕ, zero, suc, _+_, _≤_, _<_}
 use native.Mathlib.Decide.{decLe}
@@ -15,7 +15,7 @@ use Rattle.plan.specs.declared.counts.Step.{Step}
 use Rattle.plan.specs.declared.counts.Tally.{Tally}
 use Rattle.plan.specs.Numbered.{Holds, Known}
 use Rattle.plan.specs.Roles.{ownStems, gateStep, stepAt, stepOf, total, counted}
-use Rattle.plan.proofs.Pieces.{Parts, opened, closed}
+use Rattle.plan.proofs.Pieces.{Parts, opened}
 use Rattle.plan.proofs.Held.{held-root}
 
 -- what the tables give at an entry that is no side

@@ -1,9 +1,9 @@
 -- One pass over ascending diagonals gives the entry of each diagonal's left piece and, for each corner, that of the edge to its farthest neighbour above it.
 -- Rests on Scan.antt of the crate polygon.
 use mathlib.Core.Path.{_≡_, refl, ap, sym, subst, _∙_}
-use mathlib.Core.Logic.{_⊎_, inl, inr}
+use mathlib.Core.Logic.{inl, inr}
 use mathlib.Core.List.{List, [], _∷_, _++_}
-use Prim.Native.Nat.{ℕ, zero, suc, _+_, _/_, _<_, _≤_}
+use Prim.Native.Nat.{ℕ, suc, _+_, _/_, _<_, _≤_}
 use native.Mathlib.Decide.{ℕ-discrete}
 use native.Mathlib.Numerals.{add-one}
 use native.Mathlib.Omega.{arith}
@@ -39,7 +39,7 @@ pub record Filled (n : ℕ) (ds : List Edge) (room : ℕ) (last left : List ℕ)
 
 module _ (n : ℕ) (ds : List Edge) (D : Diagonals n ds) (j : ℕ) (h : j < length ds) where
   -- the diagonal at j
-  abbrev pub e : Edge
+  abbrev e : Edge
   e = getD ds j (0 — 0)
 
   parts : ds ≡ take j ds ++ (e ∷ drop (suc j) ds)

@@ -2,7 +2,7 @@
 -- Rests on Pieces.antt.
 use mathlib.Core.Path.{_≡_, refl, ap, ap₂, sym, _∙_}
 use mathlib.Core.List.{List}
-use Prim.Native.Nat.{ℕ, suc, _+_, _<_, _≤_}
+use Prim.Native.Nat.{ℕ, _+_, _<_}
 use native.Mathlib.Decide.{ℕ-discrete}
 use native.Mathlib.Omega.{arith}
 use lib.ListN.{length, set, getD, length-set, List·getD-eq-default}
@@ -10,7 +10,7 @@ use lib.Seq.{getD-set-same, getD-set-other}
 use Rattle.polygon.specs.Tree.{Tree, leaf, node}
 use Rattle.plan.specs.Shows.{Shows, side, triangle}
 use Rattle.plan.specs.Numbered.{stored, Holds}
-use Rattle.plan.proofs.Pieces.{Parts, opened, closed}
+use Rattle.plan.proofs.Pieces.{opened, closed}
 
 module _ {apex left right : List ℕ} where
   -- a side joins neighbours

@@ -1,3 +1,4 @@
+-- The tables (Places, Entries, ShowsTree), what they show (Pieces), the numbers (Storing, Held), the counts (Steps, Counted, Counting) and the operation's answer (Answers).
 pub mod Places
 pub mod Entries
 pub mod ShowsTree

@@ -1,5 +1,6 @@
--- What is known of a piece that the tables show: whether it is empty, its span, its two parts; and that it is one piece only.
-use mathlib.Core.Path.{_≡_, refl, ap₂, sym, _∙_}
+-- What is known of a piece that the tables show: its span, and whether it is empty or has two parts.
+-- Rests on the definition alone.
+use mathlib.Core.Path.{_≡_, refl}
 use mathlib.Core.List.{List}
 use Prim.Native.Nat.{ℕ, _+_, _<_, _≤_}
 use native.Mathlib.Omega.{arith}

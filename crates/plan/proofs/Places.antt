@@ -1,5 +1,6 @@
 -- A table that is filled place after place, and lists up to a place.
-use mathlib.Core.Path.{_≡_, refl, sym}
+-- Assumes nothing.
+use mathlib.Core.Path.{_≡_, refl}
 use mathlib.Core.List.{List, [], _∷_}
 use Prim.Native.Nat.{ℕ, zero, suc, _+_, _<_}
 use native.Mathlib.Decide.{ℕ-discrete}

@@ -1,6 +1,6 @@
 -- Tables with the apex and the entries of the two pieces at each diagonal and at the root edge show the part's tree.
 -- Rests on the pieces and on the crossing test of the crate polygon.
-use mathlib.Core.Path.{_≡_, refl, ap, sym, _∙_}
+use mathlib.Core.Path.{_≡_, _∙_}
 use mathlib.Core.Logic.{_⊎_, inl, inr}
 use mathlib.Core.List.{List}
 use Prim.Native.Nat.{ℕ, zero, suc, _+_, _-_, _<_, _≤_}
@@ -10,9 +10,8 @@ use native.Mathlib.Omega.{arith}
 use lib.ListN.{length, set, getD, List·getD-eq-default}
 use Rattle.polygon.specs.Lists.{All}
 use Rattle.polygon.specs.Polygon.{Edge, _—_, Triangulated}
-use Rattle.polygon.specs.Tree.{Tree, leaf, node, far, treeOf}
-use Rattle.polygon.proofs.Lists.{all-imp, all-both}
-use Rattle.polygon.proofs.Order.{low-of, high-of}
+use Rattle.polygon.specs.Tree.{leaf, far, treeOf}
+use Rattle.polygon.proofs.Lists.{all-both}
 use Rattle.polygon.proofs.Far.{Far, far-ok, far-is}
 use Rattle.polygon.proofs.TreeTheorem.{root}
 use Rattle.polygon.proofs.Piece.{piece, piece-side, piece-node, tree-piece}
@@ -24,7 +23,7 @@ use Rattle.plan.proofs.Places.{getD-any, placed-next}
 
 module _ (n : ℕ) (ds : List Edge) (P : Triangulated n ds) where
   -- the edge at an entry: a diagonal, or behind them the root edge
-  abbrev pub edgeAt : ℕ → Edge
+  abbrev edgeAt : ℕ → Edge
   edgeAt e = getD ds e (root n)
 
   -- the edges at the entries one by one
@@ -36,10 +35,10 @@ module _ (n : ℕ) (ds : List Edge) (P : Triangulated n ds) where
       go (no h) = rw (List·getD-eq-default ds (root n) {n = e} (omega arith)) r
 
   -- each is no side, lies below n, and its apex reaches as far as its higher corner
-  pub record EdgeIs (x : Edge) : Type 0 where
-    pub wide : suc (x .0) < x .1
-    pub corner : x .1 < n
-    pub passes : Passes n ds x
+  record EdgeIs (x : Edge) : Type 0 where
+    wide : suc (x .0) < x .1
+    corner : x .1 < n
+    passes : Passes n ds x
 
   edge-is : (e : ℕ) → EdgeIs (edgeAt e)
   edge-is =
@@ -62,10 +61,10 @@ module _ (n : ℕ) (ds : List Edge) (P : Triangulated n ds) where
   stands {e} (inr h) = inr (omega arith, getD-any ds e (root n) (0 — 0) (h .0) ∙ h .1)
 
   -- what the tables have at each entry
-  pub record Tabled (apex left right : List ℕ) (e : ℕ) : Type 0 where
-    pub apex-is : getD apex e 0 ≡ apexOf ds (edgeAt e)
-    pub left-is : Entry ds (getD left e 0) (edgeAt e .0) (apexOf ds (edgeAt e))
-    pub right-is : Entry ds (getD right e 0) (apexOf ds (edgeAt e)) (far (apexOf ds (edgeAt e)) n ds)
+  record Tabled (apex left right : List ℕ) (e : ℕ) : Type 0 where
+    apex-is : getD apex e 0 ≡ apexOf ds (edgeAt e)
+    left-is : Entry ds (getD left e 0) (edgeAt e .0) (apexOf ds (edgeAt e))
+    right-is : Entry ds (getD right e 0) (apexOf ds (edgeAt e)) (far (apexOf ds (edgeAt e)) n ds)
 
   module _ (small : n ≤ 1024) (apex left right : List ℕ) (T : (e : ℕ) → e ≤ length ds → Tabled apex left right e) where
     shows-side : (e u v : ℕ) → e ≡ 65535 → v ≡ suc u → Shows apex left right e u v (piece ds u v)
@@ -88,7 +87,7 @@ module _ (n : ℕ) (ds : List Edge) (P : Triangulated n ds) where
         let sr : Shows apex left right (getD right e 0) c v (piece ds c v) = shows-piece k (getD right e 0) c v (omega (arith, F .above)) (F .below) (stands r) in
         rw (piece-node ds u v (E .wide)) (triangle {e = e} {u = u} {v = v} {l = piece ds u c} {r = piece ds c v} (omega (arith, s .0, P .full)) (rw a sl) (rw a sr))
 
-    pub shows-tree : Shows apex left right (length ds) 0 (n - 1) (treeOf n ds)
+    shows-tree : Shows apex left right (length ds) 0 (n - 1) (treeOf n ds)
     shows-tree =
         let e : edgeAt (length ds) ≡ root n = List·getD-eq-default ds (root n) {n = length ds} (omega arith) in
         rw (tree-piece ds n) (shows-piece (n - 1) (length ds) 0 (n - 1) (omega arith) (omega (arith, P .full)) (inr (omega arith, e)))

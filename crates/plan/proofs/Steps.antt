@@ -1,11 +1,10 @@
 -- The cases of a step from a triangle to the two pieces beyond it, each by the tests that lead to it.
+-- Rests on the definitions alone.
 use mathlib.Core.Path.{_≡_, _∙_}
 use Prim.Native.Nat.{ℕ, zero, suc, _<_, _≤_}
 use native.Mathlib.Decide.{decLe}
 use native.Mathlib.Omega.{arith}
-use Rattle.polygon.specs.Lists.{choose}
 use Rattle.polygon.proofs.Lists.{choose-yes, choose-no}
-use Rattle.plan.specs.declared.counts.Role.{Role}
 use Rattle.plan.specs.declared.counts.Role.the-variants.{Hung, Entered}
 use Rattle.plan.specs.Roles.{rimRole, on, ownStems, gateStep}
 

@@ -1,4 +1,5 @@
 -- Laws of the six numbers and of the tables that keep four of them, as the recursion over the tree meets them.
+-- Rests on the theorems of the crate umbrella.
 use mathlib.Core.Path.{_≡_, refl, _∙_}
 use mathlib.Core.List.{List}
 use Prim.Native.Nat.{ℕ, _+_, _<_, max}
@@ -6,7 +7,7 @@ use native.Mathlib.Numerals.{add-one}
 use native.Mathlib.Omega.{arith}
 use lib.ListN.{getD, set}
 use Rattle.polygon.specs.Tree.{Tree, leaf, node, span}
-use Rattle.umbrella.specs.Numbers.{ud, handle, fanA, fanB, partA, partB}
+use Rattle.umbrella.specs.Numbers.{ud, handle}
 use Rattle.umbrella.specs.Best.{best}
 use Rattle.umbrella.proofs.Inequalities.{inequalities}
 use Rattle.umbrella.proofs.Theorems.{computed-has, umbrellas-bound}
@@ -18,7 +19,7 @@ unfolding ud
 six-node l r = simp add-one
 
 -- a piece has fewer levels than sides besides its root edge
-pub ud-below : (t : Tree) → ud t < span t
+ud-below : (t : Tree) → ud t < span t
 ud-below t = omega (arith, computed-has t, umbrellas-bound (best t))
 
 -- what `join` asks

@@ -1,8 +1,7 @@
 -- Document 01, "Operations and their refusals": Plan gives levels, umbrellas and stems of the plan drawn, or a refusal 1 to 7 and zeros.
 use mathlib.Core.List.{List}
 use Prim.Native.Nat.{ℕ, _+_, _*_}
-use Rattle.polygon.specs.Polygon.{Polygon}
-use Rattle.polygon.specs.Tree.{Tree, treeOf}
+use Rattle.polygon.specs.Tree.{Tree}
 use Rattle.sheet.specs.Sheet.{Reading, refused, held, readSheet}
 use Rattle.umbrella.specs.Plan.{Plan, levels, umbrellas, stems}
 use Rattle.umbrella.specs.Best.{planOf}

@@ -24,7 +24,7 @@ pub record Shown (apex left right : List ℕ) (e u v : ℕ) : Type 0 where
 abbrev pub Entry : List Edge → ℕ → ℕ → ℕ → Type 0
 Entry ds e u v = ((e ≡ 65535) × (v ≡ suc u)) ⊎ ((e < length ds) × (getD ds e (0 — 0) ≡ u — v))
 
--- for each corner but the last two ends of the outline, the entry of the edge to the farthest corner that the diagonals es join it to from below
+-- for each corner but the last, the entry of the edge to the farthest corner that the diagonals es join it to from below
 abbrev pub Lasts : ℕ → List Edge → List Edge → List ℕ → Type 0
 Lasts n ds es last = (c : ℕ) → suc c < n → Entry ds (getD last c 0) c (far c n es)
 

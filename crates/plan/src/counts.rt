@@ -2,7 +2,7 @@
 // What a piece is to the umbrella that reaches it, its role, and the levels d under that umbrella say how the plan goes on from its triangle to the two pieces beyond.
 // specs/Roles.antt has the same in definitions; the plan drawn is that of Best.antt of the crate umbrella.
 ghost use mathlib.Core.Path.{_≡_};
-ghost use Prim.Native.Nat.{ℕ, _<_, _≤_};
+ghost use Prim.Native.Nat.{_<_, _≤_};
 ghost use lib.ListN.{getD};
 ghost use Rattle.polygon.specs.Tree.{Tree};
 ghost use Rattle.plan.specs.Numbered.{Known};
@@ -120,13 +120,13 @@ fn step_at(
 }
 
 // The number of an edge in a table: 0 for a side, whose entry lies past its end.
-fn number(table: &[u16], e: usize) -> u16
+pub fn number(table: &[u16], e: usize) -> u16
     ensures { λ r. ⌜ r ≡ getD (now (table .entry)) e 0 ⌝ }
 {
     if e < table.len() { table[e] } else { 0 }
 }
 
-// Counts in the piece at e, on the corners u to v.
+// Counts in the piece at e, on the corners u to v, by its role with d levels under the umbrella; for a hung piece d is not looked at.
 pub fn count(
     apex: &[u16; 1022],
     left: &[u16; 1022],

@@ -1,7 +1,7 @@
 // The six numbers of each piece (document 004, chapter 6), worked out recursively over the tree: one call for each triangle and each side, and the span v - u falls at each call.
-// The first four numbers of each edge are kept in tables, for the choice of the umbrellas. Definitions: Numbers.antt of the crate umbrella; specs/Six.antt says how the code holds them.
+// The first four numbers of each edge are kept in tables, for the choice of the umbrellas. Definitions: Numbers.antt of the crate umbrella; specs/Numbered.antt says how the code holds them.
 ghost use mathlib.Core.Path.{_≡_};
-ghost use Prim.Native.Nat.{ℕ, _<_, max, min};
+ghost use Prim.Native.Nat.{_<_, max, min};
 ghost use Rattle.polygon.specs.Tree.{Tree};
 ghost use Rattle.plan.specs.Shows.{Shows, Shown};
 ghost use Rattle.plan.specs.Numbered.{join, Stored};
@@ -16,6 +16,7 @@ pub struct Six {
     pub part_b: u16,
 }
 
+// The larger of two numbers.
 fn larger(a: u16, b: u16) -> u16
     ensures { λ r. ⌜ r ≡ max a b ⌝ }
 {

@@ -1,5 +1,4 @@
 -- The tables, the numbers and the counts of the part's tree.
-use mathlib.Core.Path.{_≡_, _∙_}
 use borrow.Author.Needs.{needs}
 use native.Mathlib.Omega.{arith}
 use Rattle.polygon.specs.Tree.{treeOf}
@@ -7,11 +6,6 @@ use Rattle.keys.specs.Keys.{edgesOf}
 use Rattle.plan.proofs.Answers.{known-stored, part-planned}
 use Rattle.plan.proofs.plan_part.Statement.{statement}
 use Rattle.plan.proofs.plan_part.Tie as tie
-use Rattle.plan.proofs.plan_part.Reads as reads
-use Rattle.plan.proofs.plan_part.Lts as lts
-use Rattle.plan.proofs.counts.count.Reads as count-reads
-use Rattle.plan.proofs.levels.levels.Reads as levels-reads
-use Rattle.plan.proofs.tables.tables.Reads as tables-reads
 
 slice-aggregate-tables : tie.Need-slice-aggregate-tables
 slice-aggregate-tables c = search needs

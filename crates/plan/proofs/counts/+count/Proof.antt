@@ -1,5 +1,5 @@
 -- The span falls at each call; each step by the laws of Counting.antt.
-use mathlib.Core.Path.{_≡_, sym, _∙_}
+use mathlib.Core.Path.{_≡_, _∙_}
 use Prim.Native.Nat.{ℕ, _-_, _<_}
 use borrow.Author.Needs.{needs}
 use native.Mathlib.Omega.{arith}
@@ -7,7 +7,6 @@ use Rattle.polygon.specs.Tree.{Tree}
 use Rattle.plan.specs.Roles.{stepOf}
 use Rattle.plan.proofs.Pieces.{closed}
 use Rattle.plan.proofs.Counting.{KnownParts, known-parts, counted-side, counted-triangle, sums}
-use Prim.Native.Nat.{ℕ, _<_}
 use borrow.Fn.Kinds.{In}
 use borrow.Fn.PlainCycle.{Measures, is, falls, and}
 use Rattle.plan.proofs.counts.count.Reads as count

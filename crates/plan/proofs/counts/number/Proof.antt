@@ -4,8 +4,6 @@ use borrow.Author.Needs.{needs}
 use lib.ListN.{List·getD-eq-default}
 use Rattle.plan.proofs.counts.number.Statement.{statement}
 use Rattle.plan.proofs.counts.number.Tie as tie
-use Rattle.plan.proofs.counts.number.Reads as reads
-use Rattle.plan.proofs.counts.number.Lts as lts
 
 mul-result : tie.Need-mul-result
 mul-result c = search needs

@@ -4,11 +4,9 @@ use native.Mathlib.Omega.{arith}
 use Rattle.plan.proofs.Steps.{rim-hung, rim-entered}
 use Rattle.plan.proofs.counts.rim_role.Statement.{statement}
 use Rattle.plan.proofs.counts.rim_role.Tie as tie
-use Rattle.plan.proofs.counts.rim_role.Reads as reads
-use Rattle.plan.proofs.counts.rim_role.Lts as lts
 
 returns : tie.Need-returns
-returns c = sym (rim-hung (c .before .args .ud) (c .before .args .d) (c .if1 .taken))
+returns c = sym (rim-hung (c .before .args .ud) (c .before .args .d) (omega arith))
 
 returns-2 : tie.Need-returns-2
 returns-2 c = sym (rim-entered (c .before .args .ud) (c .before .args .d) (omega arith))

@@ -1,16 +1,9 @@
 -- By the four roles.
-use mathlib.Core.Path.{_≡_, ap, sym, _∙_}
+use mathlib.Core.Path.{_∙_}
 use borrow.Author.Needs.{needs}
-use Prim.Native.Nat.{ℕ, _-_}
 use Rattle.plan.specs.Roles.{stepAt}
 use Rattle.plan.proofs.counts.step_at.Statement.{statement}
 use Rattle.plan.proofs.counts.step_at.Tie as tie
-use Rattle.plan.proofs.counts.step_at.Reads as reads
-use Rattle.plan.proofs.counts.step_at.Lts as lts
-use Rattle.plan.proofs.counts.gate_step.Reads as gate-step-reads
-use Rattle.plan.proofs.counts.on.Reads as on-reads
-use Rattle.plan.proofs.counts.own_stems.Reads as own-stems-reads
-use Rattle.plan.proofs.counts.rim_role.Reads as rim-role-reads
 
 enum-told : tie.Need-enum-told
 enum-told c = search needs

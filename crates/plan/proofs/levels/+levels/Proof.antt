@@ -1,11 +1,8 @@
 -- The span falls at each call; each step by the laws of Storing.antt.
-use mathlib.Core.Path.{_≡_, refl, _∙_}
-use Prim.Native.Nat.{ℕ, _+_, _-_, _<_}
-use borrow.Author.Needs.{needs}
+use Prim.Native.Nat.{ℕ, _-_, _<_}
 use native.Mathlib.Omega.{arith}
 use Rattle.plan.proofs.Pieces.{Parts, opened, closed}
 use Rattle.plan.proofs.Storing.{join-fits, stored-side, stored-triangle}
-use Prim.Native.Nat.{ℕ, _<_}
 use borrow.Fn.Kinds.{In}
 use borrow.Fn.PlainCycle.{Measures, is, falls, and}
 use Rattle.plan.proofs.levels.levels.Reads as levels

@@ -1,13 +1,8 @@
 -- Number by number.
 use borrow.Author.Needs.{needs}
-use native.Mathlib.Omega.{arith}
 use Prim.Native.Nat.{_+_}
 use Rattle.plan.proofs.levels.join.Statement.{statement}
 use Rattle.plan.proofs.levels.join.Tie as tie
-use Rattle.plan.proofs.levels.join.Reads as reads
-use Rattle.plan.proofs.levels.join.Lts as lts
-use Rattle.plan.proofs.levels.larger.Reads as larger-reads
-use Rattle.plan.proofs.levels.least.Reads as least-reads
 
 least-requires : tie.Need-least-requires
 least-requires c κs = search needs

@@ -1,16 +1,12 @@
 -- The loop's invariant is `Filled`.
-use mathlib.Core.Path.{_≡_, refl, sym, _∙_}
-use Prim.Native.Nat.{ℕ, _-_}
-use borrow.Author.Needs.{needs}
+use mathlib.Core.Path.{refl, sym, _∙_}
+use Prim.Native.Nat.{_-_}
 use native.Mathlib.Omega.{arith}
-use lib.ListN.{length, length-set, length-map}
+use lib.ListN.{length, length-map}
 use Rattle.keys.specs.Keys.{edgeOf, edgesOf}
 use Rattle.plan.proofs.Entries.{Filled, lasts-begin, low-at, diagonal-at, filled-next, filled-end}
 use Rattle.plan.proofs.tables.lefts.Statement.{statement}
 use Rattle.plan.proofs.tables.lefts.Tie as tie
-use Rattle.plan.proofs.tables.lefts.Reads as reads
-use Rattle.plan.proofs.tables.lefts.Lts as lts
-use Rattle.keys.proofs.low.Reads as low-reads
 
 abbrev Inv-loop : tie.InvT-loop
 Inv-loop keys n last₀ left₀ j₀ last left j = Filled n (edgesOf keys) (length left₀) last left j

@@ -1,14 +1,11 @@
 -- The loop's invariant: the entries before j are filled.
-use mathlib.Core.Path.{_≡_, refl, sym, _∙_}
+use mathlib.Core.Path.{_≡_, refl}
 use Prim.Native.Nat.{ℕ, _-_, _<_, _≤_}
-use borrow.Author.Needs.{needs}
 use native.Mathlib.Omega.{arith}
 use lib.ListN.{length, getD, length-set}
 use Rattle.keys.proofs.Tables.{table-next}
 use Rattle.plan.proofs.tables.rights.Statement.{statement}
 use Rattle.plan.proofs.tables.rights.Tie as tie
-use Rattle.plan.proofs.tables.rights.Reads as reads
-use Rattle.plan.proofs.tables.rights.Lts as lts
 
 abbrev Inv-loop : tie.InvT-loop
 Inv-loop apex last size right₀ j₀ right j = (j ≤ size) × (length right ≡ length right₀) × ((i : ℕ) → i < j → getD right i 0 ≡ getD last (getD apex i 0) 0)

@@ -1,18 +1,12 @@
 -- The tables of the diagonals, then the root edge's entries, then the right pieces, by the laws of ShowsTree.antt.
-use mathlib.Core.Path.{_≡_, refl, sym, _∙_}
-use Prim.Native.Nat.{ℕ, _+_, _-_, _<_, _≤_}
+use mathlib.Core.Path.{sym}
 use borrow.Author.Needs.{needs}
 use native.Mathlib.Omega.{arith}
-use lib.ListN.{length, getD, length-set, length-map, getD-replicate}
+use lib.ListN.{length, length-set, length-map, getD-replicate}
 use Rattle.keys.specs.Keys.{edgeOf, edgesOf}
 use Rattle.plan.proofs.ShowsTree.{apex-below, filled-shows}
 use Rattle.plan.proofs.tables.tables.Statement.{statement}
 use Rattle.plan.proofs.tables.tables.Tie as tie
-use Rattle.plan.proofs.tables.tables.Reads as reads
-use Rattle.plan.proofs.tables.tables.Lts as lts
-use Rattle.keys.proofs.cross.apexes.Reads as apexes-reads
-use Rattle.plan.proofs.tables.lefts.Reads as lefts-reads
-use Rattle.plan.proofs.tables.rights.Reads as rights-reads
 
 slice-aggregate-apexes : tie.Need-slice-aggregate-apexes
 slice-aggregate-apexes c = search needs

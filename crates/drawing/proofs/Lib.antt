@@ -1,0 +1,11 @@
+pub mod Cases
+pub mod Ways
+pub mod Induction
+pub mod Planned
+pub mod Writing
+pub mod Orders
+pub mod Recording
+pub mod Placing
+pub mod OnLines
+pub mod Ranked
+pub mod Whole

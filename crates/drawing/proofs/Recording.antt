@@ -1,0 +1,95 @@
+-- What the tables give at an entry that is no side; and how the columns of its two pieces make those of the piece.
+-- Rests on Orders.antt and Writing.antt, and on the laws of the tables in the crate plan.
+use mathlib.Core.Path.{_≡_, sym, _∙_}
+use mathlib.Core.Bool.{Bool, true, false}
+use mathlib.Core.List.{List}
+use Prim.Native.Nat.{ℕ, _+_, _*_, _-_, _≤_, _<_}
+use native.Mathlib.Omega.{arith}
+use lib.ListN.{getD, set}
+use Rattle.polygon.specs.Polygon.{Edge, _—_}
+use Rattle.polygon.specs.Tree.{Tree, leaf, node, span}
+use Rattle.umbrella.specs.Numbers.{ud, handle}
+use Rattle.keys.specs.Keys.{keyOf}
+use Rattle.plan.specs.Numbered.{Holds}
+use Rattle.plan.proofs.Pieces.{Parts, opened}
+use Rattle.plan.proofs.Held.{held-root}
+use Rattle.drawing.specs.declared.steps.Part.{Part}
+use Rattle.drawing.specs.declared.steps.Part.the-variants.{Hung, LeftRim, RightRim}
+use Rattle.drawing.specs.declared.steps.Step.{Step}
+use Rattle.drawing.specs.Parts.{fromRight, isHung, stepAt, stepOf, columns}
+use Rattle.drawing.specs.Tables.{Recorded, differ, pick, lay, both, Drawn}
+use Rattle.drawing.proofs.Writing.{none, one, seq, same}
+use Rattle.drawing.proofs.Orders.{own-first, own-last, no-own, side-columns, own-columns, hung-side, rims, lay-length, both-length, few-columns}
+
+pub record RecordedParts (apex left right uds handles : List ℕ) (e u v : ℕ) (t : Tree) : Type 0 where
+  pub parts : Parts apex left right e u v t
+  pub of-l : Recorded apex left right uds handles (getD left e 0) u (getD apex e 0) (parts .l)
+  pub of-r : Recorded apex left right uds handles (getD right e 0) (getD apex e 0) v (parts .r)
+  pub levels-are : getD uds e 0 ≡ ud (node (parts .l) (parts .r))
+  pub not-empty : 1 ≤ getD uds e 0
+  pub step-is : (p : Part) (d : ℕ)
+      → stepAt p d (getD uds (getD left e 0) 0) (getD uds (getD right e 0) 0) (getD handles (getD left e 0) 0) ≡ stepOf p d (parts .l) (parts .r)
+
+pub recorded-parts : {apex left right uds handles : List ℕ} {e u v : ℕ} {t : Tree} → Recorded apex left right uds handles e u v t → (e ≡ 65535 → ⊥) → RecordedParts apex left right uds handles e u v t
+unfolding ud
+recorded-parts {apex} {left} {right} {uds} {handles} {e} {u} {v} {t} K f =
+    let d = opened (K .shows) f in
+    let n : Holds ud left right uds e (node (d .l) (d .r)) = rw (d .is) at (K .ud-held) in
+    let h : Holds handle left right handles e (node (d .l) (d .r)) = rw (d .is) at (K .handle-held) in
+    record {
+      parts = d;
+      of-l = record { shows = d .shows-l; ud-held = n .1; handle-held = h .1 };
+      of-r = record { shows = d .shows-r; ud-held = n .2; handle-held = h .2 };
+      levels-are = n .0;
+      not-empty = omega (arith, n .0);
+      step-is = λ p k. rw (held-root ud left right uds (getD left e 0) (d .l) (n .1), held-root ud left right uds (getD right e 0) (d .r) (n .2), held-root handle left right handles (getD left e 0) (d .l) (h .1));
+    }
+
+-- nothing is drawn of a hung piece that is empty; a rim or stem that is empty has one column
+pub hung-drawn : (d : ℕ) (t : Tree) (u v : ℕ) (turned : Bool) (at : ℕ) (o : List ℕ) → t ≡ leaf → Drawn (lay turned (columns Hung d t u v)) at o o at
+hung-drawn d t u v true at o e = rw (hung-side d t u v e) (none at o)
+hung-drawn d t u v false at o e = rw (hung-side d t u v e) (none at o)
+
+pub side-drawn : (p : Part) (d : ℕ) (t : Tree) (u v : ℕ) (turned : Bool) (k at : ℕ) (o : List ℕ) → isHung p ≡ false → t ≡ leaf → k ≡ keyOf (u — v) → Drawn (lay turned (columns p d t u v)) at o (set o at k) (at + 1)
+side-drawn p d t u v true k at o h e q = rw (side-columns p d t u v h e) (one (u — v) k at o q)
+side-drawn p d t u v false k at o h e q = rw (side-columns p d t u v h e) (one (u — v) k at o q)
+
+-- both rims of an umbrella
+pub rims-drawn : (d : ℕ) (l r : Tree) {t : Tree} (u v c k : ℕ) (turned : Bool) {at n : ℕ} {o o₁ : List ℕ} → t ≡ node l r → c ≡ u + span l → ud (node l r) - 1 ≡ k
+    → Drawn (both turned (lay turned (columns LeftRim k l u c)) (lay turned (columns RightRim k r c v))) at o o₁ n → Drawn (lay turned (columns Hung d t u v)) at o o₁ n
+rims-drawn d l r u v c k turned e m q D = rw (rims d l r u v c k e m q) (same (no-own turned (columns LeftRim k l u c) (columns RightRim k r c v)) D)
+
+-- a rim or a stem, whose own column is the last one, or the first
+module _ (p : Part) (d : ℕ) (l r : Tree) {t : Tree} (u v c : ℕ) (s : Step) (turned : Bool) (f : isHung p ≡ false) (is : t ≡ node l r) (mid : c ≡ u + span l) (step : s ≡ stepOf p d l r)
+    (back other tl tr : Bool) (back-is : back ≡ fromRight p) (other-is : other ≡ differ turned (s .crossed)) (tl-is : tl ≡ pick back other turned) (tr-is : tr ≡ pick back turned other) where
+  abbrev Within : List Edge
+  Within = both other (lay tl (columns (s .left) d l u c)) (lay tr (columns (s .right) d r c v))
+
+  pub last-drawn : (flag : Bool) → flag ≡ differ back turned → flag ≡ true → (k : ℕ) {at n : ℕ} {o o₁ : List ℕ} → k ≡ keyOf (u — v) → Drawn Within at o o₁ n → Drawn (lay turned (columns p d t u v)) at o (set o₁ n k) (n + 1)
+  last-drawn flag g h k {n = n} {o₁ = o₁} q D =
+      let E : differ (fromRight p) turned ≡ true = rw back-is at (sym g ∙ h) in
+      rw (own-columns p d l r u v c s f is mid step)
+      (same (rw (tl-is, tr-is, other-is, back-is) (own-last (u — v) (columns (s .left) d l u c) (columns (s .right) d r c v) (fromRight p) turned (s .crossed) E))
+      (seq D (one (u — v) k n o₁ q)))
+
+  pub first-drawn : (flag : Bool) → flag ≡ differ back turned → flag ≡ false → (k at : ℕ) {n : ℕ} (o : List ℕ) {o₁ : List ℕ} → k ≡ keyOf (u — v) → Drawn Within (at + 1) (set o at k) o₁ n → Drawn (lay turned (columns p d t u v)) at o o₁ n
+  first-drawn flag g h k at o q D =
+      let E : differ (fromRight p) turned ≡ false = rw back-is at (sym g ∙ h) in
+      rw (own-columns p d l r u v c s f is mid step)
+      (same (rw (tl-is, tr-is, other-is, back-is) (own-first (u — v) (columns (s .left) d l u c) (columns (s .right) d r c v) (fromRight p) turned (s .crossed) E))
+      (seq (one (u — v) k at o q) D))
+
+-- where the columns end
+pub end-one : (t : Tree) (p : Part) (d u v : ℕ) (turned : Bool) {at n : ℕ} {o o₁ : List ℕ} → Drawn (lay turned (columns p d t u v)) at o o₁ n → n < at + 2 * span t
+end-one t p d u v turned D = omega (arith, D .end, lay-length turned (columns p d t u v), few-columns t p d u v)
+
+pub end-two : (l r : Tree) (a b : Part) (d u c v : ℕ) (x tl tr : Bool) {at n : ℕ} {o o₁ : List ℕ} → Drawn (both x (lay tl (columns a d l u c)) (lay tr (columns b d r c v))) at o o₁ n → n + 2 ≤ at + 2 * (span l + span r)
+end-two l r a b d u c v x tl tr D =
+    omega (arith, D .end, both-length x (lay tl (columns a d l u c)) (lay tr (columns b d r c v)), lay-length tl (columns a d l u c), lay-length tr (columns b d r c v), few-columns l a d u c, few-columns r b d c v)
+
+-- two pieces, one after the other
+pub two-drawn : (x : Bool) → x ≡ false → {xs ys : List Edge} {at m n : ℕ} {o o₁ o₂ : List ℕ} → Drawn xs at o o₁ m → Drawn ys m o₁ o₂ n → Drawn (both x xs ys) at o o₂ n
+two-drawn x e D E = rw e (seq D E)
+
+pub swapped-drawn : (x : Bool) → x ≡ true → {xs ys : List Edge} {at m n : ℕ} {o o₁ o₂ : List ℕ} → Drawn ys at o o₁ m → Drawn xs m o₁ o₂ n → Drawn (both x xs ys) at o o₂ n
+swapped-drawn x e D E = rw e (seq D E)

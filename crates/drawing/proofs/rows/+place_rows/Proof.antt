@@ -1,0 +1,99 @@
+-- The span falls at each call; each step by the laws of Placing.antt.
+use mathlib.Core.Path.{ap, _∙_}
+use Prim.Native.Nat.{_+_, _*_, _-_}
+use borrow.Author.Needs.{needs}
+use native.Mathlib.Omega.{arith}
+use Rattle.polygon.specs.Tree.{node, span}
+use Rattle.umbrella.proofs.Wide.{nine}
+use Rattle.plan.proofs.Pieces.{ends, closed}
+use Rattle.drawing.proofs.Recording.{recorded-parts}
+use Rattle.drawing.proofs.Placing.{Small, lines-small, side-placed, lines-are, triangle-placed}
+use Prim.Native.Nat.{ℕ, _<_}
+use borrow.Fn.Kinds.{In}
+use borrow.Fn.PlainCycle.{Measures, is, falls, and}
+use Rattle.drawing.proofs.rows.place_rows.Reads as place-rows
+use Rattle.drawing.proofs.rows.place_rows.Kinds as place-rows-kinds
+use Rattle.drawing.proofs.rows.+place_rows.Lts-place_rows as place-rows-lts
+use Rattle.drawing.proofs.rows.lines_at.Reads as lines-at-reads
+use Rattle.drawing.proofs.steps.step_at.Reads as step-at-reads
+use Rattle.plan.proofs.counts.number.Reads as number-reads
+use Rattle.drawing.proofs.rows.+place_rows.{statement}
+use Rattle.drawing.proofs.rows.+place_rows.Tie.{close}
+
+abbrev μ-place-rows : Measures 6 place-rows-kinds.ps ℕ
+μ-place-rows κs a = a .1 .1 .1 .1 .1 .1 .1 .0 - a .1 .1 .1 .1 .1 .1 .0
+
+abbrev place-rows-at : ℕ → In 6 place-rows-kinds.ps
+place-rows-at t = and 6 place-rows-kinds.ps (is 6 place-rows-kinds.ps μ-place-rows t) place-rows.Pre
+
+abbrev place-rows-below : ℕ → In 6 place-rows-kinds.ps
+place-rows-below t = and 6 place-rows-kinds.ps (falls 6 place-rows-kinds.ps _<_ μ-place-rows t) place-rows.Pre
+
+abbrev place-rows-Cs : ℕ → place-rows-lts.Claims
+place-rows-Cs t = (number-reads.Asked, number-reads.Learnt, step-at-reads.Asked, step-at-reads.Learnt, lines-at-reads.Asked, lines-at-reads.Learnt, place-rows-below t, place-rows.Post)
+
+place-rows-returns : (t : ℕ) → place-rows-lts.Need-returns (place-rows-Cs t) (place-rows-at t) place-rows.Post
+place-rows-returns t c = λ x k. side-placed x (c .before .args .p) (c .before .args .d) (c .before .args .far) (c .before .args .near) (c .before .args .u) (c .before .args .rows .now) (closed (k .shows) (c .if1 .taken))
+
+place-rows-mul-c : (t : ℕ) → place-rows-lts.Need-mul-c (place-rows-Cs t) (place-rows-at t) place-rows.Post
+place-rows-mul-c t c = omega (arith, (recorded-parts (c .before .pre .1 .0 .1) (c .if1 .left)) .parts .inside)
+
+place-rows-element-copy-out-c : (t : ℕ) → place-rows-lts.Need-element-copy-out-c (place-rows-Cs t) (place-rows-at t) place-rows.Post
+place-rows-element-copy-out-c t c = omega (arith, (recorded-parts (c .before .pre .1 .0 .1) (c .if1 .left)) .parts .inside)
+
+place-rows-cast-c : (t : ℕ) → place-rows-lts.Need-cast-c (place-rows-Cs t) (place-rows-at t) place-rows.Post
+place-rows-cast-c t c = omega (arith, (recorded-parts (c .before .before .pre .1 .0 .1) (c .before .if1 .left)) .parts, c .before .before .pre .1 .1)
+
+place-rows-mul-i : (t : ℕ) → place-rows-lts.Need-mul-i (place-rows-Cs t) (place-rows-at t) place-rows.Post
+place-rows-mul-i t c = omega (arith, (recorded-parts (c .before .before .pre .1 .0 .1) (c .before .if1 .left)) .parts .inside)
+
+place-rows-element-copy-out-i : (t : ℕ) → place-rows-lts.Need-element-copy-out-i (place-rows-Cs t) (place-rows-at t) place-rows.Post
+place-rows-element-copy-out-i t c = omega (arith, (recorded-parts (c .before .before .pre .1 .0 .1) (c .before .if1 .left)) .parts .inside)
+
+place-rows-cast-i : (t : ℕ) → place-rows-lts.Need-cast-i (place-rows-Cs t) (place-rows-at t) place-rows.Post
+place-rows-cast-i t c = omega (arith, (recorded-parts (c .before .before .before .pre .1 .0 .1) (c .before .before .if1 .left)) .parts, c .before .before .before .pre .1 .1)
+
+place-rows-mul-j : (t : ℕ) → place-rows-lts.Need-mul-j (place-rows-Cs t) (place-rows-at t) place-rows.Post
+place-rows-mul-j t c = omega (arith, (recorded-parts (c .before .before .before .pre .1 .0 .1) (c .before .before .if1 .left)) .parts .inside)
+
+place-rows-element-copy-out-j : (t : ℕ) → place-rows-lts.Need-element-copy-out-j (place-rows-Cs t) (place-rows-at t) place-rows.Post
+place-rows-element-copy-out-j t c = omega (arith, (recorded-parts (c .before .before .before .pre .1 .0 .1) (c .before .before .if1 .left)) .parts .inside)
+
+place-rows-cast-j : (t : ℕ) → place-rows-lts.Need-cast-j (place-rows-Cs t) (place-rows-at t) place-rows.Post
+place-rows-cast-j t c = omega (arith, (recorded-parts (c .before .before .before .before .pre .1 .0 .1) (c .before .before .before .if1 .left)) .parts, c .before .before .before .before .pre .1 .1)
+
+place-rows-number-requires : (t : ℕ) → place-rows-lts.Need-number-requires (place-rows-Cs t) (place-rows-at t) place-rows.Post
+place-rows-number-requires t c κs = search needs
+
+place-rows-number-requires-2 : (t : ℕ) → place-rows-lts.Need-number-requires-2 (place-rows-Cs t) (place-rows-at t) place-rows.Post
+place-rows-number-requires-2 t c κs = search needs
+
+place-rows-number-requires-3 : (t : ℕ) → place-rows-lts.Need-number-requires-3 (place-rows-Cs t) (place-rows-at t) place-rows.Post
+place-rows-number-requires-3 t c κs = search needs
+
+place-rows-step-at-requires : (t : ℕ) → place-rows-lts.Need-step-at-requires (place-rows-Cs t) (place-rows-at t) place-rows.Post
+place-rows-step-at-requires t c κs = search needs
+
+place-rows-number-requires-4 : (t : ℕ) → place-rows-lts.Need-number-requires-4 (place-rows-Cs t) (place-rows-at t) place-rows.Post
+place-rows-number-requires-4 t c κs = search needs
+
+place-rows-lines-at-requires : (t : ℕ) → place-rows-lts.Need-lines-at-requires (place-rows-Cs t) (place-rows-at t) place-rows.Post
+place-rows-lines-at-requires t c κs = let k = (recorded-parts (c .before .before .before .before .before .before .before .before .before .before .before .before .before .pre .1 .0 .1) (c .before .before .before .before .before .before .before .before .before .before .before .before .if1 .left)) in omega (arith, c .before .before .before .before .before .before .before .before .before .before .before .before .before .pre .1 .1, c .number4 .ensures, k .levels-are, k .not-empty, nine (node (k .parts .l) (k .parts .r)) (omega (arith, ends (c .before .before .before .before .before .before .before .before .before .before .before .before .before .pre .1 .0 .1 .shows), ap span (k .parts .is), c .before .before .before .before .before .before .before .before .before .before .before .before .before .pre .1 .1)))
+
+place-rows-place-rows-requires : (t : ℕ) → place-rows-lts.Need-place-rows-requires (place-rows-Cs t) (place-rows-at t) place-rows.Post
+place-rows-place-rows-requires t c κs = let k = (recorded-parts (c .before .before .before .before .before .before .before .before .before .before .before .before .before .before .before .before .before .before .pre .1 .0 .1) (c .before .before .before .before .before .before .before .before .before .before .before .before .before .before .before .before .before .if1 .left)) in let m : Small (50000 - 20 * (c .before .before .before .before .before .before .before .before .before .before .before .before .before .before .before .before .before .before .args .v - c .before .before .before .before .before .before .before .before .before .before .before .before .before .before .before .before .before .before .args .u) + 18) (c .before .before .before .before .lines-at .result) = (rw (c .before .before .before .before .lines-at .ensures) (lines-small (c .before .before .before .before .before .before .before .before .before .before .before .before .before .before .before .before .before .before .args .p) (c .before .before .before .before .before .before .before .step-at .result .crossed) (c .before .before .before .before .before .before .before .before .before .before .before .before .before .before .before .before .before .before .args .d) (c .before .before .before .before .before .number4 .result) (50000 - 20 * (c .before .before .before .before .before .before .before .before .before .before .before .before .before .before .before .before .before .before .args .v - c .before .before .before .before .before .before .before .before .before .before .before .before .before .before .before .before .before .before .args .u)) (c .before .before .before .before .before .before .before .before .before .before .before .before .before .before .before .before .before .before .args .far) (c .before .before .before .before .before .before .before .before .before .before .before .before .before .before .before .before .before .before .args .near) (omega (arith, c .before .before .before .before .before .before .before .before .before .before .before .before .before .before .before .before .before .before .pre .1 .1)) (omega (arith, c .before .before .before .before .before .before .before .before .before .before .before .before .before .before .before .before .before .before .pre .1 .1)) (omega (arith, c .before .before .before .before .before .number4 .ensures, k .levels-are, nine (node (k .parts .l) (k .parts .r)) (omega (arith, ends (c .before .before .before .before .before .before .before .before .before .before .before .before .before .before .before .before .before .before .pre .1 .0 .1 .shows), ap span (k .parts .is), c .before .before .before .before .before .before .before .before .before .before .before .before .before .before .before .before .before .before .pre .1 .1)))))) in (omega (arith, k .parts, c .before .before .before .before .before .before .before .before .before .before .before .before .before .before .before .before .before .before .pre .0), ((k .parts .l, k .of-l), omega (arith, k .parts, c .before .before .before .before .before .before .before .before .before .before .before .before .before .before .before .before .before .before .pre .1 .1, m)))
+
+place-rows-mul-rows : (t : ℕ) → place-rows-lts.Need-mul-rows (place-rows-Cs t) (place-rows-at t) place-rows.Post
+place-rows-mul-rows t c = omega (arith, (recorded-parts (c .before .before .before .before .before .before .before .before .before .before .before .before .before .before .before .before .before .before .before .pre .1 .0 .1) (c .before .before .before .before .before .before .before .before .before .before .before .before .before .before .before .before .before .before .if1 .left)) .parts, c .before .before .before .before .before .before .before .before .before .before .before .before .before .before .before .before .before .before .before .pre .1 .1)
+
+place-rows-element-write-rows : (t : ℕ) → place-rows-lts.Need-element-write-rows (place-rows-Cs t) (place-rows-at t) place-rows.Post
+place-rows-element-write-rows t c = omega (arith, (recorded-parts (c .before .before .before .before .before .before .before .before .before .before .before .before .before .before .before .before .before .before .before .pre .1 .0 .1) (c .before .before .before .before .before .before .before .before .before .before .before .before .before .before .before .before .before .before .if1 .left)) .parts, c .before .before .before .before .before .before .before .before .before .before .before .before .before .before .before .before .before .before .before .pre .1 .1)
+
+place-rows-place-rows-requires-2 : (t : ℕ) → place-rows-lts.Need-place-rows-requires-2 (place-rows-Cs t) (place-rows-at t) place-rows.Post
+place-rows-place-rows-requires-2 t c κs = let k = (recorded-parts (c .before .before .before .before .before .before .before .before .before .before .before .before .before .before .before .before .before .before .before .before .pre .1 .0 .1) (c .before .before .before .before .before .before .before .before .before .before .before .before .before .before .before .before .before .before .before .if1 .left)) in let m : Small (50000 - 20 * (c .before .before .before .before .before .before .before .before .before .before .before .before .before .before .before .before .before .before .before .before .args .v - c .before .before .before .before .before .before .before .before .before .before .before .before .before .before .before .before .before .before .before .before .args .u) + 18) (c .before .before .before .before .before .before .lines-at .result) = (rw (c .before .before .before .before .before .before .lines-at .ensures) (lines-small (c .before .before .before .before .before .before .before .before .before .before .before .before .before .before .before .before .before .before .before .before .args .p) (c .before .before .before .before .before .before .before .before .before .step-at .result .crossed) (c .before .before .before .before .before .before .before .before .before .before .before .before .before .before .before .before .before .before .before .before .args .d) (c .before .before .before .before .before .before .before .number4 .result) (50000 - 20 * (c .before .before .before .before .before .before .before .before .before .before .before .before .before .before .before .before .before .before .before .before .args .v - c .before .before .before .before .before .before .before .before .before .before .before .before .before .before .before .before .before .before .before .before .args .u)) (c .before .before .before .before .before .before .before .before .before .before .before .before .before .before .before .before .before .before .before .before .args .far) (c .before .before .before .before .before .before .before .before .before .before .before .before .before .before .before .before .before .before .before .before .args .near) (omega (arith, c .before .before .before .before .before .before .before .before .before .before .before .before .before .before .before .before .before .before .before .before .pre .1 .1)) (omega (arith, c .before .before .before .before .before .before .before .before .before .before .before .before .before .before .before .before .before .before .before .before .pre .1 .1)) (omega (arith, c .before .before .before .before .before .before .before .number4 .ensures, k .levels-are, nine (node (k .parts .l) (k .parts .r)) (omega (arith, ends (c .before .before .before .before .before .before .before .before .before .before .before .before .before .before .before .before .before .before .before .before .pre .1 .0 .1 .shows), ap span (k .parts .is), c .before .before .before .before .before .before .before .before .before .before .before .before .before .before .before .before .before .before .before .before .pre .1 .1)))))) in (omega (arith, k .parts, c .before .before .before .before .before .before .before .before .before .before .before .before .before .before .before .before .before .before .before .before .pre .0), ((k .parts .r, k .of-r), omega (arith, k .parts, c .before .before .before .before .before .before .before .before .before .before .before .before .before .before .before .before .before .before .before .before .pre .1 .1, m)))
+
+place-rows-returns-2 : (t : ℕ) → place-rows-lts.Need-returns-2 (place-rows-Cs t) (place-rows-at t) place-rows.Post
+place-rows-returns-2 t c = λ x w. let k = recorded-parts w (c .before .before .before .before .before .before .before .before .before .before .before .before .before .before .before .before .before .before .before .before .if1 .left) in triangle-placed (c .before .before .before .before .before .before .before .before .before .before .before .before .before .before .before .before .before .before .before .before .before .args .p) (c .before .before .before .before .before .before .before .before .before .before .before .before .before .before .before .before .before .before .before .before .before .args .d) (c .before .before .before .before .before .before .before .before .before .before .before .before .before .before .before .before .before .before .before .before .before .args .far) (c .before .before .before .before .before .before .before .before .before .before .before .before .before .before .before .before .before .before .before .before .before .args .near) (k .parts .l) (k .parts .r) (c .before .before .before .before .before .before .before .before .before .before .before .before .before .before .before .before .before .before .before .before .before .args .u) _ (c .before .before .before .before .before .before .before .before .before .before .step-at .result) (c .before .before .before .before .before .before .before .lines-at .result) (c .before .before .before .before .before .before .before .before .before .before .before .before .before .before .before .before .before .before .before .before .before .args .rows .now) _ _ (k .parts .is) (k .parts .middle) (c .before .before .before .before .before .before .before .before .before .before .step-at .ensures ∙ rw (c .before .before .before .before .before .before .before .before .before .before .before .before .before .before .before .number .ensures, c .before .before .before .before .before .before .before .before .before .before .before .before .before .number2 .ensures, c .before .before .before .before .before .before .before .before .before .before .before .number3 .ensures) (k .step-is (c .before .before .before .before .before .before .before .before .before .before .before .before .before .before .before .before .before .before .before .before .before .args .p) (c .before .before .before .before .before .before .before .before .before .before .before .before .before .before .before .before .before .before .before .before .before .args .d))) (lines-are (c .before .before .before .before .before .before .before .before .before .before .before .before .before .before .before .before .before .before .before .before .before .args .p) (c .before .before .before .before .before .before .before .before .before .before .before .before .before .before .before .before .before .before .before .before .before .args .d) (c .before .before .before .before .before .before .before .before .number4 .result) (c .before .before .before .before .before .before .before .before .before .before .before .before .before .before .before .before .before .before .before .before .before .args .far) (c .before .before .before .before .before .before .before .before .before .before .before .before .before .before .before .before .before .before .before .before .before .args .near) (k .parts .l) (k .parts .r) (c .before .before .before .before .before .before .before .before .before .before .step-at .result) (c .before .before .before .before .before .before .before .lines-at .result) (c .before .before .before .before .before .before .before .before .before .before .step-at .ensures ∙ rw (c .before .before .before .before .before .before .before .before .before .before .before .before .before .before .before .number .ensures, c .before .before .before .before .before .before .before .before .before .before .before .before .before .number2 .ensures, c .before .before .before .before .before .before .before .before .before .before .before .number3 .ensures) (k .step-is (c .before .before .before .before .before .before .before .before .before .before .before .before .before .before .before .before .before .before .before .before .before .args .p) (c .before .before .before .before .before .before .before .before .before .before .before .before .before .before .before .before .before .before .before .before .before .args .d))) (c .before .before .before .before .before .before .before .before .number4 .ensures ∙ k .levels-are) (c .before .before .before .before .before .before .before .lines-at .ensures)) (c .before .before .place-rows .ensures (k .parts .l) (k .of-l)) (c .place-rows2 .ensures (k .parts .r) (k .of-r))
+
+pub +place-rows-spec : {M : Type 1} → statement M
++place-rows-spec = close μ-place-rows λ t. place-rows-lts.spec (place-rows-Cs t) (place-rows-at t) place-rows.Post (place-rows-returns t) (place-rows-mul-c t) (place-rows-element-copy-out-c t) (place-rows-cast-c t) (place-rows-mul-i t) (place-rows-element-copy-out-i t) (place-rows-cast-i t) (place-rows-mul-j t) (place-rows-element-copy-out-j t) (place-rows-cast-j t) (place-rows-number-requires t) (place-rows-number-requires-2 t) (place-rows-number-requires-3 t) (place-rows-step-at-requires t) (place-rows-number-requires-4 t) (place-rows-lines-at-requires t) (place-rows-place-rows-requires t) (place-rows-mul-rows t) (place-rows-element-write-rows t) (place-rows-place-rows-requires-2 t) (place-rows-returns-2 t)

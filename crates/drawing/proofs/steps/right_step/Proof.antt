@@ -1,0 +1,17 @@
+-- By the test.
+use mathlib.Core.Path.{sym}
+use native.Mathlib.Omega.{arith}
+use Rattle.drawing.proofs.Cases.{right-hung, right-entered}
+use Rattle.drawing.proofs.steps.right_step.Statement.{statement}
+use Rattle.drawing.proofs.steps.right_step.Tie as tie
+use Rattle.drawing.proofs.steps.right_step.Reads as reads
+use Rattle.drawing.proofs.steps.right_step.Lts as lts
+
+returns : tie.Need-returns
+returns c = sym (right-hung (c .before .args .d) (c .before .args .ud-l) (omega arith))
+
+returns-2 : tie.Need-returns-2
+returns-2 c = sym (right-entered (c .before .args .d) (c .before .args .ud-l) (omega arith))
+
+pub right-step-spec : {M : Type 1} → statement M
+right-step-spec = tie.close (tie.spec returns returns-2)

@@ -1,0 +1,17 @@
+-- By the test.
+use Rattle.drawing.specs.Parts.{stemStep}
+use Rattle.drawing.proofs.steps.stem_step.Statement.{statement}
+use Rattle.drawing.proofs.steps.stem_step.Tie as tie
+use Rattle.drawing.proofs.steps.stem_step.Reads as reads
+use Rattle.drawing.proofs.steps.stem_step.Lts as lts
+
+returns : tie.Need-returns
+unfolding stemStep
+returns c = rw (c .if1 .taken)
+
+returns-2 : tie.Need-returns-2
+unfolding stemStep
+returns-2 c = rw (c .if1 .left)
+
+pub stem-step-spec : {M : Type 1} → statement M
+stem-step-spec = tie.close (tie.spec returns returns-2)

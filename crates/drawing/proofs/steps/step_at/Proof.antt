@@ -1,0 +1,68 @@
+-- By the five parts.
+use mathlib.Core.Path.{_∙_}
+use borrow.Author.Needs.{needs}
+use Rattle.drawing.specs.Parts.{stepAt}
+use Rattle.drawing.proofs.steps.step_at.Statement.{statement}
+use Rattle.drawing.proofs.steps.step_at.Tie as tie
+use Rattle.drawing.proofs.steps.step_at.Reads as reads
+use Rattle.drawing.proofs.steps.step_at.Lts as lts
+use Rattle.drawing.proofs.steps.goes_left.Reads as goes-left-reads
+use Rattle.drawing.proofs.steps.left_step.Reads as left-step-reads
+use Rattle.drawing.proofs.steps.right_step.Reads as right-step-reads
+use Rattle.drawing.proofs.steps.stem_step.Reads as stem-step-reads
+
+enum-told : tie.Need-enum-told
+enum-told c = search needs
+
+enum-told-2 : tie.Need-enum-told-2
+enum-told-2 c = search needs
+
+left-step-requires : tie.Need-left-step-requires
+left-step-requires c κs = search needs
+
+enum-told-3 : tie.Need-enum-told-3
+enum-told-3 c = search needs
+
+right-step-requires : tie.Need-right-step-requires
+right-step-requires c κs = search needs
+
+enum-told-4 : tie.Need-enum-told-4
+enum-told-4 c = search needs
+
+goes-left-requires : tie.Need-goes-left-requires
+goes-left-requires c κs = search needs
+
+stem-step-requires : tie.Need-stem-step-requires
+stem-step-requires c κs = search needs
+
+enum-told-5 : tie.Need-enum-told-5
+enum-told-5 c = search needs
+
+goes-left-requires-2 : tie.Need-goes-left-requires-2
+goes-left-requires-2 c κs = search needs
+
+stem-step-requires-2 : tie.Need-stem-step-requires-2
+stem-step-requires-2 c κs = search needs
+
+returns : tie.Need-returns
+unfolding stepAt
+returns c = rw (c .enum-told .given .1)
+
+returns-2 : tie.Need-returns-2
+unfolding stepAt
+returns-2 c = rw (c .before .enum-told2 .given .1) (c .left-step .ensures)
+
+returns-3 : tie.Need-returns-3
+unfolding stepAt
+returns-3 c = rw (c .before .enum-told3 .given .1) (c .right-step .ensures)
+
+returns-4 : tie.Need-returns-4
+unfolding stepAt
+returns-4 c = rw (c .before .before .enum-told4 .given .1) (c .stem-step .ensures ∙ rw (c .before .goes-left .ensures, c .before .before .enum-told4 .given .1))
+
+returns-5 : tie.Need-returns-5
+unfolding stepAt
+returns-5 c = rw (c .before .before .enum-told5 .given .1) (c .stem-step2 .ensures ∙ rw (c .before .goes-left2 .ensures, c .before .before .enum-told5 .given .1))
+
+pub step-at-spec : {M : Type 1} → statement M
+step-at-spec = tie.close (tie.spec enum-told enum-told-2 left-step-requires enum-told-3 right-step-requires enum-told-4 goes-left-requires stem-step-requires enum-told-5 goes-left-requires-2 stem-step-requires-2 returns returns-2 returns-3 returns-4 returns-5)

@@ -1,0 +1,165 @@
+// How the drawing goes on from a triangle to the two pieces beyond its other edges. specs/Parts.antt has the same in definitions.
+ghost use mathlib.Core.Path.{_≡_};
+ghost use Rattle.drawing.specs.Parts.{fromRight, isHung, leftStep, rightStep, goesLeft, stemStep, stepAt};
+ghost use Rattle.drawing.specs.Tables.{differ, pick};
+
+// A piece is hung, with an umbrella of its own; or it lies on the rim below or above the apex of an umbrella; or the umbrella's stem has entered it, and is built from the left or from the right.
+pub enum Part {
+    Hung,
+    LeftRim,
+    RightRim,
+    FromLeft,
+    FromRight,
+}
+
+// The parts of the left and of the right piece, and whether their columns are crossed.
+pub struct Step {
+    pub left: Part,
+    pub right: Part,
+    pub crossed: bool,
+}
+
+pub fn differ(a: bool, b: bool) -> bool
+    ensures { λ r. ⌜ r ≡ differ a b ⌝ }
+{
+    if a {
+        if b {
+            return false;
+        }
+        return true;
+    }
+    b
+}
+
+pub fn pick(c: bool, a: bool, b: bool) -> bool
+    ensures { λ r. ⌜ r ≡ pick c a b ⌝ }
+{
+    if c {
+        return a;
+    }
+    b
+}
+
+// "If s < i, build from the right": the rim below the apex, and a stem that enters across it.
+pub fn from_right(p: Part) -> bool
+    ensures { λ r. ⌜ r ≡ fromRight p ⌝ }
+{
+    match p {
+        Part::Hung => false,
+        Part::LeftRim => true,
+        Part::RightRim => false,
+        Part::FromLeft => false,
+        Part::FromRight => true,
+    }
+}
+
+pub fn is_hung(p: Part) -> bool
+    ensures { λ r. ⌜ r ≡ isHung p ⌝ }
+{
+    match p {
+        Part::Hung => true,
+        Part::LeftRim => false,
+        Part::RightRim => false,
+        Part::FromLeft => false,
+        Part::FromRight => false,
+    }
+}
+
+// On the rim below the apex: the piece hung on the rim edge, or the one that the stem enters.
+fn left_step(d: u16, ud_r: u16) -> Step
+    ensures { λ r. ⌜ r ≡ leftStep d «ud_r» ⌝ }
+{
+    if ud_r <= d {
+        return Step {
+            left: Part::LeftRim,
+            right: Part::Hung,
+            crossed: false,
+        };
+    }
+    Step {
+        left: Part::LeftRim,
+        right: Part::FromRight,
+        crossed: true,
+    }
+}
+
+// On the rim above the apex.
+fn right_step(d: u16, ud_l: u16) -> Step
+    ensures { λ r. ⌜ r ≡ rightStep d «ud_l» ⌝ }
+{
+    if ud_l <= d {
+        return Step {
+            left: Part::Hung,
+            right: Part::RightRim,
+            crossed: false,
+        };
+    }
+    Step {
+        left: Part::FromLeft,
+        right: Part::RightRim,
+        crossed: true,
+    }
+}
+
+// Whether the stem goes on across (p,x). "E acts as L if (p,x) is a side, else as R"; built from the right "as R if (x,q) is a side, else as L".
+fn goes_left(right: bool, d: u16, ud_l: u16, ud_r: u16, handle_l: u16) -> bool
+    ensures { λ r. ⌜ r ≡ goesLeft right d «ud_l» «ud_r» «handle_l» ⌝ }
+{
+    if ud_l == 0 {
+        if ud_r == 0 {
+            return !right;
+        }
+        if ud_r <= d {
+            return true;
+        }
+        return false;
+    }
+    if ud_r == 0 {
+        if ud_l <= d {
+            return false;
+        }
+        return true;
+    }
+    if ud_r > d {
+        return false;
+    }
+    if handle_l > d {
+        return false;
+    }
+    true
+}
+
+// The stem goes on across one edge, the other piece is hung.
+fn stem_step(p: Part, right: bool, left: bool) -> Step
+    ensures { λ r. ⌜ r ≡ stemStep p right left ⌝ }
+{
+    if left {
+        return Step {
+            left: p,
+            right: Part::Hung,
+            crossed: !right,
+        };
+    }
+    Step {
+        left: Part::Hung,
+        right: p,
+        crossed: right,
+    }
+}
+
+// From a triangle by the part of its piece: `ud_l`, `ud_r` are the levels of the left and right piece, `handle_l` those of a stem through the left one.
+pub fn step_at(p: Part, d: u16, ud_l: u16, ud_r: u16, handle_l: u16) -> Step
+    ensures { λ r. ⌜ r ≡ stepAt p d «ud_l» «ud_r» «handle_l» ⌝ }
+{
+    match p {
+        Part::Hung => Step {
+            left: Part::LeftRim,
+            right: Part::RightRim,
+            crossed: false,
+        },
+        Part::LeftRim => left_step(d, ud_r),
+        Part::RightRim => right_step(d, ud_l),
+        Part::FromLeft => stem_step(p, false, goes_left(false, d, ud_l, ud_r, handle_l)),
+        Part::FromRight => stem_step(p, true, goes_left(true, d, ud_l, ud_r, handle_l)),
+    }
+}

@@ -1,0 +1,67 @@
+-- Known lists of edits, byte by byte, and what running them gives, by computation.
+use mathlib.Core.Path.{_≡_, refl}
+use mathlib.Core.Logic.{Dec·and}
+use mathlib.Core.List.{List, [], _∷_}
+use Prim.Native.Nat.{ℕ}
+use native.Mathlib.Decide.{decLe, decLt, ℕ-discrete}
+use lib.ListN.{replicate}
+use Rattle.polygon.specs.Lists.{All, all-nil, all-cons, choose, put, keep, numbers, below, not?, either?, all?, sorted?, mem?}
+use Rattle.polygon.specs.Order.{before?, same?, cross?, none-cross?, diagonal?, distinct?, place, insert, remove, sort, lower-first}
+use Rattle.codec.specs.Numbers.{run16}
+use Rattle.codec.specs.Answer.{fit, written}
+use Rattle.sheet.specs.Sheet.{ask, pairs, partNumber, count?, more, readSheet, pairBytes, numberBytes, numberBit, mapByte, normalSheet, outcome}
+use Rattle.edit.specs.Rules.{up, both, entering, earAdded, away?, side?, linked?, joined?, common, enter, flipped, rule}
+use Rattle.edit.specs.Calls.{onHeld, edited, called}
+use Rattle.edit_list.specs.Script.{editOf, editAt, edits, scriptOf, kinds?, rooms?, test, faultOf}
+use Rattle.edit_list.specs.Desk.{placed, other, answerOf, answeredDesk, deskStep, deskAfter, numbersOf}
+use Rattle.edit_list.specs.Result.{numbered, finished, resultOf}
+
+-- n = 4 with the diagonal (0,2)
+abbrev pub square : List ℕ
+square = 3 ∷ 0 ∷ 4 ∷ 0 ∷ 0 ∷ 0 ∷ 2 ∷ []
+
+-- (0,2) turned, (1,3) turned, a corner added on the root side 3, corner 2 taken off, at which (0,2) ends; each edit lends 12 bytes
+abbrev pub turns : List ℕ
+turns =
+    2 ∷ 0 ∷ 0 ∷ 0 ∷ 0 ∷ 0 ∷ 0 ∷ 0 ∷ 2 ∷ 0 ∷ 0 ∷ 0 ∷ 12
+    ∷ 2 ∷ 0 ∷ 0 ∷ 0 ∷ 1 ∷ 0 ∷ 0 ∷ 0 ∷ 3 ∷ 0 ∷ 0 ∷ 0 ∷ 12
+    ∷ 0 ∷ 0 ∷ 0 ∷ 0 ∷ 3 ∷ 0 ∷ 0 ∷ 0 ∷ 0 ∷ 0 ∷ 0 ∷ 0 ∷ 12
+    ∷ 1 ∷ 0 ∷ 0 ∷ 0 ∷ 2 ∷ 0 ∷ 0 ∷ 0 ∷ 0 ∷ 0 ∷ 0 ∷ 0 ∷ 12
+    ∷ []
+
+-- the first three are taken and the last is refused by 12; the sheet left has 11 bytes and lies in front: n = 5 with (0,2) and (0,3)
+pub known-run : resultOf square turns (replicate 13 7) (replicate 14 8) (replicate 9 9)
+    ≡ record {
+      number = 0;
+      place = 1;
+      size = 11;
+      front = 3 ∷ 0 ∷ 5 ∷ 0 ∷ 0 ∷ 0 ∷ 2 ∷ 0 ∷ 0 ∷ 0 ∷ 3 ∷ 7 ∷ 7 ∷ [];
+      back = 3 ∷ 0 ∷ 4 ∷ 0 ∷ 0 ∷ 0 ∷ 2 ∷ 8 ∷ 8 ∷ 8 ∷ 8 ∷ 8 ∷ 8 ∷ 8 ∷ [];
+      outs = 0 ∷ 0 ∷ 0 ∷ 0 ∷ 0 ∷ 0 ∷ 0 ∷ 12 ∷ 9 ∷ [];
+    }
+unfolding resultOf finished numbered scriptOf edits editAt editOf faultOf test kinds? rooms? deskAfter deskStep numbersOf answerOf answeredDesk placed other called edited onHeld outcome written fit run16 rule ask up both entering earAdded away? side? linked? joined? common enter flipped readSheet pairs partNumber count? more pairBytes numberBytes numberBit mapByte normalSheet Dec·and decLe decLt ℕ-discrete choose put keep numbers below not? either? all? sorted? mem? before? same? cross? none-cross? diagonal? distinct? place insert remove sort lower-first
+known-run = refl
+
+-- a list, the lengths of the front buffer, the back buffer and the output for the numbers, and the number of the first test that fails, or 0
+abbrev pub Case : Type 0
+Case = List ℕ × ℕ × ℕ × ℕ × ℕ
+
+abbrev pub cases : List Case
+cases =
+    -- the empty list; the list above
+    ([], 0, 0, 0, 0)
+    ∷ (turns, 12, 12, 8, 0)
+    -- 14 bytes, with a kind that is not known
+    ∷ (3 ∷ replicate 13 0, 0, 0, 0, 32)
+    -- a kind that is not known, and no output for its number
+    ∷ (3 ∷ replicate 12 0, 0, 0, 0, 33)
+    -- output for three numbers and a half, and buffers that are too short
+    ∷ (turns, 11, 11, 7, 34)
+    -- a front buffer, and a back buffer, that is too short
+    ∷ (turns, 11, 12, 8, 35)
+    ∷ (turns, 12, 11, 8, 35)
+    ∷ []
+
+pub known-faults : All (λ (c : Case). faultOf (c .0) (c .1) (c .2) (c .3) ≡ c .4) cases
+unfolding faultOf test kinds? rooms? Dec·and decLe ℕ-discrete choose numbers below all?
+known-faults = all-cons refl (all-cons refl (all-cons refl (all-cons refl (all-cons refl (all-cons refl (all-cons refl all-nil))))))

@@ -1,0 +1,7 @@
+pub mod Tests
+pub mod Desks
+pub mod Within
+pub mod Following
+pub mod Running
+pub mod Known
+pub mod Theorems

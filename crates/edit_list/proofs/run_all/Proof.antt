@@ -1,0 +1,50 @@
+-- The loop's invariant is `Running`.
+use Prim.Native.Nat.{_-_}
+use native.Mathlib.Omega.{arith}
+use Rattle.edit_list.specs.Script.{count}
+use Rattle.edit_list.specs.Desk.{deskOf}
+use Rattle.edit_list.proofs.Running.{Running, running-begin, edit-spacious, running-next, running-desk, running-outs}
+use Rattle.edit_list.proofs.run_all.Statement.{statement}
+use Rattle.edit_list.proofs.run_all.Tie as tie
+
+abbrev Inv-loop : tie.InvT-loop
+Inv-loop first list front₀ back₀ numbers₀ m place₀ size₀ i₀ front back numbers place size i = Running first list front₀ back₀ numbers₀ (deskOf place size front back) numbers i
+
+abbrev μ-loop : tie.MeasureT-loop
+μ-loop first list front₀ back₀ numbers₀ m place₀ size₀ i₀ front back numbers place size i = count list - i
+
+loop-holds : tie.Need-loop-holds Inv-loop μ-loop
+loop-holds c = running-begin (c .before .before .before .before .before .args .first .now) (c .before .before .before .before .before .args .list .now) (c .before .before .before .before .before .args .front .now) (c .before .before .before .before .before .args .back .now) (c .before .before .before .before .before .args .numbers .now)
+
+step-requires : tie.Need-step-requires Inv-loop μ-loop
+step-requires c κs = (c .before .before .loop-test .taken, (c .before .before .before .loop .inv .sound .lies, edit-spacious (c .before .before .before .before .before .before .before .before .before .args .first .now) (c .before .before .before .before .before .before .before .before .before .args .list .now) (c .before .before .before .before .before .before .before .before .before .args .front .now) (c .before .before .before .before .before .before .before .before .before .args .back .now) (c .before .before .before .before .before .before .before .before .before .args .numbers .now) (c .before .before .before .before .before .before .before .before .before .pre .0) (deskOf (c .before .before .before .loop .place) (c .before .before .before .loop .size) (c .before .before .before .loop .front) (c .before .before .before .loop .back)) (c .before .before .before .loop .numbers) (c .before .before .before .loop .i) (c .before .before .before .loop .inv) (c .before .before .loop-test .taken)))
+
+mul-put16 : tie.Need-mul-put16 Inv-loop μ-loop
+mul-put16 c = omega arith
+
+put16-requires : tie.Need-put16-requires Inv-loop μ-loop
+put16-requires c κs = (omega (arith, c .before .before .before .before .before .before .before .before .before .loop .inv .outs-length, c .before .before .before .before .before .before .before .before .before .before .before .before .before .before .before .pre .1, c .before .before .before .before .before .before .before .before .loop-test .taken), omega (arith, c .before .before .before .before .before .step .ensures .number-fits))
+
+add-i : tie.Need-add-i Inv-loop μ-loop
+add-i c = omega arith
+
+loop-less : tie.Need-loop-less Inv-loop μ-loop
+loop-less c = omega arith
+
+loop-again : tie.Need-loop-again Inv-loop μ-loop
+loop-again c = running-next (c .before .before .before .before .before .before .before .before .before .before .before .before .before .before .before .before .before .before .args .first .now) (c .before .before .before .before .before .before .before .before .before .before .before .before .before .before .before .before .before .before .args .list .now) (c .before .before .before .before .before .before .before .before .before .before .before .before .before .before .before .before .before .before .args .front .now) (c .before .before .before .before .before .before .before .before .before .before .before .before .before .before .before .before .before .before .args .back .now) (c .before .before .before .before .before .before .before .before .before .before .before .before .before .before .before .before .before .before .args .numbers .now) (c .before .before .before .before .before .before .before .before .before .before .before .before .before .before .before .before .before .before .pre .0) (deskOf (c .before .before .before .before .before .before .before .before .before .before .before .before .loop .place) (c .before .before .before .before .before .before .before .before .before .before .before .before .loop .size) (c .before .before .before .before .before .before .before .before .before .before .before .before .loop .front) (c .before .before .before .before .before .before .before .before .before .before .before .before .loop .back)) (c .before .before .before .before .before .before .before .before .before .before .before .before .loop .numbers) (c .before .before .before .before .before .before .before .before .before .before .before .before .loop .i) (c .before .before .before .before .before .before .before .before .before .before .before .before .loop .inv) (c .before .before .before .before .before .before .before .before .before .before .before .loop-test .taken) (deskOf (c .before .before .before .before .before .before .before .before .step .result .place) (c .before .before .before .before .before .before .before .before .step .result .size) (c .before .before .before .before .before .before .before .before .step .last .1 .1 .1 .0) (c .before .before .before .before .before .before .before .before .step .last .1 .1 .1 .1 .0)) (c .before .before .before .before .before .before .before .before .step .result .number) (c .before .before .put16 .last .0) (c .before .before .before .before .before .before .before .before .step .ensures .desk-after) (c .before .before .before .before .before .before .before .before .step .ensures .number-given) (c .before .before .put16 .ensures)
+
+same-length : tie.Need-same-length Inv-loop μ-loop
+same-length c = c .before .loop .inv .sound .front-length
+
+same-length-2 : tie.Need-same-length-2 Inv-loop μ-loop
+same-length-2 c = c .before .loop .inv .sound .back-length
+
+same-length-3 : tie.Need-same-length-3 Inv-loop μ-loop
+same-length-3 c = c .before .loop .inv .outs-length
+
+returns : tie.Need-returns Inv-loop μ-loop
+returns c = (running-desk (c .before .before .before .before .before .before .before .args .first .now) (c .before .before .before .before .before .before .before .args .list .now) (c .before .before .before .before .before .before .before .args .front .now) (c .before .before .before .before .before .before .before .args .back .now) (c .before .before .before .before .before .before .before .args .numbers .now) (c .before .loop .place) (c .before .loop .size) (c .before .loop .front) (c .before .loop .back) (c .before .loop .numbers) (c .before .loop .i) (c .before .loop .inv) (c .loop-test .left), running-outs (c .before .before .before .before .before .before .before .args .first .now) (c .before .before .before .before .before .before .before .args .list .now) (c .before .before .before .before .before .before .before .args .front .now) (c .before .before .before .before .before .before .before .args .back .now) (c .before .before .before .before .before .before .before .args .numbers .now) (c .before .loop .place) (c .before .loop .size) (c .before .loop .front) (c .before .loop .back) (c .before .loop .numbers) (c .before .loop .i) (c .before .loop .inv) (c .loop-test .left) (c .before .before .before .before .before .before .before .pre .1))
+
+pub run-all-spec : {M : Type 1} → statement M
+run-all-spec = tie.close (tie.spec Inv-loop μ-loop loop-holds step-requires mul-put16 put16-requires add-i loop-less loop-again same-length same-length-2 same-length-3 returns)

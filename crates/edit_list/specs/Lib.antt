@@ -1,0 +1,4 @@
+pub mod Script
+pub mod Desk
+pub mod Result
+pub mod Steps
