@@ -6,7 +6,7 @@ use mathlib.Core.List.{List, [], _∷_, _++_, map, map-id, append-assoc}
 use Prim.Native.Nat.{ℕ, suc, _+_, _*_, _-_, _≤_, _<_}
 use native.Mathlib.Omega.{arith}
 use lib.ListN.{length, take, drop, getD, set, length-set, length-map, length-append}
-use lib.Seq.{sets, sets-eq, take-at, take-suc, drop-cons, getD-set-same, getD-set-other}
+use lib.Seq.{sets, length-sets, sets-eq, take-at, take-suc, drop-cons, getD-set-same, getD-set-other}
 use Rattle.polygon.specs.Lists.{All, all-nil, all-cons}
 use Rattle.polygon.specs.Polygon.{Edge, _—_}
 use Rattle.polygon.specs.Tree.{Tree, leaf, node, span}
@@ -110,9 +110,11 @@ module _ (t : Tree) (v : ℕ) (whole : v ≡ 0 + span t) where
 
 pub part-placed : (t : Tree) (n : ℕ) → 3 ≤ n → n ≤ 1024 → n - 1 ≡ 0 + span t → {o o₁ : List ℕ} {w : ℕ} → length o ≡ 4096 → Drawn (columns Hung 0 t 0 (n - 1)) 0 o o₁ w
     → (q q₁ : List ℕ) (near : Line) → length q ≡ 1024 → q₁ ≡ sets (set (set q 0 0) (n - 1) 0) (0 + 1) (ranks Hung 0 top near t) → {d : ℕ} → d ≡ ud t → Placed n t o₁ q₁ (record { columns = w; levels = d })
-part-placed t n least most whole l D q q₁ near k e s = record {
+part-placed t n least most whole {o} l D q q₁ near k e s = record {
   uprights = uprights-are t (n - 1) whole (omega arith) l D;
   width = rw (← columns-best t 0 0 (n - 1)) (omega (arith, D .end));
   corners = corners-are t (n - 1) whole n q q₁ near (omega arith) (omega arith) (omega arith) k e;
   height = s ∙ sym (computed-has t);
+  columns-kept = ap length (D .outs) ∙ (length-sets o 0 (map keyOf (columns Hung 0 t 0 (n - 1))) ∙ l);
+  ranks-kept = ap length e ∙ (length-sets (set (set q 0 0) (n - 1) 0) (0 + 1) (ranks Hung 0 top near t) ∙ (length-set (set q 0 0) (n - 1) 0 ∙ (length-set q 0 0 ∙ k)));
 }

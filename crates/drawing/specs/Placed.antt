@@ -16,3 +16,5 @@ pub record Placed (n : ℕ) (t : Tree) (columns ranks : List ℕ) (s : Size) : T
   pub width : s .columns ≡ length (cols (best t) 0 (n - 1))
   pub corners : take n ranks ≡ 0 ∷ (rows (best t) ++ (0 ∷ []))
   pub height : s .levels ≡ levels (best t)
+  pub columns-kept : length columns ≡ 4096
+  pub ranks-kept : length ranks ≡ 1024

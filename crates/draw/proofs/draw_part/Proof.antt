@@ -1,0 +1,48 @@
+-- By the laws of Charting.antt, of what was placed.
+use borrow.Author.Needs.{needs}
+use mathlib.Core.Path.{_≡_, ap, sym, _∙_}
+use mathlib.Core.List.{List}
+use Prim.Native.Nat.{ℕ}
+use native.Mathlib.Omega.{arith}
+use lib.ListN.{length, take}
+use lib.Seq.{length-take-le}
+use Rattle.keys.specs.Keys.{edgesOf}
+use Rattle.codec.specs.Answer.{written, write}
+use Rattle.umbrella.specs.Best.{best}
+use Rattle.polygon.specs.Tree.{treeOf}
+use Rattle.chart.specs.Places.{rows}
+use Rattle.draw.proofs.Charting.{uprights-are-edges, placed-sizes, rows-are, placed-chart}
+use Rattle.draw.proofs.draw_part.Statement.{statement}
+use Rattle.draw.proofs.draw_part.Tie as tie
+use Rattle.draw.proofs.draw_part.Reads as reads
+use Rattle.draw.proofs.draw_part.Lts as lts
+use Rattle.chart_writer.proofs.write_chart.Reads as write-chart-reads
+use Rattle.drawing.proofs.place_part.Reads as place-part-reads
+
+place-part-requires : tie.Need-place-part-requires
+place-part-requires c κs = search needs
+
+cast-write-chart : tie.Need-cast-write-chart
+cast-write-chart c = search needs
+
+array-share-prefix-columns : tie.Need-array-share-prefix-columns
+array-share-prefix-columns c = omega (arith, placed-sizes (c .before .before .before .before .before .before .args .n) (edgesOf (c .before .before .before .before .before .before .args .keys .now)) (c .before .before .before .before .before .before .pre .0) (c .before .before .before .before .before .before .pre .1 .0) (c .before .place-part .last .1 .1 .0) (c .before .place-part .last .1 .1 .1 .0) (c .before .place-part .result) (c .before .place-part .ensures) (c .before .before .before .before .before .before .pre .1 .1), c .before .place-part .ensures .columns-kept)
+
+slice-aggregate-write-chart : tie.Need-slice-aggregate-write-chart
+slice-aggregate-write-chart c = sym (length-take-le (c .before .before .place-part .result .columns) (c .before .before .place-part .last .1 .1 .0) (omega (arith, placed-sizes (c .before .before .before .before .before .before .before .args .n) (edgesOf (c .before .before .before .before .before .before .before .args .keys .now)) (c .before .before .before .before .before .before .before .pre .0) (c .before .before .before .before .before .before .before .pre .1 .0) (c .before .before .place-part .last .1 .1 .0) (c .before .before .place-part .last .1 .1 .1 .0) (c .before .before .place-part .result) (c .before .before .place-part .ensures) (c .before .before .before .before .before .before .before .pre .1 .1), c .before .before .place-part .ensures .columns-kept)))
+
+slice-aggregate-write-chart-2 : tie.Need-slice-aggregate-write-chart-2
+slice-aggregate-write-chart-2 c = sym (c .before .before .before .place-part .ensures .ranks-kept)
+
+write-chart-requires : tie.Need-write-chart-requires
+write-chart-requires c κs = (c .before .before .before .before .before .before .before .before .before .pre .0, (uprights-are-edges (c .before .before .before .before .before .before .before .before .before .args .n) (edgesOf (c .before .before .before .before .before .before .before .before .before .args .keys .now)) (c .before .before .before .before .before .before .before .before .before .pre .0) (c .before .before .before .before .before .before .before .before .before .pre .1 .0) (c .before .before .before .before .place-part .last .1 .1 .0) (c .before .before .before .before .place-part .last .1 .1 .1 .0) (c .before .before .before .before .place-part .result) (c .before .before .before .before .place-part .ensures), omega (arith, placed-sizes (c .before .before .before .before .before .before .before .before .before .args .n) (edgesOf (c .before .before .before .before .before .before .before .before .before .args .keys .now)) (c .before .before .before .before .before .before .before .before .before .pre .0) (c .before .before .before .before .before .before .before .before .before .pre .1 .0) (c .before .before .before .before .place-part .last .1 .1 .0) (c .before .before .before .before .place-part .last .1 .1 .1 .0) (c .before .before .before .before .place-part .result) (c .before .before .before .before .place-part .ensures) (c .before .before .before .before .before .before .before .before .before .pre .1 .1), c .before .before .before .before .before .before .before .before .before .pre .1 .1, length-take-le (c .before .before .before .before .place-part .result .columns) (c .before .before .before .before .place-part .last .1 .1 .0) (omega (arith, placed-sizes (c .before .before .before .before .before .before .before .before .before .args .n) (edgesOf (c .before .before .before .before .before .before .before .before .before .args .keys .now)) (c .before .before .before .before .before .before .before .before .before .pre .0) (c .before .before .before .before .before .before .before .before .before .pre .1 .0) (c .before .before .before .before .place-part .last .1 .1 .0) (c .before .before .before .before .place-part .last .1 .1 .1 .0) (c .before .before .before .before .place-part .result) (c .before .before .before .before .place-part .ensures) (c .before .before .before .before .before .before .before .before .before .pre .1 .1), c .before .before .before .before .place-part .ensures .columns-kept)), c .before .before .before .before .place-part .ensures .ranks-kept)))
+
+same-length : tie.Need-same-length
+same-length c = search needs
+
+returns : tie.Need-returns
+returns c = c .before .before .write-chart .ensures (rows (best (treeOf (c .before .before .before .before .before .before .before .before .before .before .before .before .args .n) (edgesOf (c .before .before .before .before .before .before .before .before .before .before .before .before .args .keys .now))))) (rows-are (c .before .before .before .before .before .before .before .before .before .before .before .before .args .n) (edgesOf (c .before .before .before .before .before .before .before .before .before .before .before .before .args .keys .now)) (c .before .before .before .before .before .before .before .before .before .before .before .before .pre .0) (c .before .before .before .before .before .before .before .before .before .before .before .before .pre .1 .0) (c .before .before .before .before .before .before .before .place-part .last .1 .1 .0) (c .before .before .before .before .before .before .before .place-part .last .1 .1 .1 .0) (c .before .before .before .before .before .before .before .place-part .result) (c .before .before .before .before .before .before .before .place-part .ensures)) ∙ ap (λ (bs : List ℕ). written (write bs) (c .before .before .before .before .before .before .before .before .before .before .before .before .args .out .now)) (placed-chart (c .before .before .before .before .before .before .before .before .before .before .before .before .args .n) (edgesOf (c .before .before .before .before .before .before .before .before .before .before .before .before .args .keys .now)) (c .before .before .before .before .before .before .before .before .before .before .before .before .pre .0) (c .before .before .before .before .before .before .before .before .before .before .before .before .pre .1 .0) (c .before .before .before .before .before .before .before .place-part .last .1 .1 .0) (c .before .before .before .before .before .before .before .place-part .last .1 .1 .1 .0) (c .before .before .before .before .before .before .before .place-part .result) (c .before .before .before .before .before .before .before .place-part .ensures))
+
+pub draw-part-spec : {M : Type 1} → statement M
+draw-part-spec = tie.close (tie.spec place-part-requires cast-write-chart array-share-prefix-columns slice-aggregate-write-chart slice-aggregate-write-chart-2 write-chart-requires same-length returns)
+
