@@ -1,0 +1,66 @@
+-- Which bytes are accepted: those of a true chart that shows a valid part.
+use mathlib.Core.Path.{_≡_, refl, ap, sym, _∙_}
+use mathlib.Core.List.{List}
+use mathlib.Core.Option.{none}
+use Prim.Native.Nat.{ℕ, zero, suc, _+_, _*_, _-_, _≤_, _<_}
+use native.Mathlib.Omega.{arith}
+use lib.ListN.{length, length-map}
+use Rattle.polygon.specs.Lists.{All}
+use Rattle.polygon.specs.Polygon.{Polygon, Valid}
+use Rattle.sheet.specs.Sheet.{Reading, refused, held}
+use Rattle.chart.specs.Chart.{Chart, True, Shows}
+use Rattle.chart.specs.Bytes.{bytesOf}
+use Rattle.chart_reader.specs.Decode.{countIn, strokeAt, places, strokePlaces, chartIn}
+use Rattle.chart_reader.specs.Rules.{partIn}
+use Rattle.chart_reader.specs.Reader.{readChart}
+use Rattle.chart_reader.specs.Charts.{Charts}
+use Rattle.chart_reader.proofs.Verdict.{Verdict, taken, by-14, by-15, by-16, by-17, by-18, read-by}
+use Rattle.chart_reader.proofs.Truth.{rules-true, true-rules}
+use Rattle.chart_reader.proofs.Shown.{rule-shows, rule-valid, shows-named, shows-count, shows-rule, shows-part}
+use Rattle.chart_reader.proofs.Same.{Same, same-true, same-shows}
+use Rattle.chart_reader.proofs.Decoded.{decoded, decoded-formed}
+use Rattle.chart_reader.proofs.Encoded.{encoded}
+
+pub places-count : (s : List ℕ) (at k : ℕ) → length (places s at k) ≡ k
+unfolding places
+places-count s at zero = refl
+places-count s at (suc k) = ap suc (places-count s _ k)
+
+pub strokes-count : (s : List ℕ) → 3 ≤ countIn s → length (chartIn s .strokes) + 3 ≡ 2 * countIn s
+strokes-count s h = omega (arith, length-map (strokePlaces s) (strokeAt s), places-count s (6 + 6 * countIn s) (2 * countIn s - 3))
+
+not-held : (k : ℕ) (p : Polygon) → refused k ≡ held p → ⊥
+not-held k p e = let z : _≡_ {A = ℕ} 0 1 = cc in omega arith
+
+-- what is held is shown
+pub held-charts : (s : List ℕ) (p : Polygon) {r : Reading} → All (λ b. b < 256) s → Verdict s r → r ≡ held p → Charts s p
+held-charts s p B (taken F R S G P) e =
+    let c : Chart = chartIn s in
+    let h : partIn c ≡ p = cc in
+    rw (← h) (record {
+      valid = rule-valid c (F .least) (S .0) (S .1) P (F .most) (strokes-count s (F .least));
+      unnumbered = refl;
+      chart = c;
+      bytes = encoded B F;
+      is-true = rules-true c R S G;
+      shows = rule-shows c (F .least) (S .0) (S .1) P;
+    })
+held-charts s p B (by-14 a) e = absurd (not-held _ p e)
+held-charts s p B (by-15 a b) e = absurd (not-held _ p e)
+held-charts s p B (by-16 a b c) e = absurd (not-held _ p e)
+held-charts s p B (by-17 a b c d) e = absurd (not-held _ p e)
+held-charts s p B (by-18 a b c d f) e = absurd (not-held _ p e)
+
+-- what is shown is held
+bytes-held : (c : Chart) (p : Polygon) → Valid p → p .number ≡ none → True c → Shows c p → readChart (bytesOf c) ≡ held p
+bytes-held c p v u T H =
+    let s : List ℕ = bytesOf c in
+    let n = H .corners in
+    let count : length (c .strokes) + 3 ≡ 2 * c .n = rw n (shows-count c p v H) in
+    let S : Same (chartIn s) c = decoded c count in
+    let D : Shows (chartIn s) p = same-shows (chartIn s) c S p H in
+    let R = true-rules (chartIn s) (same-true (chartIn s) c S T) (shows-named (chartIn s) p v D) (D .ascending) in
+    read-by s (taken (decoded-formed c (rw n (v .least)) (rw n (v .most)) count) (R .0) (R .1) (R .2) (shows-rule (chartIn s) p v D)) ∙ ap held (shows-part (chartIn s) p v D u)
+
+pub charts-held : {s : List ℕ} {p : Polygon} → Charts s p → readChart s ≡ held p
+charts-held {s} {p} C = rw (C .bytes) (bytes-held (C .chart) p (C .valid) (C .unnumbered) (C .is-true) (C .shows))

@@ -1,0 +1,134 @@
+-- Decoding the bytes of a chart gives the chart back.
+use mathlib.Core.Path.{_≡_, refl, ap, ap₂, sym, _∙_}
+use mathlib.Core.List.{List, [], _∷_, _++_, map, flatMap, append-assoc}
+use Prim.Native.Nat.{ℕ, zero, suc, _+_, _*_, _-_, _≤_, _<_}
+use native.Mathlib.Nat.{add-zero}
+use native.Mathlib.Omega.{arith}
+use lib.ListN.{length, getD, length-append, length-map, List·getD-map}
+use lib.Seq.{getD-append-add}
+use Rattle.polygon.specs.Lists.{All, all-nil, all-cons, numbers, below}
+use Rattle.polygon.specs.Polygon.{Edge, _—_}
+use Rattle.codec.specs.Numbers.{bytes16, get16}
+use Rattle.sheet.proofs.Bytes.{get16-after, get16-back}
+use Rattle.chart.specs.Chart.{Bar, Stroke, upright, level, Chart, barsOf}
+use Rattle.chart.specs.Bytes.{barBytes, strokeBytes, bytesOf}
+use Rattle.chart_reader.proofs.Same.{Same}
+use Rattle.chart_reader.proofs.Sides.{numbers-count}
+use Rattle.chart_reader.specs.Decode.{countIn, barAt, strokeSize, shaped, strokeAt, places, behind, strokePlaces, chartIn, Formed}
+
+-- k strokes of the bytes from a place on, and where they end
+pub record Spelled (s : List ℕ) (at k : ℕ) (ss : List Stroke) (end : ℕ) : Type 0 where
+  pub strokes : map (strokeAt s) (places s at k) ≡ ss
+  pub bits : All (λ at. getD s at 0 < 2) (places s at k)
+  pub ends : behind s at k ≡ end
+
+spelled-none : (s : List ℕ) (at : ℕ) → Spelled s at 0 [] at
+unfolding places behind
+spelled-none s at = record { strokes = refl; bits = all-nil; ends = refl }
+
+spelled-next : {s : List ℕ} {at k end : ℕ} {t : Stroke} {ss : List Stroke} → getD s at 0 < 2 → strokeAt s at ≡ t → Spelled s (at + strokeSize (getD s at 0)) k ss end → Spelled s at (suc k) (t ∷ ss) end
+unfolding places behind
+spelled-next h e S = record { strokes = ap₂ _∷_ e (S .strokes); bits = all-cons h (S .bits); ends = S .ends }
+
+-- the stroke behind a prefix
+pub record Here (s : List ℕ) (at : ℕ) (t : Stroke) : Type 0 where
+  pub bit : getD s at 0 < 2
+  pub stroke : strokeAt s at ≡ t
+  pub size : strokeSize (getD s at 0) ≡ length (strokeBytes t)
+
+here-at : (t : Stroke) (xs ys : List ℕ) → Here (xs ++ (strokeBytes t ++ ys)) (length xs) t
+unfolding strokeBytes shaped
+here-at (upright e j) xs ys =
+    let zs : List ℕ = strokeBytes (upright e j) ++ ys in
+    let m : getD (xs ++ zs) (length xs) 0 ≡ 1 = rw (add-zero (length xs)) at (getD-append-add xs zs 0 0) in
+    let a : get16 (xs ++ zs) (length xs + 1) ≡ e .0 = get16-after xs zs 1 ∙ get16-back (e .0) [] in
+    let b : get16 (xs ++ zs) (length xs + 3) ≡ e .1 = get16-after xs zs 3 ∙ get16-back (e .1) [] in
+    let k : get16 (xs ++ zs) (length xs + 5) ≡ j = get16-after xs zs 5 ∙ get16-back j [] in
+    record { bit = rw m (omega arith); stroke = rw (m, a, b, k); size = rw m }
+here-at (level e) xs ys =
+    let zs : List ℕ = strokeBytes (level e) ++ ys in
+    let m : getD (xs ++ zs) (length xs) 0 ≡ 0 = rw (add-zero (length xs)) at (getD-append-add xs zs 0 0) in
+    let a : get16 (xs ++ zs) (length xs + 1) ≡ e .0 = get16-after xs zs 1 ∙ get16-back (e .0) [] in
+    let b : get16 (xs ++ zs) (length xs + 3) ≡ e .1 = get16-after xs zs 3 ∙ get16-back (e .1) [] in
+    record { bit = rw m (omega arith); stroke = rw (m, a, b); size = rw m }
+
+spelled : (ss : List Stroke) (xs : List ℕ) → Spelled (xs ++ flatMap strokeBytes ss) (length xs) (length ss) ss (length (xs ++ flatMap strokeBytes ss))
+unfolding flatMap
+spelled [] xs = rw (length-append xs [], add-zero (length xs)) (spelled-none (xs ++ []) (length xs))
+spelled (t ∷ ss) xs =
+    let H = here-at t xs (flatMap strokeBytes ss) in
+    spelled-next (H .bit) (H .stroke) (rw (H .size, ← length-append xs (strokeBytes t), ← append-assoc xs (strokeBytes t) (flatMap strokeBytes ss)) (spelled ss (xs ++ strokeBytes t)))
+
+-- the bars
+bar-after : (xs ys : List ℕ) (at : ℕ) → barAt (xs ++ ys) (length xs + at) ≡ barAt ys at
+bar-after xs ys at =
+    let h : length xs + at + 2 ≡ length xs + (at + 2) = omega arith in
+    let k : length xs + at + 4 ≡ length xs + (at + 4) = omega arith in
+    rw (h, k, get16-after xs ys at, get16-after xs ys (at + 2), get16-after xs ys (at + 4))
+
+pub bar-back : (bs : List Bar) (ys : List ℕ) (d : Bar) (i : ℕ) → i < length bs → barAt (flatMap barBytes bs ++ ys) (6 * i) ≡ getD bs i d
+unfolding flatMap barBytes
+bar-back [] ys d i h = absurd (omega arith)
+bar-back (b ∷ bs) ys d zero h = λ i. record { row = get16-back (b .row) [] i; left = get16-back (b .left) [] i; right = get16-back (b .right) [] i }
+bar-back (b ∷ bs) ys d (suc i) h =
+    let e : 6 * suc i ≡ 6 + 6 * i = omega arith in
+    rw e (bar-after (barBytes b) (flatMap barBytes bs ++ ys) (6 * i) ∙ bar-back bs ys d i (omega arith))
+
+numbers-get : (k u i : ℕ) → i < k → getD (numbers k u) i 0 ≡ u + i
+unfolding numbers
+numbers-get zero u i h = absurd (omega arith)
+numbers-get (suc k) u zero h = omega arith
+numbers-get (suc k) u (suc i) h = numbers-get k (suc u) i (omega arith) ∙ omega arith
+
+-- the whole chart
+pub bars-length : (bs : List Bar) → length (flatMap barBytes bs) ≡ 6 * length bs
+unfolding flatMap barBytes
+bars-length [] = refl
+bars-length (b ∷ bs) = omega (arith, bars-length bs)
+
+module _ (c : Chart) where
+  bars-count : length (barsOf c) ≡ c .n
+  unfolding barsOf below
+  bars-count = length-map (numbers (c .n) 0) (c .bar) ∙ numbers-count (c .n) 0
+
+  bars-get : (x : ℕ) → x < c .n → getD (barsOf c) x (c .bar 0) ≡ c .bar x
+  unfolding barsOf below
+  bars-get x h = List·getD-map (c .bar) (numbers (c .n) 0) x 0 ∙ ap (c .bar) (numbers-get (c .n) 0 x h ∙ omega arith)
+
+  -- the bytes before the strokes
+  front : List ℕ
+  front = bytes16 (c .rows) ++ (bytes16 (c .columns) ++ (bytes16 (c .n) ++ flatMap barBytes (barsOf c)))
+
+  front-length : length front ≡ 6 + 6 * c .n
+  unfolding front
+  front-length = omega (arith, bars-length (barsOf c), bars-count)
+
+  pub decoded-count : countIn (bytesOf c) ≡ c .n
+  unfolding bytesOf
+  decoded-count = get16-back (c .n) []
+
+  decoded-strokes : length (c .strokes) + 3 ≡ 2 * c .n → Spelled (bytesOf c) (6 + 6 * c .n) (2 * c .n - 3) (c .strokes) (length (bytesOf c))
+  unfolding bytesOf front
+  decoded-strokes h =
+      let k : length (c .strokes) ≡ 2 * c .n - 3 = omega arith in
+      rw (← front-length, ← k) (spelled (c .strokes) front)
+
+  pub decoded : length (c .strokes) + 3 ≡ 2 * c .n → Same (chartIn (bytesOf c)) c
+  unfolding bytesOf
+  decoded h = record {
+    rows = get16-back (c .rows) [];
+    columns = get16-back (c .columns) [];
+    corners = decoded-count;
+    bars = λ x i. bar-after (bytes16 (c .rows) ++ (bytes16 (c .columns) ++ bytes16 (c .n))) (flatMap barBytes (barsOf c) ++ flatMap strokeBytes (c .strokes)) (6 * x)
+        ∙ (bar-back (barsOf c) (flatMap strokeBytes (c .strokes)) (c .bar 0) x (omega (arith, bars-count)) ∙ bars-get x i);
+    strokes = rw decoded-count (decoded-strokes h .strokes);
+  }
+
+  decoded-head : 6 ≤ length (bytesOf c)
+  unfolding bytesOf
+  decoded-head = omega arith
+
+  pub decoded-formed : 3 ≤ c .n → c .n ≤ 1024 → length (c .strokes) + 3 ≡ 2 * c .n → Formed (bytesOf c)
+  decoded-formed a b h =
+      let S = decoded-strokes h in
+      record { head = decoded-head; least = rw decoded-count a; most = rw decoded-count b; bits = rw decoded-count (S .bits); exact = rw decoded-count (S .ends) }

@@ -1,0 +1,127 @@
+-- No upright passes through a gap exactly if none of the gaps, as bars, stands between an upright's two cells.
+use mathlib.Core.Path.{_≡_, refl, ap, sym, _∙_, subst}
+use mathlib.Core.Logic.{_≢_, inl, inr, _↔_}
+use mathlib.Core.List.{List, [], _∷_, _++_, flatMap}
+use Prim.Native.Nat.{ℕ, _+_, _*_, _-_, _≤_, _<_}
+use native.Mathlib.Decide.{decLt}
+use native.Mathlib.Omega.{arith}
+use lib.ListN.{length, getD}
+use Rattle.polygon.specs.Lists.{Mem, All, all-nil, all-cons, choose}
+use Rattle.polygon.specs.Polygon.{Edge}
+use Rattle.polygon.proofs.Lists.{all-append, all-left, all-right, all-both, all-mem, all-of, all-imp}
+use Rattle.codec.specs.Numbers.{get16}
+use Rattle.keys.proofs.Crosses.{all-at, at-all}
+use Rattle.chart.specs.Chart.{Bar, Stroke, upright, level, strokeEdge, Chart}
+use Rattle.chart_reader.specs.declared.Cell.{Cell}
+use Rattle.chart_reader.specs.declared.Ends.{Ends}
+use Rattle.chart_reader.specs.Cells.{bar, Has, Inside, Common}
+use Rattle.chart_reader.specs.Decode.{barAt, edgeAt, strokeAt, chartIn}
+use Rattle.chart_reader.specs.Rules.{ends, BarRule, StrokeRule, Passes, GapRule}
+use Rattle.chart_reader.specs.Held.{None, Some, EndsOf, gapBar, gapIn, gapOf, gapsOf, GapsIn, Clear}
+use Rattle.chart_reader.proofs.Below.{below-at}
+use Rattle.chart_reader.proofs.Truth.{apart-of}
+use Rattle.chart_reader.proofs.Stroked.{level-at, upright-at}
+
+-- no bar of the list has a cell between the two cells
+abbrev Unmet : Cell × Cell → Bar → Type 0
+Unmet e b = ¬ Common (Inside e) (Has b)
+
+-- a level stroke's two cells are on one row, the first left of the last
+abbrev Gapped : Chart → Stroke → Type 0
+Gapped c (level e) = (ends c (level e) .0 .row ≡ ends c (level e) .1 .row) × (ends c (level e) .0 .column < ends c (level e) .1 .column)
+Gapped c (upright e j) = Unit {0}
+
+-- so it is in a chart that keeps the rules of bars and strokes
+module _ (c : Chart) (B : BarRule c) (S : StrokeRule c) where
+  gapped-at : (t : Stroke) → Mem t (c .strokes) → Gapped c t
+  unfolding strokeEdge
+  gapped-at (upright e j) m = tt
+  gapped-at (level e) m =
+      let k = all-mem (S .0) m in
+      let r = all-mem (S .2) m .0 in
+      let X = below-at (B .0) (e .0) (omega arith) in
+      let Y = below-at (B .0) (e .1) (k .1) in
+      (r, elim (apart-of c B (e .0) (e .1) (omega arith) (k .1) (omega arith) r) [ inl p ↦ omega (arith, p) | inr p ↦ omega (arith, p) ])
+
+  pub gapped : All (Gapped c) (c .strokes)
+  gapped = all-of (c .strokes) gapped-at
+
+-- the bars in the bytes are the gaps
+module _ (c : Chart) (gaps : List ℕ) (g : ℕ) (I : GapsIn c gaps g) (e : Cell × Cell) where
+  none-unmet : None gaps 0 g (Inside e) → All (Unmet e) (gapsOf c)
+  none-unmet f = all-at (bar 0 0 0) (gapsOf c) (λ k h. let i : k < g = omega (arith, I .count) in subst (Unmet e) (I .bars k i) (f k i))
+
+  unmet-none : All (Unmet e) (gapsOf c) → None gaps 0 g (Inside e)
+  unmet-none a k h = subst (Unmet e) (sym (I .bars k h)) (at-all (bar 0 0 0) a k (omega (arith, I .count)))
+
+-- gap by gap
+flat-all : {A B : Type 0} {Q : B → Type 0} (f : A → List B) (xs : List A) → All (λ x. All Q (f x)) xs → All Q (flatMap f xs)
+unfolding flatMap
+flat-all f [] a = all-nil
+flat-all f (x ∷ xs) (all-cons q a) = all-append q (flat-all f xs a)
+
+all-flat : {A B : Type 0} {Q : B → Type 0} (f : A → List B) (xs : List A) → All Q (flatMap f xs) → All (λ x. All Q (f x)) xs
+unfolding flatMap
+all-flat f [] a = all-nil
+all-flat f (x ∷ xs) a = all-cons (all-left (f x) (flatMap f xs) a) (all-flat f xs (all-right (f x) a))
+
+-- the cells between two cells of a row are those of the gap
+module _ (f : Cell × Cell) (e : Cell × Cell) (r : e .0 .row ≡ e .1 .row) (h : e .0 .column < e .1 .column) where
+  unmet-gap : All (Unmet f) (gapIn e) → ¬ Common (Inside f) (Inside e)
+  unfolding gapIn choose
+  unmet-gap a (x, i, j) = go (decLt (e .0 .column + 1) (e .1 .column)) a j
+    where
+      go : (d : Dec (e .0 .column + 1 < e .1 .column)) → All (Unmet f) (choose d (gapBar e ∷ []) []) → Inside e x → ⊥
+      go (yes d) (all-cons q b) (inl k) = q (x, i, omega arith)
+      go (no d) b (inl k) = omega arith
+      go d b (inr k) = omega arith
+
+  gap-unmet : ¬ Common (Inside f) (Inside e) → All (Unmet f) (gapIn e)
+  unfolding gapIn choose
+  gap-unmet p = go (decLt (e .0 .column + 1) (e .1 .column))
+    where
+      go : (d : Dec (e .0 .column + 1 < e .1 .column)) → All (Unmet f) (choose d (gapBar e ∷ []) [])
+      go (yes d) = all-cons {x = gapBar e} (λ w. p (w .0, w .1, inl (omega (arith, w .2)))) all-nil
+      go (no d) = all-nil
+
+module _ (c : Chart) (e : Edge) (j : ℕ) where
+  passes-none : (t : Stroke) → Gapped c t → All (Unmet (ends c (upright e j))) (gapOf c t) → ¬ Passes c (upright e j) t
+  passes-none (upright f k) G a = λ w. w
+  passes-none (level f) G a = unmet-gap (ends c (upright e j)) (ends c (level f)) (G .0) (G .1) a
+
+  none-passes : (t : Stroke) → Gapped c t → ¬ Passes c (upright e j) t → All (Unmet (ends c (upright e j))) (gapOf c t)
+  none-passes (upright f k) G p = all-nil
+  none-passes (level f) G p = gap-unmet (ends c (upright e j)) (ends c (level f)) (G .0) (G .1) p
+
+-- all strokes are clear exactly if no upright passes through a gap
+module _ (c : Chart) (G : All (Gapped c) (c .strokes)) (gaps : List ℕ) (g : ℕ) (I : GapsIn c gaps g) where
+  clear-at : (s : Stroke) → Clear c gaps g s → All (λ t. ¬ Passes c s t) (c .strokes)
+  clear-at (level e) k = all-of (c .strokes) (λ t m w. w)
+  clear-at (upright e j) k = all-both (λ t. passes-none c e j t) G (all-flat (gapOf c) (c .strokes) (none-unmet c gaps g I (ends c (upright e j)) k))
+
+  at-clear : (s : Stroke) → All (λ t. ¬ Passes c s t) (c .strokes) → Clear c gaps g s
+  at-clear (level e) a = tt
+  at-clear (upright e j) a = unmet-none c gaps g I (ends c (upright e j)) (flat-all (gapOf c) (c .strokes) (all-both (λ t. none-passes c e j t) G a))
+
+  pub clear-rule : All (Clear c gaps g) (c .strokes) → GapRule c
+  clear-rule a = all-imp clear-at a
+
+  pub rule-clear : GapRule c → All (Clear c gaps g) (c .strokes)
+  rule-clear a = all-imp at-clear a
+
+-- the stroke at a place
+module _ (s : List ℕ) (at : ℕ) where
+  pub level-clear : getD s at 0 ≡ 0 → (gaps : List ℕ) (g : ℕ) → Clear (chartIn s) gaps g (strokeAt s at)
+  level-clear z gaps g = rw (level-at s at z) tt
+
+  module _ (small : getD s at 0 < 2) (u : getD s at 0 ≢ 0) (r : Ends) (E : EndsOf s at r) (gaps : List ℕ) (g : ℕ) where
+    cells : (r .first, r .last) ≡ ends (chartIn s) (upright (edgeAt s at) (get16 s (at + 5)))
+    cells = E .same ∙ ap (ends (chartIn s)) (upright-at s at small u)
+
+    pub upright-clear : None gaps 0 g (Inside (r .first, r .last)) → Clear (chartIn s) gaps g (strokeAt s at)
+    upright-clear f = rw (upright-at s at small u) (subst (λ (e : Cell × Cell). None gaps 0 g (Inside e)) cells f)
+
+    pub upright-met : Some gaps 0 g (Inside (r .first, r .last)) → Clear (chartIn s) gaps g (strokeAt s at) → ⊥
+    upright-met w k =
+        let f : None gaps 0 g (Inside (ends (chartIn s) (upright (edgeAt s at) (get16 s (at + 5))))) = rw (upright-at s at small u) at k in
+        subst (λ (e : Cell × Cell). None gaps 0 g (Inside e)) (sym cells) f (w .0) (w .1) (w .2)

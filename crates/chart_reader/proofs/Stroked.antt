@@ -1,0 +1,109 @@
+-- The strokes of a chart, place by place, as the code reads them.
+use mathlib.Core.Path.{_≡_, refl, ap, sym, _∙_, subst}
+use mathlib.Core.Logic.{_≢_}
+use mathlib.Core.List.{List, [], _∷_, map}
+use Prim.Native.Nat.{ℕ, zero, suc, _+_, _*_, _-_, _%_, _≤_, _<_, min, max}
+use native.Mathlib.Omega.{arith}
+use lib.ListN.{length, getD, length-map, List·getD-map}
+use Rattle.polygon.specs.Lists.{All, all-nil, all-cons}
+use Rattle.polygon.specs.Polygon.{Edge, _—_}
+use Rattle.polygon.proofs.Lists.{all-imp}
+use Rattle.codec.specs.Numbers.{get16}
+use Rattle.keys.proofs.Crosses.{all-at, at-all}
+use Rattle.chart.specs.Chart.{Stroke, upright, level, strokeEdge}
+use Rattle.chart_reader.specs.declared.Ends.{Ends}
+use Rattle.chart_reader.specs.Cells.{cell}
+use Rattle.chart_reader.specs.Decode.{countIn, barAt, strokeSize, shaped, edgeAt, strokeAt, places, behind, strokePlaces, chartIn}
+use Rattle.chart_reader.specs.Rules.{Named, Joins, ends, Free}
+use Rattle.chart_reader.specs.Held.{Small, Bars, Placed, Spans, StrokeIn, EndsOf}
+use Rattle.chart_reader.proofs.Accepts.{places-count}
+use Rattle.chart_reader.proofs.Encoded.{behind-up}
+
+-- a stroke by its map byte
+module _ (s : List ℕ) (at : ℕ) where
+  pub edge-at : strokeEdge (strokeAt s at) ≡ edgeAt s at
+  unfolding strokeEdge shaped
+  edge-at = go (getD s at 0 % 2)
+    where
+      go : (b : ℕ) → strokeEdge (shaped b (edgeAt s at) (get16 s (at + 5))) ≡ edgeAt s at
+      go zero = refl
+      go (suc b) = refl
+
+  pub level-at : getD s at 0 ≡ 0 → strokeAt s at ≡ level (edgeAt s at)
+  unfolding shaped
+  level-at e = rw e
+
+  pub upright-at : getD s at 0 < 2 → getD s at 0 ≢ 0 → strokeAt s at ≡ upright (edgeAt s at) (get16 s (at + 5))
+  unfolding shaped
+  upright-at h f = let e : getD s at 0 ≡ 1 = omega arith in rw e
+
+-- all strokes of a chart, by their places
+module _ (s : List ℕ) (n : ℕ) (at : List ℕ) (P : Placed s n at) where
+  pub strokes-all : {Q : Stroke → Type 0} → ((k : ℕ) → k < length at → Q (strokeAt s (getD at k 0))) → All Q (chartIn s .strokes)
+  strokes-all {Q} f = rw (← P .strokes) (all-at (strokeAt s 0) (map (strokeAt s) at) (λ k h. rw (List·getD-map (strokeAt s) at k 0) (f k (omega (arith, length-map at (strokeAt s))))))
+
+  pub strokes-at : {Q : Stroke → Type 0} → All Q (chartIn s .strokes) → (k : ℕ) → k < length at → Q (strokeAt s (getD at k 0))
+  strokes-at {Q} a k h = rw (List·getD-map (strokeAt s) at k 0) at (at-all (strokeAt s 0) (rw (← P .strokes) at a) k (omega (arith, length-map at (strokeAt s))))
+
+  pub strokes-room : length at ≡ 2 * n - 3
+  strokes-room = rw (P .count) (ap length (P .strokes) ∙ places-count s (6 + 6 * countIn s) (2 * countIn s - 3))
+
+  pub bars-room : Bars s n
+  bars-room = record { count = P .count; room = omega (arith, P .count, P .formed .exact, behind-up s (6 + 6 * countIn s) (2 * countIn s - 3)) }
+
+-- each lies within the bytes
+inside : (s : List ℕ) (at k : ℕ) → All (λ p. p + strokeSize (getD s p 0) ≤ behind s at k) (places s at k)
+unfolding places behind
+inside s at zero = all-nil
+inside s at (suc k) = all-cons {x = at} (behind-up s (at + strokeSize (getD s at 0)) k) (inside s (at + strokeSize (getD s at 0)) k)
+
+module _ (s : List ℕ) (n : ℕ) (at : List ℕ) (P : Placed s n at) (k : ℕ) (h : k < length at) where
+  pub place-bit : getD s (getD at k 0) 0 < 2
+  place-bit = at-all 0 (rw (← P .strokes) at (P .formed .bits)) k h
+
+  pub place-room : getD at k 0 + strokeSize (getD s (getD at k 0) 0) ≤ length s
+  place-room =
+      let a : All (λ p. p + strokeSize (getD s p 0) ≤ length s) (strokePlaces s) = rw (P .formed .exact) at (inside s (6 + 6 * countIn s) (2 * countIn s - 3)) in
+      at-all 0 (rw (← P .strokes) at a) k h
+
+  pub stroke-in : All (Named (chartIn s)) (chartIn s .strokes) → StrokeIn s n (getD at k 0)
+  stroke-in N =
+      let q = rw (edge-at s (getD at k 0)) at (strokes-at s n at P N k h) in
+      record { bit = place-bit; room = place-room; low = omega (arith, P .count); high = omega (arith, P .count) }
+
+-- whether a stroke's bars are joined: its corners a and b, the rows of their bars, and its column
+module _ (s : List ℕ) (at a b ra rb : ℕ) (ea : a ≡ get16 s (at + 1)) (eb : b ≡ get16 s (at + 3)) (fa : ra ≡ get16 s (6 + 6 * a)) (fb : rb ≡ get16 s (6 + 6 * b)) where
+  module _ (z : getD s at 0 ≡ 0) where
+    pub level-joins : ra ≡ rb → Joins (chartIn s) (strokeAt s at)
+    level-joins e = rw (level-at s at z, ← ea, ← eb, ← fa, ← fb) e
+
+    pub joins-level : Joins (chartIn s) (strokeAt s at) → ra ≡ rb
+    joins-level J = rw (level-at s at z, ← ea, ← eb, ← fa, ← fb) at J
+
+  module _ (small : getD s at 0 < 2) (u : getD s at 0 ≢ 0) where
+    pub joins-rows : Joins (chartIn s) (strokeAt s at) → ra ≢ rb
+    joins-rows J = rw (upright-at s at small u, ← ea, ← eb, ← fa, ← fb) at J .2
+
+    module _ (j : ℕ) (ej : j ≡ get16 s (at + 5)) where
+      pub upright-joins : ra ≢ rb → Spans (barAt s (6 + 6 * a)) j → Spans (barAt s (6 + 6 * b)) j → Joins (chartIn s) (strokeAt s at)
+      upright-joins f x y = rw (upright-at s at small u, ← ea, ← eb, ← fa, ← fb, ← ej) (x, y, f)
+
+      pub joins-spans : Joins (chartIn s) (strokeAt s at) → Spans (barAt s (6 + 6 * a)) j × Spans (barAt s (6 + 6 * b)) j
+      joins-spans J = let (x, y, f) = rw (upright-at s at small u, ← ea, ← eb, ← ej) at J in (x, y)
+
+      -- the two cells of an upright
+      pub upright-ends : ra < 65536 → rb < 65536 → j < 65536 → EndsOf s at (record { first = cell ra j; last = cell rb j })
+      upright-ends p q r = record { same = rw (upright-at s at small u, ← ea, ← eb, ← fa, ← fb, ← ej); first-small = (p, r); last-small = (q, r) }
+
+  -- the two cells of a level stroke
+  pub level-ends : getD s at 0 ≡ 0 → (i j : ℕ) → i ≡ min (get16 s (6 + 6 * a + 4)) (get16 s (6 + 6 * b + 4)) → j ≡ max (get16 s (6 + 6 * a + 2)) (get16 s (6 + 6 * b + 2))
+      → ra < 65536 → rb < 65536 → i < 65536 → j < 65536 → EndsOf s at (record { first = cell ra i; last = cell rb j })
+  level-ends z i j ei ej p q k l = record { same = rw (level-at s at z, ← ea, ← eb, ← fa, ← fb, ← ei, ← ej); first-small = (p, k); last-small = (q, l) }
+
+-- the question about the two cells of a stroke
+module _ {s : List ℕ} {at : ℕ} {r : Ends} (E : EndsOf s at r) where
+  pub free-ends : Free (chartIn s) (r .first, r .last) → Free (chartIn s) (ends (chartIn s) (strokeAt s at))
+  free-ends f = subst (Free (chartIn s)) (E .same) f
+
+  pub ends-free : Free (chartIn s) (ends (chartIn s) (strokeAt s at)) → Free (chartIn s) (r .first, r .last)
+  ends-free f = subst (Free (chartIn s)) (sym (E .same)) f

@@ -1,0 +1,47 @@
+-- What this crate proves of reading a chart, each theorem with its statement in plain words. The proofs are in the files beside this one.
+-- To be read with specs/Reader.antt, specs/Rules.antt, specs/Decode.antt and specs/Charts.antt.
+use mathlib.Core.Path.{_≡_, refl, ap, sym, _∙_}
+use mathlib.Core.Logic.{_↔_}
+use mathlib.Core.List.{List}
+use Prim.Native.Nat.{ℕ, _<_}
+use Rattle.polygon.specs.Lists.{All}
+use Rattle.polygon.specs.Polygon.{Polygon, Valid}
+use Rattle.codec.specs.Answer.{refuse, write}
+use Rattle.sheet.specs.Sheet.{Reading, refused, held, normalSheet, outcome}
+use Rattle.umbrella.specs.Best.{planOf}
+use Rattle.chart.specs.Chart.{chartOf}
+use Rattle.chart.specs.Bytes.{bytesOf}
+use Rattle.chart.proofs.Theorems.{chart-is-true, chart-shows}
+use Rattle.chart_reader.specs.Reader.{readChart, chartRead}
+use Rattle.chart_reader.specs.Charts.{Charts, unnumbered}
+use Rattle.chart_reader.proofs.Verdict.{Verdict, read-by, by-reading}
+use Rattle.chart_reader.proofs.Accepts.{held-charts, charts-held}
+
+-- Bytes are accepted, but for 8, exactly if they are those of a true chart that shows a valid part; and they are read as that part, without a number.
+pub accepts : (s : List ℕ) (p : Polygon) → All (λ b. b < 256) s → (readChart s ≡ held p) ↔ Charts s p
+accepts s p B = (λ e. held-charts s p B (by-reading s e) refl, charts-held)
+
+-- What is refused is refused by the first number that applies: `Verdict` in Verdict.antt has a case for each.
+pub refuses : (s : List ℕ) (r : Reading) → (readChart s ≡ r) ↔ Verdict s r
+refuses s r = (by-reading s, read-by s)
+
+-- The sheet written is the normal sheet of that part.
+pub writes : (s : List ℕ) (p : Polygon) → Charts s p → chartRead s ≡ write (normalSheet p)
+unfolding chartRead outcome
+writes s p C = ap outcome (charts-held C)
+
+-- The chart of every valid part is read back as that part, without its number.
+chart-charts : (p : Polygon) → Valid p → Charts (bytesOf (chartOf p)) (unnumbered p)
+chart-charts p v =
+    let S = chart-shows p v in
+    record {
+      valid = record { least = v .least; most = v .most; triangulated = v .triangulated; numbered = tt };
+      unnumbered = refl;
+      chart = chartOf p;
+      bytes = refl;
+      is-true = chart-is-true p v;
+      shows = record { corners = S .corners; edges = S .edges; ascending = S .ascending };
+    }
+
+pub reads-back : (p : Polygon) → Valid p → readChart (bytesOf (chartOf p)) ≡ held (unnumbered p)
+reads-back p v = charts-held (chart-charts p v)

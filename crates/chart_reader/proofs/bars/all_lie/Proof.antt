@@ -1,0 +1,60 @@
+-- The loop's invariant: the bars before x lie as they should.
+use mathlib.Core.Bool.{true≢false, false≢true}
+use mathlib.Core.Path.{_≡_}
+use Prim.Native.Nat.{ℕ, _≤_, _<_, _-_}
+use borrow.Author.Count.{below-more}
+use borrow.Author.Needs.{needs}
+use borrow.Author.Tests.{not-true, not-false}
+use native.Mathlib.Omega.{arith}
+use Rattle.chart_reader.specs.Decode.{chartIn}
+use Rattle.chart_reader.specs.Rules.{Lies}
+use Rattle.chart_reader.proofs.Below.{below-at, below-all}
+use Rattle.chart_reader.proofs.bars.all_lie.Statement.{statement}
+use Rattle.chart_reader.proofs.bars.all_lie.Tie as tie
+use Rattle.chart_reader.proofs.bars.all_lie.Reads as reads
+use Rattle.chart_reader.proofs.bars.all_lie.Lts as lts
+use Rattle.chart_reader.proofs.bars.lies.Reads as lies-reads
+use Rattle.codec.proofs.get16.Reads as get16-reads
+
+abbrev Inv-loop : tie.InvT-loop
+Inv-loop chart n rows columns x₀ x = (x ≤ n) × ((y : ℕ) → y < x → Lies (chartIn chart) y)
+
+abbrev μ-loop : tie.MeasureT-loop
+μ-loop chart n rows columns x₀ x = n - x
+
+get16-requires : tie.Need-get16-requires Inv-loop μ-loop
+get16-requires c κs = omega (arith, c .before .pre .room)
+
+get16-requires-2 : tie.Need-get16-requires-2 Inv-loop μ-loop
+get16-requires-2 c κs = omega (arith, c .before .before .pre .room)
+
+loop-holds : tie.Need-loop-holds Inv-loop μ-loop
+loop-holds c = (omega arith, λ y h. absurd (omega arith))
+
+mul-lies : tie.Need-mul-lies Inv-loop μ-loop
+mul-lies c = omega (arith, c .before .before .before .before .before .pre .room)
+
+add-lies : tie.Need-add-lies Inv-loop μ-loop
+add-lies c = omega (arith, c .before .before .before .before .before .pre .room)
+
+lies-requires : tie.Need-lies-requires Inv-loop μ-loop
+lies-requires c κs = omega (arith, c .before .before .before .before .before .pre .room)
+
+returns : tie.Need-returns Inv-loop μ-loop
+returns c = (λ h. absurd (false≢true h), λ h a. c .before .lies .ensures .1 (not-true _ (c .if1 .taken)) (rw (c .before .before .before .before .before .get16 .ensures .0, c .before .before .before .before .get162 .ensures .0) (below-at a (c .before .before .before .loop .x) (c .before .before .loop-test .taken))))
+
+add-x : tie.Need-add-x Inv-loop μ-loop
+add-x c = omega (arith, c .before .before .before .before .before .before .before .pre .room)
+
+loop-less : tie.Need-loop-less Inv-loop μ-loop
+loop-less c = omega arith
+
+loop-again : tie.Need-loop-again Inv-loop μ-loop
+loop-again c = (omega arith, below-more _ _ (c .before .before .before .loop .inv .1) (rw (← c .before .before .before .before .before .get16 .ensures .0, ← c .before .before .before .before .get162 .ensures .0) (c .before .lies .ensures .0 (not-false _ (c .if1 .left)))))
+
+returns-2 : tie.Need-returns-2 Inv-loop μ-loop
+returns-2 c = (λ h. below-all (c .before .before .before .before .before .args .n) (λ y k. c .before .loop .inv .1 y (omega arith)), λ h. absurd (true≢false h))
+
+pub all-lie-spec : {M : Type 1} → statement M
+all-lie-spec = tie.close (tie.spec Inv-loop μ-loop get16-requires get16-requires-2 loop-holds mul-lies add-lies lies-requires returns add-x loop-less loop-again returns-2)
+

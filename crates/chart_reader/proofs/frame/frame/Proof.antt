@@ -1,0 +1,63 @@
+-- Each test of the frame, by the laws of Placing.antt.
+use mathlib.Core.Path.{_≡_, refl, sym, _∙_}
+use Prim.Native.Nat.{_+_, _*_, _-_}
+use borrow.Author.Needs.{needs}
+use borrow.Author.Tests.{not-true, not-false}
+use native.Mathlib.Omega.{arith}
+use lib.ListN.{length, length-append, length-drop}
+use Rattle.chart_reader.proofs.Placing.{room-is, not-formed, framed}
+use Rattle.chart_reader.proofs.frame.frame.Statement.{statement}
+use Rattle.chart_reader.proofs.frame.frame.Tie as tie
+use Rattle.chart_reader.proofs.frame.frame.Reads as reads
+use Rattle.chart_reader.proofs.frame.frame.Lts as lts
+use Rattle.chart_reader.proofs.frame.stroke_places.Reads as stroke-places-reads
+use Rattle.codec.proofs.get16.Reads as get16-reads
+
+returns : tie.Need-returns
+returns c = (λ h F. omega (arith, F .head), λ f. absurd (f refl))
+
+get16-requires : tie.Need-get16-requires
+get16-requires c κs = search needs
+
+returns-2 : tie.Need-returns-2
+returns-2 c = (λ h F. omega (arith, F .least, c .before .get16 .ensures .0), λ f. absurd (f refl))
+
+returns-3 : tie.Need-returns-3
+returns-3 c = (λ h F. omega (arith, F .most, c .before .before .get16 .ensures .0), λ f. absurd (f refl))
+
+mul-m : tie.Need-mul-m
+mul-m c = search needs
+
+sub-m : tie.Need-sub-m
+sub-m c = search needs
+
+mul-stroke-places : tie.Need-mul-stroke-places
+mul-stroke-places c = search needs
+
+add-stroke-places : tie.Need-add-stroke-places
+add-stroke-places c = search needs
+
+slice-relend-prefix-stroke-places : tie.Need-slice-relend-prefix-stroke-places
+slice-relend-prefix-stroke-places c = search needs
+
+slice-aggregate-stroke-places : tie.Need-slice-aggregate-stroke-places
+slice-aggregate-stroke-places c = sym (room-is (c .before .before .before .before .before .before .before .args .chart .now) (c .before .before .before .get16 .result) (c .before .before .before .get16 .ensures .0) (c .before .before .before .before .before .before .before .args .at .now) (c .before .before .before .before .before .before .before .pre) (c .before .before .if2 .left) (c .before .if3 .left))
+
+stroke-places-requires : tie.Need-stroke-places-requires
+stroke-places-requires c κs = omega (arith, room-is (c .before .before .before .before .before .before .before .args .chart .now) (c .before .before .before .get16 .result) (c .before .before .before .get16 .ensures .0) (c .before .before .before .before .before .before .before .args .at .now) (c .before .before .before .before .before .before .before .pre) (c .before .before .if2 .left) (c .before .if3 .left))
+
+same-length : tie.Need-same-length
+same-length c = search needs
+
+returns-4 : tie.Need-returns-4
+returns-4 c = (λ h F. not-formed (c .before .before .before .before .before .before .before .before .before .before .before .args .chart .now) (c .before .before .before .before .before .before .before .get16 .result) (c .before .before .before .before .before .before .before .get16 .ensures .0) (c .before .before .before .before .before .before .before .before .before .before .before .args .at .now) (c .before .before .before .before .before .before .before .before .before .before .before .pre) (c .before .before .before .before .before .before .if2 .left) (c .before .before .before .before .before .if3 .left) (c .before .before .before .stroke-places .ensures .1 (not-true _ (c .if4 .taken))) F, λ f. absurd (f refl))
+
+same-length-2 : tie.Need-same-length-2
+same-length-2 c = search needs
+
+returns-5 : tie.Need-returns-5
+returns-5 c = (λ h. absurd (omega arith), λ f. framed (c .before .before .before .before .before .before .before .before .before .before .before .args .chart .now) (c .before .before .before .before .before .before .before .get16 .result) (c .before .before .before .before .before .before .before .get16 .ensures .0) (c .before .before .before .before .before .before .before .before .before .before .before .args .at .now) (c .before .before .before .before .before .before .before .before .before .before .before .pre) (c .before .before .before .before .before .before .if2 .left) (c .before .before .before .before .before .if3 .left) (c .before .before .before .stroke-places .last .1 .1 .0) (c .before .before .before .before .before .before .before .before .if1 .left) (c .before .before .before .stroke-places .ensures .0 (not-false _ (c .if4 .left))) (c .before .before .before .stroke-places .kept .1 .1 .0))
+
+pub frame-spec : {M : Type 1} → statement M
+frame-spec = tie.close (tie.spec returns get16-requires returns-2 returns-3 mul-m sub-m mul-stroke-places add-stroke-places slice-relend-prefix-stroke-places slice-aggregate-stroke-places stroke-places-requires same-length returns-4 same-length-2 returns-5)
+

@@ -1,0 +1,74 @@
+-- The loop's invariant is `Placing`.
+use mathlib.Core.Path.{_≡_, refl}
+use mathlib.Core.Bool.{true≢false, false≢true}
+use Prim.Native.Nat.{_+_, _*_, _-_}
+use borrow.Author.Needs.{needs}
+use borrow.Author.Tests.{eqb-true, eqb-false}
+use native.Mathlib.Omega.{arith}
+use lib.ListN.{length, length-set}
+use Rattle.chart_reader.proofs.Placing.{Placing, placing-none, past-end, other-bit, placing-next, placed, not-ending}
+use Rattle.chart_reader.proofs.frame.stroke_places.Statement.{statement}
+use Rattle.chart_reader.proofs.frame.stroke_places.Tie as tie
+use Rattle.chart_reader.proofs.frame.stroke_places.Reads as reads
+use Rattle.chart_reader.proofs.frame.stroke_places.Lts as lts
+
+abbrev Inv-loop : tie.InvT-loop
+Inv-loop chart from at₀ i₀ p₀ at i p = Placing chart from (length at₀) at i p
+
+abbrev μ-loop : tie.MeasureT-loop
+μ-loop chart from at₀ i₀ p₀ at i p = length at - i
+
+loop-holds : tie.Need-loop-holds Inv-loop μ-loop
+loop-holds c = placing-none _ _ _
+
+same-length : tie.Need-same-length Inv-loop μ-loop
+same-length c = c .before .before .loop .inv .size
+
+returns : tie.Need-returns Inv-loop μ-loop
+returns c = (λ h. absurd (false≢true h), λ h. past-end (c .before .before .before .args .chart .now) (c .before .before .before .args .from) (length (c .before .before .before .args .at .now)) (c .before .before .loop .at) (c .before .before .loop .i) (c .before .before .loop .p) (c .before .before .loop .inv) (omega (arith, c .before .before .loop .inv .size)) (c .if1 .taken))
+
+shared-slice-read-map : tie.Need-shared-slice-read-map Inv-loop μ-loop
+shared-slice-read-map c = omega (arith, c .before .before .before .loop .inv)
+
+same-length-2 : tie.Need-same-length-2 Inv-loop μ-loop
+same-length-2 c = c .before .before .before .before .loop .inv .size
+
+returns-2 : tie.Need-returns-2 Inv-loop μ-loop
+returns-2 c = (λ h. absurd (false≢true h), λ h. other-bit (c .before .before .before .before .before .args .chart .now) (c .before .before .before .before .before .args .from) (length (c .before .before .before .before .before .args .at .now)) (c .before .before .before .before .loop .at) (c .before .before .before .before .loop .i) (c .before .before .before .before .loop .p) (c .before .before .before .before .loop .inv) (omega (arith, c .before .before .before .before .loop .inv .size)) (c .if2 .taken))
+
+mul-at : tie.Need-mul-at Inv-loop μ-loop
+mul-at c = omega (arith, c .before .before .before .before .loop .inv)
+
+slice-write-at : tie.Need-slice-write-at Inv-loop μ-loop
+slice-write-at c = omega (arith, c .before .before .before .before .loop .inv)
+
+cast-p : tie.Need-cast-p Inv-loop μ-loop
+cast-p c = omega (arith, c .before .before .before .before .loop .inv)
+
+mul-p : tie.Need-mul-p Inv-loop μ-loop
+mul-p c = omega (arith, c .before .before .before .before .loop .inv)
+
+add-p : tie.Need-add-p Inv-loop μ-loop
+add-p c = omega (arith, c .before .before .before .before .loop .inv)
+
+add-p-2 : tie.Need-add-p-2 Inv-loop μ-loop
+add-p-2 c = omega (arith, c .before .before .before .before .loop .inv)
+
+add-i : tie.Need-add-i Inv-loop μ-loop
+add-i c = omega (arith, c .before .before .before .before .loop .inv)
+
+loop-less : tie.Need-loop-less Inv-loop μ-loop
+loop-less c = simp length-set (omega arith)
+
+loop-again : tie.Need-loop-again Inv-loop μ-loop
+loop-again c = placing-next (c .before .before .before .before .before .args .chart .now) (c .before .before .before .before .before .args .from) (length (c .before .before .before .before .before .args .at .now)) (c .before .before .before .before .loop .at) (c .before .before .before .before .loop .i) (c .before .before .before .before .loop .p) (c .before .before .before .before .loop .inv) (omega (arith, c .before .before .before .before .loop .inv .size)) (c .if2 .left) _ refl
+
+same-length-3 : tie.Need-same-length-3 Inv-loop μ-loop
+same-length-3 c = c .before .loop .inv .size
+
+returns-3 : tie.Need-returns-3 Inv-loop μ-loop
+returns-3 c = (λ h. placed (c .before .before .args .chart .now) (c .before .before .args .from) (length (c .before .before .args .at .now)) (c .before .loop .at) (c .before .loop .i) (c .before .loop .p) (c .before .loop .inv) (omega (arith, c .before .loop .inv .size)) (eqb-true _ _ h), λ h. not-ending (c .before .before .args .chart .now) (c .before .before .args .from) (length (c .before .before .args .at .now)) (c .before .loop .at) (c .before .loop .i) (c .before .loop .p) (c .before .loop .inv) (omega (arith, c .before .loop .inv .size)) (eqb-false (c .before .loop .p) (length (c .before .before .args .chart .now)) h))
+
+pub stroke-places-spec : {M : Type 1} → statement M
+stroke-places-spec = tie.close (tie.spec Inv-loop μ-loop loop-holds same-length returns shared-slice-read-map same-length-2 returns-2 mul-at slice-write-at cast-p mul-p add-p add-p-2 add-i loop-less loop-again same-length-3 returns-3)
+

@@ -1,0 +1,31 @@
+-- The gaps are written, and each upright is held against them.
+use borrow.Author.Needs.{needs}
+use native.Mathlib.Omega.{arith}
+use Rattle.chart_reader.specs.Decode.{chartIn}
+use Rattle.chart_reader.proofs.Stroked.{strokes-room}
+use Rattle.chart_reader.proofs.Passing.{gapped, clear-rule, rule-clear}
+use Rattle.chart_reader.proofs.gaps.gaps_keep.Statement.{statement}
+use Rattle.chart_reader.proofs.gaps.gaps_keep.Tie as tie
+use Rattle.chart_reader.proofs.gaps.gaps_keep.Reads as reads
+use Rattle.chart_reader.proofs.gaps.gaps_keep.Lts as lts
+use Rattle.chart_reader.proofs.gaps.all_clear.Reads as all-clear-reads
+use Rattle.chart_reader.proofs.gaps.put_gaps.Reads as put-gaps-reads
+
+slice-aggregate-put-gaps : tie.Need-slice-aggregate-put-gaps
+slice-aggregate-put-gaps c = search needs
+
+put-gaps-requires : tie.Need-put-gaps-requires
+put-gaps-requires c κs = (c .before .before .before .pre .0, c .before .before .before .pre .2 .0, omega (arith, strokes-room (c .before .before .before .args .chart .now) (c .before .before .before .args .n) (c .before .before .before .args .at .now) (c .before .before .before .pre .0), c .before .before .before .pre .0 .count, c .before .before .before .pre .0 .formed .most))
+
+slice-aggregate-all-clear : tie.Need-slice-aggregate-all-clear
+slice-aggregate-all-clear c = search needs
+
+all-clear-requires : tie.Need-all-clear-requires
+all-clear-requires c κs = (c .before .before .before .before .before .before .pre .0, c .before .before .before .before .before .before .pre .2 .0, omega (arith, c .before .before .put-gaps .ensures .1, c .before .before .put-gaps .kept .1 .1 .1 .0, strokes-room (c .before .before .before .before .before .before .args .chart .now) (c .before .before .before .before .before .before .args .n) (c .before .before .before .before .before .before .args .at .now) (c .before .before .before .before .before .before .pre .0), c .before .before .before .before .before .before .pre .0 .count, c .before .before .before .before .before .before .pre .0 .formed .most))
+
+returns : tie.Need-returns
+returns c = (λ h. clear-rule (chartIn (c .before .before .before .before .before .before .before .args .chart .now)) (gapped (chartIn (c .before .before .before .before .before .before .before .args .chart .now)) (c .before .before .before .before .before .before .before .pre .1) (c .before .before .before .before .before .before .before .pre .2)) (c .before .before .before .put-gaps .last .1 .1 .1 .0) (c .before .before .before .put-gaps .result) (c .before .before .before .put-gaps .ensures .0) (c .all-clear .ensures .0 h), λ h R. c .all-clear .ensures .1 h (rule-clear (chartIn (c .before .before .before .before .before .before .before .args .chart .now)) (gapped (chartIn (c .before .before .before .before .before .before .before .args .chart .now)) (c .before .before .before .before .before .before .before .pre .1) (c .before .before .before .before .before .before .before .pre .2)) (c .before .before .before .put-gaps .last .1 .1 .1 .0) (c .before .before .before .put-gaps .result) (c .before .before .before .put-gaps .ensures .0) R))
+
+pub gaps-keep-spec : {M : Type 1} → statement M
+gaps-keep-spec = tie.close (tie.spec slice-aggregate-put-gaps put-gaps-requires slice-aggregate-all-clear all-clear-requires returns)
+

@@ -1,0 +1,58 @@
+-- The loop's invariant is `Choosing`.
+use mathlib.Core.Logic.{⊎-elim}
+use Prim.Native.Nat.{_-_}
+use borrow.Author.Needs.{needs}
+use native.Mathlib.Omega.{arith}
+use lib.ListN.{length}
+use Rattle.chart_reader.proofs.Choosing.{Choosing, choosing-none, choosing-yes, choosing-no, chosen-all}
+use Rattle.chart_reader.proofs.part.diagonals.Statement.{statement}
+use Rattle.chart_reader.proofs.part.diagonals.Tie as tie
+use Rattle.chart_reader.proofs.part.diagonals.Reads as reads
+use Rattle.chart_reader.proofs.part.diagonals.Lts as lts
+use Rattle.chart_reader.proofs.part.is_diagonal.Reads as is-diagonal-reads
+
+abbrev Inv-loop : tie.InvT-loop
+Inv-loop edges n keys₀ m₀ i₀ keys m i = Choosing n edges (length keys₀) keys m i
+
+abbrev μ-loop : tie.MeasureT-loop
+μ-loop edges n keys₀ m₀ i₀ keys m i = length edges - i
+
+loop-holds : tie.Need-loop-holds Inv-loop μ-loop
+loop-holds c = choosing-none _ _ _
+
+mul-k : tie.Need-mul-k Inv-loop μ-loop
+mul-k c = omega arith
+
+shared-slice-read-k : tie.Need-shared-slice-read-k Inv-loop μ-loop
+shared-slice-read-k c = omega arith
+
+is-diagonal-requires : tie.Need-is-diagonal-requires Inv-loop μ-loop
+is-diagonal-requires c κs = omega arith
+
+mul-keys : tie.Need-mul-keys Inv-loop μ-loop
+mul-keys c = omega arith
+
+slice-write-keys : tie.Need-slice-write-keys Inv-loop μ-loop
+slice-write-keys c = omega (arith, c .before .before .before .before .loop .inv .low, c .before .before .before .before .loop .inv .size, c .before .before .before .before .before .before .before .pre .0)
+
+add-m : tie.Need-add-m Inv-loop μ-loop
+add-m c = omega (arith, c .before .before .before .before .loop .inv .low)
+
+add-i : tie.Need-add-i Inv-loop μ-loop
+add-i c = omega arith
+
+loop-less : tie.Need-loop-less Inv-loop μ-loop
+loop-less c = omega arith
+
+loop-again : tie.Need-loop-again Inv-loop μ-loop
+loop-again c = ⊎-elim (λ w. rw (w .1, w .2) (choosing-yes (c .before .before .before .before .before .before .before .args .n) (c .before .before .before .before .before .before .before .args .edges .now) (length (c .before .before .before .before .before .before .before .args .keys .now)) (c .before .before .before .before .loop .keys) (c .before .before .before .before .loop .m) (c .before .before .before .before .loop .i) (c .before .before .before .before .loop .inv) (c .before .before .before .before .before .before .before .pre .0) (c .before .before .before .loop-test .taken) (c .before .is-diagonal .ensures .0 (w .0 .taken)))) (λ w. rw (w .1, w .2) (choosing-no (c .before .before .before .before .before .before .before .args .n) (c .before .before .before .before .before .before .before .args .edges .now) (length (c .before .before .before .before .before .before .before .args .keys .now)) (c .before .before .before .before .loop .keys) (c .before .before .before .before .loop .m) (c .before .before .before .before .loop .i) (c .before .before .before .before .loop .inv) (c .before .before .before .before .before .before .before .pre .0) (c .before .before .before .loop-test .taken) (c .before .is-diagonal .ensures .1 (w .0 .left)))) (c .if1 .came)
+
+same-length : tie.Need-same-length Inv-loop μ-loop
+same-length c = c .before .loop .inv .size
+
+returns : tie.Need-returns Inv-loop μ-loop
+returns c = (omega (arith, c .before .loop .inv .low, c .before .loop .inv .upto), chosen-all (c .before .before .before .before .args .n) (c .before .before .before .before .args .edges .now) (length (c .before .before .before .before .args .keys .now)) (c .before .loop .keys) (c .before .loop .m) (c .before .loop .i) (c .before .loop .inv) (c .loop-test .left))
+
+pub diagonals-spec : {M : Type 1} → statement M
+diagonals-spec = tie.close (tie.spec Inv-loop μ-loop loop-holds mul-k shared-slice-read-k is-diagonal-requires mul-keys slice-write-keys add-m add-i loop-less loop-again same-length returns)
+

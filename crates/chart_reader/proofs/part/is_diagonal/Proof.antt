@@ -1,0 +1,39 @@
+-- Test by test.
+use mathlib.Core.Bool.{false≢true}
+use borrow.Author.Needs.{needs}
+use borrow.Author.Tests.{ltb-true, ltb-false}
+use native.Mathlib.Omega.{arith}
+use Rattle.chart_reader.proofs.part.is_diagonal.Statement.{statement}
+use Rattle.chart_reader.proofs.part.is_diagonal.Tie as tie
+use Rattle.chart_reader.proofs.part.is_diagonal.Reads as reads
+use Rattle.chart_reader.proofs.part.is_diagonal.Lts as lts
+use Rattle.keys.proofs.high.Reads as high-reads
+use Rattle.keys.proofs.low.Reads as low-reads
+
+low-requires : tie.Need-low-requires
+low-requires c κs = search needs
+
+high-requires : tie.Need-high-requires
+high-requires c κs = search needs
+
+add-if1 : tie.Need-add-if1
+add-if1 c = search needs
+
+returns : tie.Need-returns
+returns c = (λ h. absurd (false≢true h), λ h d. omega (arith, d, c .before .before .low .ensures, c .before .high .ensures))
+
+add-if2 : tie.Need-add-if2
+add-if2 c = search needs
+
+add-if2-2 : tie.Need-add-if2-2
+add-if2-2 c = search needs
+
+returns-2 : tie.Need-returns-2
+returns-2 c = (λ h. absurd (false≢true h), λ h d. omega (arith, d, c .before .before .before .low .ensures, c .before .before .high .ensures))
+
+returns-3 : tie.Need-returns-3
+returns-3 c = (λ h. omega (arith, c .before .before .before .low .ensures, c .before .before .high .ensures, ltb-true (c .before .before .high .result) (c .before .before .before .before .args .n) h), λ h d. omega (arith, d, c .before .before .high .ensures, ltb-false (c .before .before .high .result) (c .before .before .before .before .args .n) h))
+
+pub is-diagonal-spec : {M : Type 1} → statement M
+is-diagonal-spec = tie.close (tie.spec low-requires high-requires add-if1 returns add-if2 add-if2-2 returns-2 returns-3)
+

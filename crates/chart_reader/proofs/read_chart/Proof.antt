@@ -1,0 +1,46 @@
+-- Read, then written.
+use mathlib.Core.Path.{_≡_, _∙_}
+use borrow.Author.Needs.{needs}
+use native.Mathlib.Omega.{arith}
+use Rattle.sheet.proofs.Outcomes.{held-fits}
+use Rattle.chart_reader.specs.Reader.{chartRead}
+use Rattle.chart_reader.proofs.Found.{read-refused, read-held}
+use Rattle.chart_reader.proofs.read_chart.Statement.{statement}
+use Rattle.chart_reader.proofs.read_chart.Tie as tie
+use Rattle.chart_reader.proofs.read_chart.Reads as reads
+use Rattle.chart_reader.proofs.read_chart.Lts as lts
+use Rattle.chart_reader.proofs.read_part.Reads as read-part-reads
+use Rattle.sheet.proofs.writer.write_sheet.Reads as write-sheet-reads
+
+slice-aggregate-read-part : tie.Need-slice-aggregate-read-part
+slice-aggregate-read-part c = search needs
+
+read-part-requires : tie.Need-read-part-requires
+read-part-requires c κs = search needs
+
+enum-known-k : tie.Need-enum-known-k
+enum-known-k c = search needs
+
+enum-known-h : tie.Need-enum-known-h
+enum-known-h c = search needs
+
+slice-aggregate-write-sheet : tie.Need-slice-aggregate-write-sheet
+slice-aggregate-write-sheet c = search needs
+
+write-sheet-requires : tie.Need-write-sheet-requires
+write-sheet-requires c κs = (held-fits (c .before .before .before .before .before .before .read-part .result) _ _ (c .before .before .before .before .before .before .read-part .ensures .1) (c .before .before .before .h .given .1), omega (arith, c .before .before .before .before .before .before .read-part .kept .1 .0))
+
+returns : tie.Need-returns
+unfolding chartRead
+returns c = read-refused (c .before .before .before .before .read-part .result) (c .before .before .before .before .read-part .last .1 .0) (c .before .before .before .before .before .before .before .before .args .out .now) _ _ (c .before .before .before .before .read-part .ensures .0) (c .before .k .given .1)
+
+same-length : tie.Need-same-length
+same-length c = search needs
+
+returns-2 : tie.Need-returns-2
+unfolding chartRead
+returns-2 c = c .before .before .write-sheet .ensures ∙ read-held (c .before .before .before .before .before .before .before .before .before .read-part .result) (c .before .before .before .before .before .before .before .before .before .read-part .last .1 .0) (c .before .before .before .before .before .before .before .before .before .before .before .before .before .args .out .now) (c .before .before .before .before .before .before .h .given .0 .0) _ (c .before .before .before .before .before .before .before .before .before .read-part .ensures .0) (c .before .before .before .before .before .before .h .given .1)
+
+pub read-chart-spec : {M : Type 1} → statement M
+read-chart-spec = tie.close (tie.spec slice-aggregate-read-part read-part-requires enum-known-k enum-known-h slice-aggregate-write-sheet write-sheet-requires returns same-length returns-2)
+

@@ -1,0 +1,82 @@
+-- The loop's invariant is `Keyed`.
+use mathlib.Core.Path.{_≡_}
+use mathlib.Core.Bool.{true≢false, false≢true}
+use Prim.Native.Nat.{_+_, _-_}
+use borrow.Author.Needs.{needs}
+use native.Mathlib.Omega.{arith}
+use lib.ListN.{length, getD}
+use Rattle.chart_reader.proofs.Stroked.{place-room}
+use Rattle.chart_reader.proofs.Keyed.{Keyed, keyed-none, not-named, keyed-next, all-named, all-keyed}
+use Rattle.chart_reader.proofs.strokes.edge_keys.Statement.{statement}
+use Rattle.chart_reader.proofs.strokes.edge_keys.Tie as tie
+use Rattle.chart_reader.proofs.strokes.edge_keys.Reads as reads
+use Rattle.chart_reader.proofs.strokes.edge_keys.Lts as lts
+use Rattle.codec.proofs.get16.Reads as get16-reads
+use Rattle.keys.proofs.key.Reads as key-reads
+
+abbrev Inv-loop : tie.InvT-loop
+Inv-loop chart at n keys₀ i₀ keys i = Keyed chart n at (length keys₀) keys i
+
+abbrev μ-loop : tie.MeasureT-loop
+μ-loop chart at n keys₀ i₀ keys i = length at - i
+
+loop-holds : tie.Need-loop-holds Inv-loop μ-loop
+loop-holds c = keyed-none _ _ _ _
+
+mul-p : tie.Need-mul-p Inv-loop μ-loop
+mul-p c = omega arith
+
+shared-slice-read-p : tie.Need-shared-slice-read-p Inv-loop μ-loop
+shared-slice-read-p c = omega arith
+
+add-get16 : tie.Need-add-get16 Inv-loop μ-loop
+add-get16 c = omega (arith, place-room (c .before .before .before .before .before .before .args .chart .now) (c .before .before .before .before .before .before .args .n) (c .before .before .before .before .before .before .args .at .now) (c .before .before .before .before .before .before .pre .0) (c .before .before .loop .i) (c .before .loop-test .taken))
+
+get16-requires : tie.Need-get16-requires Inv-loop μ-loop
+get16-requires c κs = omega (arith, place-room (c .before .before .before .before .before .before .args .chart .now) (c .before .before .before .before .before .before .args .n) (c .before .before .before .before .before .before .args .at .now) (c .before .before .before .before .before .before .pre .0) (c .before .before .loop .i) (c .before .loop-test .taken))
+
+add-get16-2 : tie.Need-add-get16-2 Inv-loop μ-loop
+add-get16-2 c = omega (arith, place-room (c .before .before .before .before .before .before .before .args .chart .now) (c .before .before .before .before .before .before .before .args .n) (c .before .before .before .before .before .before .before .args .at .now) (c .before .before .before .before .before .before .before .pre .0) (c .before .before .before .loop .i) (c .before .before .loop-test .taken))
+
+get16-requires-2 : tie.Need-get16-requires-2 Inv-loop μ-loop
+get16-requires-2 c κs = omega (arith, place-room (c .before .before .before .before .before .before .before .args .chart .now) (c .before .before .before .before .before .before .before .args .n) (c .before .before .before .before .before .before .before .args .at .now) (c .before .before .before .before .before .before .before .pre .0) (c .before .before .before .loop .i) (c .before .before .loop-test .taken))
+
+same-length : tie.Need-same-length Inv-loop μ-loop
+same-length c = c .before .before .before .before .before .loop .inv .size
+
+returns : tie.Need-returns Inv-loop μ-loop
+returns c = (λ h. absurd (false≢true h), λ h. not-named (c .before .before .before .before .before .before .before .before .before .args .chart .now) (c .before .before .before .before .before .before .before .before .before .args .n) (c .before .before .before .before .before .before .before .before .before .args .at .now) (length (c .before .before .before .before .before .before .before .before .before .args .keys .now)) (c .before .before .before .before .before .loop .keys) (c .before .before .before .before .before .loop .i) (c .before .before .before .before .before .loop .inv) (c .before .before .before .before .before .before .before .before .before .pre .0) (c .before .before .before .before .loop-test .taken) (c .before .before .get16 .result) (c .before .get162 .result) (c .before .before .get16 .ensures .0) (c .before .get162 .ensures .0) (λ q. omega arith))
+
+same-length-2 : tie.Need-same-length-2 Inv-loop μ-loop
+same-length-2 c = c .before .before .before .before .before .before .loop .inv .size
+
+returns-2 : tie.Need-returns-2 Inv-loop μ-loop
+returns-2 c = (λ h. absurd (false≢true h), λ h. not-named (c .before .before .before .before .before .before .before .before .before .before .args .chart .now) (c .before .before .before .before .before .before .before .before .before .before .args .n) (c .before .before .before .before .before .before .before .before .before .before .args .at .now) (length (c .before .before .before .before .before .before .before .before .before .before .args .keys .now)) (c .before .before .before .before .before .before .loop .keys) (c .before .before .before .before .before .before .loop .i) (c .before .before .before .before .before .before .loop .inv) (c .before .before .before .before .before .before .before .before .before .before .pre .0) (c .before .before .before .before .before .loop-test .taken) (c .before .before .before .get16 .result) (c .before .before .get162 .result) (c .before .before .before .get16 .ensures .0) (c .before .before .get162 .ensures .0) (λ q. omega arith))
+
+key-requires : tie.Need-key-requires Inv-loop μ-loop
+key-requires c κs = omega (arith, c .before .before .before .before .before .before .before .before .before .before .pre .0 .count, c .before .before .before .before .before .before .before .before .before .before .pre .0 .formed .most)
+
+mul-keys : tie.Need-mul-keys Inv-loop μ-loop
+mul-keys c = omega arith
+
+slice-write-keys : tie.Need-slice-write-keys Inv-loop μ-loop
+slice-write-keys c = omega (arith, c .before .before .before .before .before .before .before .loop .inv .size, c .before .before .before .before .before .before .before .before .before .before .before .pre .1)
+
+add-i : tie.Need-add-i Inv-loop μ-loop
+add-i c = omega arith
+
+loop-less : tie.Need-loop-less Inv-loop μ-loop
+loop-less c = omega arith
+
+loop-again : tie.Need-loop-again Inv-loop μ-loop
+loop-again c = keyed-next (c .before .before .before .before .before .before .before .before .before .before .before .args .chart .now) (c .before .before .before .before .before .before .before .before .before .before .before .args .n) (c .before .before .before .before .before .before .before .before .before .before .before .args .at .now) (length (c .before .before .before .before .before .before .before .before .before .before .before .args .keys .now)) (c .before .before .before .before .before .before .before .loop .keys) (c .before .before .before .before .before .before .before .loop .i) (c .before .before .before .before .before .before .before .loop .inv) (c .before .before .before .before .before .before .before .before .before .before .before .pre .0) (c .before .before .before .before .before .before .loop-test .taken) (c .before .before .before .before .get16 .result) (c .before .before .before .get162 .result) (c .before .before .before .before .get16 .ensures .0) (c .before .before .before .get162 .ensures .0) (c .before .before .before .before .before .before .before .before .before .before .before .pre .1) (c .before .before .if1 .left) (c .before .if2 .left) _ (c .key .ensures)
+
+same-length-3 : tie.Need-same-length-3 Inv-loop μ-loop
+same-length-3 c = c .before .loop .inv .size
+
+returns-3 : tie.Need-returns-3 Inv-loop μ-loop
+returns-3 c = (λ h. (all-named (c .before .before .before .before .before .args .chart .now) (c .before .before .before .before .before .args .n) (c .before .before .before .before .before .args .at .now) (length (c .before .before .before .before .before .args .keys .now)) (c .before .loop .keys) (c .before .loop .i) (c .before .loop .inv) (c .before .before .before .before .before .pre .0) (c .loop-test .left), all-keyed (c .before .before .before .before .before .args .chart .now) (c .before .before .before .before .before .args .n) (c .before .before .before .before .before .args .at .now) (length (c .before .before .before .before .before .args .keys .now)) (c .before .loop .keys) (c .before .loop .i) (c .before .loop .inv) (c .before .before .before .before .before .pre .0) (c .loop-test .left) (c .before .before .before .before .before .pre .1)), λ h. absurd (true≢false h))
+
+pub edge-keys-spec : {M : Type 1} → statement M
+edge-keys-spec = tie.close (tie.spec Inv-loop μ-loop loop-holds mul-p shared-slice-read-p add-get16 get16-requires add-get16-2 get16-requires-2 same-length returns same-length-2 returns-2 key-requires mul-keys slice-write-keys add-i loop-less loop-again same-length-3 returns-3)
+

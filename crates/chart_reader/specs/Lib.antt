@@ -1,0 +1,8 @@
+pub mod Cells
+pub mod Decode
+pub mod Rules
+pub mod Reader
+pub mod Areas
+pub mod Decisions
+pub mod Charts
+pub mod Held

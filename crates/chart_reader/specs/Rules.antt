@@ -1,0 +1,75 @@
+-- Document 01, "A chart is true when ..", as the rules that "Read a chart" tests, and the part that a chart shows.
+use mathlib.Core.Path.{_≡_}
+use mathlib.Core.Logic.{_≢_}
+use mathlib.Core.List.{List, [], _∷_, map}
+use mathlib.Core.Option.{none}
+use Prim.Native.Nat.{ℕ, suc, _-_, _≤_, _<_, min, max}
+use Rattle.polygon.specs.Lists.{Mem, All, Sorted, keep, numbers, below}
+use Rattle.polygon.specs.Polygon.{Edge, _—_, Ascending, NoneCross, Polygon}
+use Rattle.polygon.specs.Order.{diagonal?}
+use Rattle.chart.specs.Chart.{Stroke, upright, level, strokeEdge, Chart, Covers}
+use Rattle.chart_reader.specs.declared.Cell.{Cell}
+use Rattle.chart_reader.specs.Cells.{cell, Has, Inside, Common, Stands}
+
+-- "side i joins corner i to i+1, and side n-1, the root, joins n-1 to 0": the sides of n corners, ascending
+unfoldable pub sides : ℕ → List Edge
+sides n = (0 — 1) ∷ (0 — (n - 1)) ∷ map (λ i. i — suc i) (numbers (n - 2) 1)
+
+module _ (c : Chart) where
+  -- 15: "a bar breaks its rule". "Each bar's left column is at most its right, and bars lie within rows and columns .."
+  abbrev pub Lies : ℕ → Type 0
+  Lies x = (c .bar x .left ≤ c .bar x .right) × (c .bar x .right < c .columns) × (c .bar x .row < c .rows)
+
+  -- ".. without sharing a cell"
+  abbrev pub Apart : ℕ → ℕ → Type 0
+  Apart x y = ¬ Common (Has (c .bar x)) (Has (c .bar y))
+
+  abbrev pub BarRule : Type 0
+  BarRule = All Lies (below (c .n)) × Sorted Apart (below (c .n))
+
+  -- 16: "a stroke's corners or order wrong": strokes come "ascending by (a,b), a < b"
+  abbrev pub Named : Stroke → Type 0
+  Named s = (strokeEdge s .0 < strokeEdge s .1) × (strokeEdge s .1 < c .n)
+
+  -- "or its bars don't fit": "a level stroke joins bars of one row ..; an upright's column lies in both bars, on different rows, .."
+  abbrev pub Joins : Stroke → Type 0
+  Joins (level e) = c .bar (e .0) .row ≡ c .bar (e .1) .row
+  Joins (upright e j) = Covers c (e .0) j × Covers c (e .1) j × (c .bar (e .0) .row ≢ c .bar (e .1) .row)
+
+  -- the two cells that a stroke runs between: an upright's in its column, on the rows of its bars; a level stroke's where its bars face each other, the right end of one and the left end of the other
+  abbrev pub ends : Stroke → Cell × Cell
+  ends (upright e j) = (cell (c .bar (e .0) .row) j, cell (c .bar (e .1) .row) j)
+  ends (level e) = (cell (c .bar (e .0) .row) (min (c .bar (e .0) .right) (c .bar (e .1) .right)), cell (c .bar (e .1) .row) (max (c .bar (e .0) .left) (c .bar (e .1) .left)))
+
+  -- ".. with no bar between"
+  abbrev pub Free : Cell × Cell → Type 0
+  Free e = All (λ z. ¬ Stands e (c .bar z)) (below (c .n))
+
+  abbrev pub Fits : Stroke → Type 0
+  Fits s = Joins s × Free (ends s)
+
+  abbrev pub StrokeRule : Type 0
+  StrokeRule = All Named (c .strokes) × Ascending (map strokeEdge (c .strokes)) × All Fits (c .strokes)
+
+  -- 17: "an upright in a level gap". "No upright passes through the gap of a level stroke, the cells of its row between its two bars."
+  abbrev pub Passes : Stroke → Stroke → Type 0
+  Passes (upright e j) (level f) = Common (Inside (ends (upright e j))) (Inside (ends (level f)))
+  Passes (upright e j) (upright f k) = ⊥
+  Passes (level e) t = ⊥
+
+  abbrev pub GapRule : Type 0
+  GapRule = All (λ s. All (λ t. ¬ Passes s t) (c .strokes)) (c .strokes)
+
+  -- 18: "not all sides, or diagonals cross"
+  abbrev pub edgesIn : List Edge
+  edgesIn = map strokeEdge (c .strokes)
+
+  abbrev pub diagonalsIn : List Edge
+  diagonalsIn = keep (diagonal? (c .n)) edgesIn
+
+  abbrev pub PartRule : Type 0
+  PartRule = All (λ e. Mem e edgesIn) (sides (c .n)) × NoneCross diagonalsIn
+
+  -- the part: "normal sheet without part number"
+  abbrev pub partIn : Polygon
+  partIn = record { n = c .n; ds = diagonalsIn; number = none }
