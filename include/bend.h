@@ -86,6 +86,21 @@ uint64_t bend_flip(const uint8_t *sheet, size_t sheet_len, size_t a, size_t b,
  */
 uint64_t bend_plan(const uint8_t *sheet, size_t sheet_len);
 
+/*
+ * Draw: writes the part's chart and gives its length.
+ * Refusals: 1 to 7 as for bend_normalize; 8.
+ */
+uint64_t bend_draw(const uint8_t *sheet, size_t sheet_len,
+                   uint8_t *out, size_t out_len);
+
+/*
+ * Read a chart: writes the sheet, in normal order and without part number, of
+ * the part that the chart shows, and gives its length.
+ * Refusals: 14; 15; 16; 17; 18; 8.
+ */
+uint64_t bend_read_chart(const uint8_t *chart, size_t chart_len,
+                         uint8_t *out, size_t out_len);
+
 /* The number in an answer: 0, or the refusal. */
 static inline unsigned bend_number(uint64_t answer)
 {

@@ -8,6 +8,8 @@ ghost use Rattle.codec.specs.Answer.{written, answered, packed, Packable};
 ghost use Rattle.sheet.specs.Sheet.{ordered};
 ghost use Rattle.edit.specs.Rules.{addEar, removeEar, flip};
 ghost use Rattle.edit.specs.Calls.{edited};
+ghost use Rattle.draw.specs.Answer.{drawn};
+ghost use Rattle.chart_reader.specs.Reader.{chartRead};
 ghost use Rattle.plan.specs.Answer.{planned, plannedOf, packedPlan};
 use codec::Written;
 use plan::Planned;
@@ -77,4 +79,22 @@ pub extern "C" fn bend_plan(sheet: &[u8]) -> u64
     ensures { λ r. ⌜ r ≡ packedPlan (planned (now (sheet .entry))) ⌝ }
 {
     pack_plan(plan::plan(sheet))
+}
+
+// Draw, without the bar list.
+#[no_mangle]
+pub extern "C" fn bend_draw(sheet: &[u8], out: &mut [u8]) -> u64
+    ensures { λ r. ⌜ r ≡ packed (written (drawn (now (sheet .entry))) (now (out .entry))) ⌝ }
+    ensures { λ r. ⌜ now (out .exit) ≡ written (drawn (now (sheet .entry))) (now (out .entry)) .bytes ⌝ }
+{
+    pack(draw::draw(sheet, out))
+}
+
+// Read a chart.
+#[no_mangle]
+pub extern "C" fn bend_read_chart(chart: &[u8], out: &mut [u8]) -> u64
+    ensures { λ r. ⌜ r ≡ packed (written (chartRead (now (chart .entry))) (now (out .entry))) ⌝ }
+    ensures { λ r. ⌜ now (out .exit) ≡ written (chartRead (now (chart .entry))) (now (out .entry)) .bytes ⌝ }
+{
+    pack(chart_reader::read_chart(chart, out))
 }

@@ -1,2 +1,3 @@
 pub mod Lines
 pub mod Charting
+pub mod Size

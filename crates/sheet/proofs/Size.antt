@@ -26,7 +26,7 @@ read-counted s p e =
     rw (W .1) (W .0 .framed .most, omega (arith, sort-length (edgesIn s), n, W .0 .framed .least))
 
 -- what an operation writes for such a part
-written-size : (bs out : List ℕ) → written (write bs) out .size ≤ length bs
+pub written-size : (bs out : List ℕ) → written (write bs) out .size ≤ length bs
 unfolding written fit
 written-size bs out = go (decLe (length bs) (length out))
   where
