@@ -1,18 +1,19 @@
 -- The keys of the diagonals, one after another, as the loop that copies them meets them; and what their number says.
 use mathlib.Core.Path.{_≡_, refl, ap, sym, _∙_}
-use mathlib.Core.List.{List, [], _∷_, _++_, map, map-append, append-nil}
-use Prim.Native.Nat.{ℕ, suc, _+_, _*_, _-_, _/_, _%_, _≤_, _<_}
+use mathlib.Core.List.{List, [], _∷_, _++_, map-append, append-nil}
+use Prim.Native.Nat.{ℕ, suc, _+_, _-_, _≤_, _<_}
 use native.Mathlib.Numerals.{add-one}
 use native.Mathlib.Omega.{arith}
 use lib.ListN.{length, take, drop, set, getD, length-set, length-map, drop-of-length-le}
-use lib.Seq.{drop-cons, drop-length, take-suc-set, append-snoc, length-take-le}
-use Rattle.polygon.specs.Lists.{All, keep}
-use Rattle.polygon.specs.Polygon.{Edge, Ascending, Diagonal, NoneCross}
+use lib.Seq.{drop-cons, take-suc-set, append-snoc, length-take-le}
+use Rattle.polygon.specs.Lists.{keep}
+use Rattle.polygon.specs.Polygon.{Edge, Diagonal, NoneCross}
 use Rattle.polygon.specs.Order.{diagonal?}
 use Rattle.polygon.proofs.Lists.{keep-test, keep-sorted}
 use Rattle.keys.specs.Keys.{edgeOf, edgesOf}
 use Rattle.keys.specs.Tops.{Diagonals}
-use Rattle.chart_reader.specs.Held.{EdgesOf, PartOf}
+use Rattle.chart_reader.specs.Rules.{PartOf}
+use Rattle.chart_reader.specs.Held.{EdgesOf}
 use Rattle.chart_reader.proofs.Kept.{keep-yes, keep-no}
 use Rattle.chart_reader.proofs.Sides.{sides-full, full-sides}
 

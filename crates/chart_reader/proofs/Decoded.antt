@@ -1,5 +1,5 @@
 -- Decoding the bytes of a chart gives the chart back.
-use mathlib.Core.Path.{_≡_, refl, ap, ap₂, sym, _∙_}
+use mathlib.Core.Path.{_≡_, refl, ap, ap₂, _∙_}
 use mathlib.Core.List.{List, [], _∷_, _++_, map, flatMap, append-assoc}
 use Prim.Native.Nat.{ℕ, zero, suc, _+_, _*_, _-_, _≤_, _<_}
 use native.Mathlib.Nat.{add-zero}
@@ -7,14 +7,13 @@ use native.Mathlib.Omega.{arith}
 use lib.ListN.{length, getD, length-append, length-map, List·getD-map}
 use lib.Seq.{getD-append-add}
 use Rattle.polygon.specs.Lists.{All, all-nil, all-cons, numbers, below}
-use Rattle.polygon.specs.Polygon.{Edge, _—_}
 use Rattle.codec.specs.Numbers.{bytes16, get16}
 use Rattle.sheet.proofs.Bytes.{get16-after, get16-back}
 use Rattle.chart.specs.Chart.{Bar, Stroke, upright, level, Chart, barsOf}
 use Rattle.chart.specs.Bytes.{barBytes, strokeBytes, bytesOf}
 use Rattle.chart_reader.proofs.Same.{Same}
 use Rattle.chart_reader.proofs.Sides.{numbers-count}
-use Rattle.chart_reader.specs.Decode.{countIn, barAt, strokeSize, shaped, strokeAt, places, behind, strokePlaces, chartIn, Formed}
+use Rattle.chart_reader.specs.Decode.{countIn, barAt, strokeSize, shaped, strokeAt, places, behind, chartIn, Formed}
 
 -- k strokes of the bytes from a place on, and where they end
 pub record Spelled (s : List ℕ) (at k : ℕ) (ss : List Stroke) (end : ℕ) : Type 0 where

@@ -1,17 +1,16 @@
 -- Bytes that form a chart are the bytes of that chart.
 use mathlib.Core.Path.{_≡_, refl, ap, ap₂, sym, _∙_}
-use mathlib.Core.List.{List, [], _∷_, _++_, map, flatMap, append-assoc, append-nil}
+use mathlib.Core.List.{List, _∷_, _++_, map, flatMap, append-assoc, append-nil}
 use Prim.Native.Nat.{ℕ, zero, suc, _+_, _*_, _-_, _/_, _%_, _≤_, _<_}
 use native.Mathlib.Decide.{ℕ-discrete}
 use native.Mathlib.Numerals.{add-one}
 use native.Mathlib.Omega.{arith}
 use lib.ListN.{length, drop, getD}
 use lib.Seq.{drop-cons, drop-length}
-use Rattle.polygon.specs.Lists.{All, all-nil, all-cons, numbers, below}
-use Rattle.polygon.specs.Polygon.{Edge, _—_}
+use Rattle.polygon.specs.Lists.{All, all-cons, numbers, below}
 use Rattle.codec.specs.Numbers.{bytes16, get16}
 use Rattle.sheet.proofs.Bytes.{Byte, byte-at}
-use Rattle.chart.specs.Chart.{Bar, Stroke, upright, level, Chart, barsOf}
+use Rattle.chart.specs.Chart.{barsOf}
 use Rattle.chart.specs.Bytes.{barBytes, strokeBytes, bytesOf}
 use Rattle.chart_reader.specs.Decode.{countIn, barAt, strokeSize, shaped, strokeAt, places, behind, strokePlaces, chartIn, Formed}
 

@@ -1,9 +1,9 @@
 -- What the reading of a chart has found out, put together.
-use mathlib.Core.Path.{_≡_, refl, ap, ap₂, sym, _∙_}
+use mathlib.Core.Path.{_≡_, ap, ap₂, sym, _∙_}
 use mathlib.Core.Bool.{false}
 use mathlib.Core.List.{List}
 use mathlib.Core.Option.{none}
-use Prim.Native.Nat.{ℕ, _+_, _*_, _-_, _≤_, _<_}
+use Prim.Native.Nat.{ℕ, _+_, _*_, _-_, _≤_}
 use native.Mathlib.Omega.{arith}
 use lib.ListN.{length, take, length-map}
 use Rattle.polygon.specs.Lists.{keep}
@@ -19,10 +19,10 @@ use Rattle.sheet.specs.Sheet.{Reading, refused, held, normalSheet, outcome}
 use Rattle.sheet.specs.Held.{polygonOf, readOf, Fitting}
 use Rattle.sheet.proofs.Found.{small-keys}
 use Rattle.chart.specs.Chart.{strokeEdge}
-use Rattle.chart_reader.specs.Decode.{countIn, chartIn}
-use Rattle.chart_reader.specs.Rules.{BarRule, StrokeRule, GapRule, edgesIn, diagonalsIn, partIn}
-use Rattle.chart_reader.specs.Reader.{readChart, chartRead}
-use Rattle.chart_reader.specs.Held.{Placed, EdgesOf, PartOf}
+use Rattle.chart_reader.specs.Decode.{chartIn}
+use Rattle.chart_reader.specs.Rules.{BarRule, StrokeRule, GapRule, PartOf, edgesIn, diagonalsIn, partIn}
+use Rattle.chart_reader.specs.Reader.{readChart}
+use Rattle.chart_reader.specs.Held.{Placed, EdgesOf}
 use Rattle.chart_reader.proofs.Accepts.{strokes-count}
 use Rattle.chart_reader.proofs.Stroked.{strokes-room}
 use Rattle.chart_reader.proofs.Verdict.{by-18, taken, read-by}

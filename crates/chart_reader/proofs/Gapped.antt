@@ -1,8 +1,8 @@
 -- The gaps of the level strokes, written as bars one behind the other.
-use mathlib.Core.Path.{_≡_, refl, ap, sym, _∙_, subst}
+use mathlib.Core.Path.{_≡_, refl, ap, sym, _∙_}
 use mathlib.Core.Logic.{_≢_}
 use mathlib.Core.List.{List, [], _∷_, _++_, map, flatMap, map-append, append-assoc, append-nil}
-use Prim.Native.Nat.{ℕ, suc, _+_, _*_, _-_, _≤_, _<_}
+use Prim.Native.Nat.{ℕ, suc, _+_, _*_, _≤_, _<_}
 use native.Mathlib.Decide.{decLt}
 use native.Mathlib.Numerals.{add-one}
 use native.Mathlib.Omega.{arith}
@@ -17,7 +17,7 @@ use Rattle.chart.specs.Bytes.{barBytes}
 use Rattle.chart_reader.specs.declared.Cell.{Cell}
 use Rattle.chart_reader.specs.declared.Ends.{Ends}
 use Rattle.chart_reader.specs.Cells.{bar}
-use Rattle.chart_reader.specs.Decode.{edgeAt, strokeAt, strokePlaces, chartIn}
+use Rattle.chart_reader.specs.Decode.{strokeAt, strokePlaces, chartIn}
 use Rattle.chart_reader.specs.Rules.{ends}
 use Rattle.chart_reader.specs.Held.{Placed, EndsOf, gapBar, gapIn, gapOf, gapsOf, GapsIn}
 use Rattle.chart_reader.proofs.Decoded.{bars-length, bar-back}

@@ -70,8 +70,11 @@ known =
     ∷ (drawn 3 6 (bar 0 0 5 ∷ bar 2 0 5 ∷ bar 1 0 1 ∷ bar 1 3 4 ∷ []) (upright (0 — 1) 5 ∷ upright (0 — 2) 0 ∷ upright (0 — 3) 3 ∷ upright (1 — 2) 1 ∷ level (2 — 3) ∷ []), held (record { n = 4; ds = (0 — 2) ∷ []; number = none }))
     -- side (1,2) missing; (0,2) and (1,3) cross
     ∷ (drawn 3 3 (bar 0 0 1 ∷ bar 2 0 0 ∷ bar 0 2 2 ∷ bar 2 1 2 ∷ []) (upright (0 — 1) 0 ∷ level (0 — 2) ∷ upright (0 — 3) 1 ∷ level (1 — 3) ∷ upright (2 — 3) 2 ∷ []), refused 18)
-    ∷ (drawn 3 4 (bar 1 0 0 ∷ bar 0 0 3 ∷ bar 2 0 3 ∷ bar 1 2 2 ∷ bar 1 1 1 ∷ [])
-        (upright (0 — 1) 0 ∷ upright (0 — 2) 0 ∷ level (0 — 4) ∷ upright (1 — 2) 3 ∷ upright (1 — 3) 2 ∷ upright (2 — 3) 2 ∷ level (3 — 4) ∷ []), refused 18)
+    ∷ (
+      drawn 3 4 (bar 1 0 0 ∷ bar 0 0 3 ∷ bar 2 0 3 ∷ bar 1 2 2 ∷ bar 1 1 1 ∷ [])
+          (upright (0 — 1) 0 ∷ upright (0 — 2) 0 ∷ level (0 — 4) ∷ upright (1 — 2) 3 ∷ upright (1 — 3) 2 ∷ upright (2 — 3) 2 ∷ level (3 — 4) ∷ []),
+      refused 18,
+    )
     -- a bar and a stroke wrong; an upright through a gap, and side (0,1) missing
     ∷ (drawn 3 2 squareBars (level (0 — 1) ∷ upright (0 — 2) 1 ∷ level (0 — 3) ∷ level (1 — 2) ∷ upright (2 — 3) 2 ∷ []), refused 15)
     ∷ (drawn 3 5 (bar 1 3 4 ∷ bar 2 0 4 ∷ bar 1 0 1 ∷ bar 0 0 4 ∷ []) (level (0 — 2) ∷ upright (0 — 3) 3 ∷ upright (1 — 2) 1 ∷ upright (1 — 3) 2 ∷ upright (2 — 3) 0 ∷ []), refused 17)

@@ -1,7 +1,7 @@
 -- Laws of the question: areas with the same numbers, a bar that has a cell of an area, and what the answers say of the chart's bars.
 use mathlib.Core.Path.{_≡_}
 use mathlib.Core.List.{List}
-use Prim.Native.Nat.{ℕ, suc, _+_, _*_, _≤_, _<_, max}
+use Prim.Native.Nat.{ℕ, _+_, _*_, _≤_, _<_, max}
 use native.Mathlib.Omega.{arith}
 use Rattle.polygon.specs.Lists.{Sorted, below}
 use Rattle.chart_reader.specs.declared.Cell.{Cell}

@@ -1,11 +1,11 @@
 -- No upright passes through a gap exactly if none of the gaps, as bars, stands between an upright's two cells.
-use mathlib.Core.Path.{_≡_, refl, ap, sym, _∙_, subst}
-use mathlib.Core.Logic.{_≢_, inl, inr, _↔_}
-use mathlib.Core.List.{List, [], _∷_, _++_, flatMap}
-use Prim.Native.Nat.{ℕ, _+_, _*_, _-_, _≤_, _<_}
+use mathlib.Core.Path.{_≡_, ap, sym, _∙_, subst}
+use mathlib.Core.Logic.{_≢_, inl, inr}
+use mathlib.Core.List.{List, [], _∷_, flatMap}
+use Prim.Native.Nat.{ℕ, _+_, _<_}
 use native.Mathlib.Decide.{decLt}
 use native.Mathlib.Omega.{arith}
-use lib.ListN.{length, getD}
+use lib.ListN.{getD}
 use Rattle.polygon.specs.Lists.{Mem, All, all-nil, all-cons, choose}
 use Rattle.polygon.specs.Polygon.{Edge}
 use Rattle.polygon.proofs.Lists.{all-append, all-left, all-right, all-both, all-mem, all-of, all-imp}
@@ -15,7 +15,7 @@ use Rattle.chart.specs.Chart.{Bar, Stroke, upright, level, strokeEdge, Chart}
 use Rattle.chart_reader.specs.declared.Cell.{Cell}
 use Rattle.chart_reader.specs.declared.Ends.{Ends}
 use Rattle.chart_reader.specs.Cells.{bar, Has, Inside, Common}
-use Rattle.chart_reader.specs.Decode.{barAt, edgeAt, strokeAt, chartIn}
+use Rattle.chart_reader.specs.Decode.{edgeAt, strokeAt, chartIn}
 use Rattle.chart_reader.specs.Rules.{ends, BarRule, StrokeRule, Passes, GapRule}
 use Rattle.chart_reader.specs.Held.{None, Some, EndsOf, gapBar, gapIn, gapOf, gapsOf, GapsIn, Clear}
 use Rattle.chart_reader.proofs.Below.{below-at}

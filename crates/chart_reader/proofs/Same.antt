@@ -1,10 +1,8 @@
 -- Two charts with the same numbers: if one is true or shows a part, so is and does the other. (The bars beyond the corners do not matter.)
-use mathlib.Core.Path.{_≡_, refl, sym, _∙_, ap}
-use mathlib.Core.List.{map}
+use mathlib.Core.Path.{_≡_, _∙_}
 use Prim.Native.Nat.{ℕ, _<_}
-use native.Mathlib.Omega.{arith}
-use Rattle.polygon.specs.Polygon.{Edge, Polygon}
-use Rattle.chart.specs.Chart.{upright, level, strokeEdge, Chart, True, Shows}
+use Rattle.polygon.specs.Polygon.{Polygon}
+use Rattle.chart.specs.Chart.{Chart, True, Shows}
 
 pub record Same (d c : Chart) : Type 0 where
   pub rows : d .rows ≡ c .rows

@@ -1,13 +1,12 @@
 -- The part that a chart shows: its strokes are all sides and n - 3 diagonals that do not cross exactly if it shows a valid part, which is then the part that is held.
-use mathlib.Core.Path.{_≡_, refl, ap, sym, _∙_}
-use mathlib.Core.Logic.{_⊎_, inl, inr}
-use mathlib.Core.List.{List, map}
+use mathlib.Core.Path.{_≡_, refl, ap, sym}
+use mathlib.Core.Logic.{inl, inr}
 use mathlib.Core.Option.{none}
-use Prim.Native.Nat.{ℕ, _+_, _*_, _≤_, _<_}
+use Prim.Native.Nat.{_+_, _*_, _≤_, _<_}
 use native.Mathlib.Omega.{arith}
 use lib.ListN.{length, length-map}
-use Rattle.polygon.specs.Lists.{Mem, All, keep}
-use Rattle.polygon.specs.Polygon.{Edge, _—_, Ascending, Diagonal, Polygon, Valid, Linked}
+use Rattle.polygon.specs.Lists.{Mem, All}
+use Rattle.polygon.specs.Polygon.{Edge, Ascending, Diagonal, Polygon, Valid, Linked}
 use Rattle.polygon.specs.Order.{diagonal?}
 use Rattle.polygon.proofs.Lists.{all-mem, all-of, all-map, keep-test, keep-sub, keep-mem, keep-sorted, sorted-same}
 use Rattle.polygon.proofs.Order.{one-way}

@@ -1,15 +1,15 @@
 -- The sides of n corners, and the sides and diagonals among the strokes of a chart: n sides are all of them exactly if n - 3 strokes are diagonals.
-use mathlib.Core.Path.{_≡_, refl, ap, sym, _∙_}
+use mathlib.Core.Path.{_≡_, refl, ap, _∙_}
 use mathlib.Core.Logic.{_⊎_, inl, inr}
-use mathlib.Core.List.{List, [], _∷_, map}
+use mathlib.Core.List.{List, map}
 use Prim.Native.Nat.{ℕ, zero, suc, _+_, _*_, _-_, _≤_, _<_}
-use native.Mathlib.Decide.{decLt, ℕ-discrete}
+use native.Mathlib.Decide.{ℕ-discrete}
 use native.Mathlib.Omega.{arith}
 use lib.ListN.{length, length-map}
-use Rattle.polygon.specs.Lists.{Mem, head, tail, Sub, All, all-nil, all-cons, sorted-cons, keep, numbers, not?, mem?}
+use Rattle.polygon.specs.Lists.{Mem, head, tail, All, all-cons, sorted-cons, keep, numbers, not?, mem?}
 use Rattle.polygon.specs.Polygon.{Edge, _—_, Before, Ascending, Side, Diagonal}
 use Rattle.polygon.specs.Order.{same?, diagonal?}
-use Rattle.polygon.proofs.Lists.{here, all-imp, all-mem, all-of, all-map, all-self, keep-test, keep-sub, keep-mem, keep-sorted, sorted-map, sorted-same, numbers-in, numbers-sorted, numbers-mem}
+use Rattle.polygon.proofs.Lists.{all-imp, all-mem, all-map, keep-test, keep-sub, keep-mem, keep-sorted, sorted-map, sorted-same, numbers-in, numbers-sorted, numbers-mem}
 use Rattle.polygon.proofs.Order.{one-way}
 use Rattle.polygon.proofs.Reading.{diagonal-reads}
 use Rattle.chart.proofs.Lists.{mem-map}

@@ -1,13 +1,11 @@
 -- The strokes of a chart, place by place, as the code reads them.
 use mathlib.Core.Path.{_≡_, refl, ap, sym, _∙_, subst}
 use mathlib.Core.Logic.{_≢_}
-use mathlib.Core.List.{List, [], _∷_, map}
+use mathlib.Core.List.{List, map}
 use Prim.Native.Nat.{ℕ, zero, suc, _+_, _*_, _-_, _%_, _≤_, _<_, min, max}
 use native.Mathlib.Omega.{arith}
 use lib.ListN.{length, getD, length-map, List·getD-map}
 use Rattle.polygon.specs.Lists.{All, all-nil, all-cons}
-use Rattle.polygon.specs.Polygon.{Edge, _—_}
-use Rattle.polygon.proofs.Lists.{all-imp}
 use Rattle.codec.specs.Numbers.{get16}
 use Rattle.keys.proofs.Crosses.{all-at, at-all}
 use Rattle.chart.specs.Chart.{Stroke, upright, level, strokeEdge}
@@ -15,7 +13,7 @@ use Rattle.chart_reader.specs.declared.Ends.{Ends}
 use Rattle.chart_reader.specs.Cells.{cell}
 use Rattle.chart_reader.specs.Decode.{countIn, barAt, strokeSize, shaped, edgeAt, strokeAt, places, behind, strokePlaces, chartIn}
 use Rattle.chart_reader.specs.Rules.{Named, Joins, ends, Free}
-use Rattle.chart_reader.specs.Held.{Small, Bars, Placed, Spans, StrokeIn, EndsOf}
+use Rattle.chart_reader.specs.Held.{Bars, Placed, Spans, StrokeIn, EndsOf}
 use Rattle.chart_reader.proofs.Accepts.{places-count}
 use Rattle.chart_reader.proofs.Encoded.{behind-up}
 

@@ -1,19 +1,18 @@
 -- What this crate proves of reading a chart, each theorem with its statement in plain words. The proofs are in the files beside this one.
 -- To be read with specs/Reader.antt, specs/Rules.antt, specs/Decode.antt and specs/Charts.antt.
-use mathlib.Core.Path.{_≡_, refl, ap, sym, _∙_}
+use mathlib.Core.Path.{_≡_, refl, ap}
 use mathlib.Core.Logic.{_↔_}
 use mathlib.Core.List.{List}
 use Prim.Native.Nat.{ℕ, _<_}
 use Rattle.polygon.specs.Lists.{All}
 use Rattle.polygon.specs.Polygon.{Polygon, Valid}
-use Rattle.codec.specs.Answer.{refuse, write}
-use Rattle.sheet.specs.Sheet.{Reading, refused, held, normalSheet, outcome}
-use Rattle.umbrella.specs.Best.{planOf}
+use Rattle.codec.specs.Answer.{write}
+use Rattle.sheet.specs.Sheet.{Reading, held, normalSheet, outcome}
 use Rattle.chart.specs.Chart.{chartOf}
 use Rattle.chart.specs.Bytes.{bytesOf}
 use Rattle.chart.proofs.Theorems.{chart-is-true, chart-shows}
 use Rattle.chart_reader.specs.Reader.{readChart, chartRead}
-use Rattle.chart_reader.specs.Charts.{Charts, unnumbered}
+use Rattle.chart_reader.specs.Charts.{Charts, withoutNumber}
 use Rattle.chart_reader.proofs.Verdict.{Verdict, read-by, by-reading}
 use Rattle.chart_reader.proofs.Accepts.{held-charts, charts-held}
 
@@ -31,7 +30,7 @@ unfolding chartRead outcome
 writes s p C = ap outcome (charts-held C)
 
 -- The chart of every valid part is read back as that part, without its number.
-chart-charts : (p : Polygon) → Valid p → Charts (bytesOf (chartOf p)) (unnumbered p)
+chart-charts : (p : Polygon) → Valid p → Charts (bytesOf (chartOf p)) (withoutNumber p)
 chart-charts p v =
     let S = chart-shows p v in
     record {
@@ -43,5 +42,5 @@ chart-charts p v =
       shows = record { corners = S .corners; edges = S .edges; ascending = S .ascending };
     }
 
-pub reads-back : (p : Polygon) → Valid p → readChart (bytesOf (chartOf p)) ≡ held (unnumbered p)
+pub reads-back : (p : Polygon) → Valid p → readChart (bytesOf (chartOf p)) ≡ held (withoutNumber p)
 reads-back p v = charts-held (chart-charts p v)

@@ -1,17 +1,17 @@
 -- A chart keeps the rules of bars, strokes and gaps exactly if it is true and its strokes ascend and name its corners.
-use mathlib.Core.Path.{_≡_, refl, sym, _∙_, subst}
+use mathlib.Core.Path.{_≡_, refl, sym, _∙_}
 use mathlib.Core.Logic.{_⊎_, inl, inr, _≢_}
-use mathlib.Core.List.{List, map}
-use Prim.Native.Nat.{ℕ, suc, _≤_, _<_, min, max}
+use mathlib.Core.List.{map}
+use Prim.Native.Nat.{ℕ, _<_, min, max}
 use native.Mathlib.Decide.{decLt}
 use native.Mathlib.Omega.{arith}
 use Rattle.polygon.specs.Lists.{Mem, All}
 use Rattle.polygon.specs.Polygon.{Edge, Ascending}
 use Rattle.polygon.proofs.Lists.{all-mem, all-of}
-use Rattle.chart.specs.Chart.{Stroke, upright, level, strokeEdge, Chart, Covers, Gap, Between, True}
+use Rattle.chart.specs.Chart.{Stroke, upright, level, strokeEdge, Chart, Gap, Between, True}
 use Rattle.chart_reader.specs.declared.Cell.{Cell}
-use Rattle.chart_reader.specs.Cells.{cell, Has, Amid, Inside, Common, Stands}
-use Rattle.chart_reader.specs.Rules.{Lies, Apart, BarRule, Named, Joins, ends, Free, Fits, StrokeRule, Passes, GapRule}
+use Rattle.chart_reader.specs.Cells.{cell, Amid, Inside}
+use Rattle.chart_reader.specs.Rules.{Lies, Apart, BarRule, Named, ends, Fits, StrokeRule, Passes, GapRule}
 use Rattle.chart_reader.proofs.Below.{below-at, below-all, below-two, below-sorted-by}
 
 -- strictly between, said in two ways
@@ -79,8 +79,9 @@ module _ (c : Chart) where
         let B = T .bars (e .1) b in
         let k = all-mem N m in
         elim (T .apart (e .0) (e .1) a b (omega arith) r) [
-          inl p ↦ elim i [ inl q ↦ (q .0, inl (omega (arith, p, q))) | inr q ↦ absurd (omega (arith, p, q)) ]
-        | inr p ↦ elim i [ inl q ↦ (q .0, inr (omega (arith, p, q))) | inr q ↦ absurd (omega (arith, p, q)) ] ]
+          | inl p ↦ elim i [ inl q ↦ (q .0, inl (omega (arith, p, q))) | inr q ↦ absurd (omega (arith, p, q)) ]
+          | inr p ↦ elim i [ inl q ↦ (q .0, inr (omega (arith, p, q))) | inr q ↦ absurd (omega (arith, p, q)) ]
+        ]
 
     -- the cells between the ends of an upright are those of its column between its rows
     path-of : (e : Edge) (j : ℕ) (x : Cell) → Inside (ends c (upright e j)) x → (j ≡ x .column) × Between (c .bar (e .0) .row) (c .bar (e .1) .row) (x .row)

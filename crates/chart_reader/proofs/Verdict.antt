@@ -1,6 +1,5 @@
 -- What reading a chart gives, by the first rule that is broken.
 use mathlib.Core.Path.{_≡_, _∙_, subst}
-use mathlib.Core.Logic.{_↔_}
 use mathlib.Core.List.{List}
 use Prim.Native.Nat.{ℕ}
 use Rattle.sheet.specs.Sheet.{Reading, refused, held, ask}

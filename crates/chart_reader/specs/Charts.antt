@@ -17,5 +17,5 @@ pub record Charts (s : List ℕ) (p : Polygon) : Type 0 where
   pub shows : Shows chart p
 
 -- the part without its number
-abbrev pub unnumbered : Polygon → Polygon
-unnumbered p = record { n = p .n; ds = p .ds; number = none }
+abbrev pub withoutNumber : Polygon → Polygon
+withoutNumber p = record { n = p .n; ds = p .ds; number = none }

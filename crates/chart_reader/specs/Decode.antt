@@ -54,7 +54,8 @@ strokesEnd s = behind s (6 + 6 * countIn s) (2 * countIn s - 3)
 abbrev pub chartIn : List ℕ → Chart
 chartIn s = record { rows = get16 s 0; columns = get16 s 2; n = countIn s; bar = λ x. barAt s (6 + 6 * x); strokes = map (strokeAt s) (strokePlaces s) }
 
--- "14: wrong length, n out of range, or a bit 1 to 7". A byte past the end counts as 0: strokes that run past the end end past it, since each takes 5 bytes or more.
+-- "14: wrong length, n out of range, or a bit 1 to 7": a chart of n corners has 6 + 6n bytes and then 2n-3 strokes of 5 or 7 bytes each, with nothing left over.
+-- (`getD` gives 0 past the end. Strokes that run past the end do not end at it, since each takes 5 bytes or more.)
 pub record Formed (s : List ℕ) : Type 0 where
   pub head : 6 ≤ length s
   pub least : 3 ≤ countIn s

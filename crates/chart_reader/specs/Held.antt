@@ -3,16 +3,15 @@ use mathlib.Core.Path.{_≡_}
 use mathlib.Core.List.{List, [], _∷_, flatMap}
 use Prim.Native.Nat.{ℕ, _+_, _*_, _-_, _≤_, _<_}
 use native.Mathlib.Decide.{decLt}
-use lib.ListN.{length, take, getD}
-use Rattle.polygon.specs.Lists.{Mem, All, choose, keep}
-use Rattle.polygon.specs.Polygon.{Edge, Ascending, NoneCross}
-use Rattle.polygon.specs.Order.{diagonal?}
+use lib.ListN.{length, getD}
+use Rattle.polygon.specs.Lists.{All, choose}
+use Rattle.polygon.specs.Polygon.{Edge, Ascending}
 use Rattle.chart.specs.Chart.{Bar, Stroke, upright, level, Chart}
 use Rattle.chart_reader.specs.declared.Cell.{Cell}
 use Rattle.chart_reader.specs.declared.Ends.{Ends}
 use Rattle.chart_reader.specs.Cells.{bar, Has, Inside, Common}
 use Rattle.chart_reader.specs.Decode.{countIn, barAt, strokeSize, edgeAt, strokeAt, places, behind, strokePlaces, chartIn, Formed}
-use Rattle.chart_reader.specs.Rules.{sides, ends}
+use Rattle.chart_reader.specs.Rules.{ends}
 
 -- numbers of a cell of two bytes
 abbrev pub Small : Cell → Type 0
@@ -40,9 +39,6 @@ pub record Placed (s : List ℕ) (n : ℕ) (at : List ℕ) : Type 0 where
 pub record Bars (s : List ℕ) (n : ℕ) : Type 0 where
   pub count : n ≡ countIn s
   pub room : 6 + 6 * n ≤ length s
-
-abbrev pub LiesIn : ℕ → ℕ → Bar → Type 0
-LiesIn rows columns b = (b .left ≤ b .right) × (b .right < columns) × (b .row < rows)
 
 -- the bar has a cell in column j
 abbrev pub Spans : Bar → ℕ → Type 0
@@ -91,7 +87,3 @@ pub record EdgesOf (n : ℕ) (es : List Edge) : Type 0 where
   pub named : All (λ e. (e .0 < e .1) × (e .1 < n)) es
   pub ascending : Ascending es
   pub count : length es + 3 ≡ 2 * n
-
--- they are those of a part
-abbrev pub PartOf : ℕ → List Edge → Type 0
-PartOf n es = All (λ e. Mem e es) (sides n) × NoneCross (keep (diagonal? n) es)

@@ -13,7 +13,7 @@ use Rattle.chart_reader.specs.declared.Cell.{Cell}
 use Rattle.chart_reader.specs.Decisions.{three?}
 use Rattle.chart_reader.specs.Areas.{shares?, stands?, crosses?}
 use Rattle.chart_reader.specs.Decode.{chartIn, formed?}
-use Rattle.chart_reader.specs.Rules.{sides, BarRule, Named, Joins, ends, Free, Fits, StrokeRule, Passes, GapRule, edgesIn, diagonalsIn, PartRule, partIn}
+use Rattle.chart_reader.specs.Rules.{sides, BarRule, Joins, ends, Free, StrokeRule, Passes, GapRule, edgesIn, diagonalsIn, PartRule, partIn}
 
 -- the decisions; what each decides is its type
 module _ (c : Chart) where

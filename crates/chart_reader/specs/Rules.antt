@@ -1,13 +1,13 @@
 -- Document 01, "A chart is true when ..", as the rules that "Read a chart" tests, and the part that a chart shows.
 use mathlib.Core.Path.{_≡_}
 use mathlib.Core.Logic.{_≢_}
-use mathlib.Core.List.{List, [], _∷_, map}
+use mathlib.Core.List.{List, _∷_, map}
 use mathlib.Core.Option.{none}
 use Prim.Native.Nat.{ℕ, suc, _-_, _≤_, _<_, min, max}
 use Rattle.polygon.specs.Lists.{Mem, All, Sorted, keep, numbers, below}
 use Rattle.polygon.specs.Polygon.{Edge, _—_, Ascending, NoneCross, Polygon}
 use Rattle.polygon.specs.Order.{diagonal?}
-use Rattle.chart.specs.Chart.{Stroke, upright, level, strokeEdge, Chart, Covers}
+use Rattle.chart.specs.Chart.{Bar, Stroke, upright, level, strokeEdge, Chart, Covers}
 use Rattle.chart_reader.specs.declared.Cell.{Cell}
 use Rattle.chart_reader.specs.Cells.{cell, Has, Inside, Common, Stands}
 
@@ -15,10 +15,17 @@ use Rattle.chart_reader.specs.Cells.{cell, Has, Inside, Common, Stands}
 unfoldable pub sides : ℕ → List Edge
 sides n = (0 — 1) ∷ (0 — (n - 1)) ∷ map (λ i. i — suc i) (numbers (n - 2) 1)
 
+-- 18: "not all sides, or diagonals cross": the edges es of n corners are those of a part
+abbrev pub PartOf : ℕ → List Edge → Type 0
+PartOf n es = All (λ e. Mem e es) (sides n) × NoneCross (keep (diagonal? n) es)
+
+-- 15: "a bar breaks its rule". "Each bar's left column is at most its right, and bars lie within rows and columns .."
+abbrev pub LiesIn : ℕ → ℕ → Bar → Type 0
+LiesIn rows columns b = (b .left ≤ b .right) × (b .right < columns) × (b .row < rows)
+
 module _ (c : Chart) where
-  -- 15: "a bar breaks its rule". "Each bar's left column is at most its right, and bars lie within rows and columns .."
   abbrev pub Lies : ℕ → Type 0
-  Lies x = (c .bar x .left ≤ c .bar x .right) × (c .bar x .right < c .columns) × (c .bar x .row < c .rows)
+  Lies x = LiesIn (c .rows) (c .columns) (c .bar x)
 
   -- ".. without sharing a cell"
   abbrev pub Apart : ℕ → ℕ → Type 0
@@ -60,7 +67,7 @@ module _ (c : Chart) where
   abbrev pub GapRule : Type 0
   GapRule = All (λ s. All (λ t. ¬ Passes s t) (c .strokes)) (c .strokes)
 
-  -- 18: "not all sides, or diagonals cross"
+  -- the edges of the strokes, and the diagonals among them
   abbrev pub edgesIn : List Edge
   edgesIn = map strokeEdge (c .strokes)
 
@@ -68,7 +75,7 @@ module _ (c : Chart) where
   diagonalsIn = keep (diagonal? (c .n)) edgesIn
 
   abbrev pub PartRule : Type 0
-  PartRule = All (λ e. Mem e edgesIn) (sides (c .n)) × NoneCross diagonalsIn
+  PartRule = PartOf (c .n) edgesIn
 
   -- the part: "normal sheet without part number"
   abbrev pub partIn : Polygon

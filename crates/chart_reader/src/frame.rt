@@ -1,7 +1,7 @@
 // The form of a chart's bytes: how many corners it has, and where its strokes start.
 ghost use mathlib.Core.Path.{_≡_};
 ghost use mathlib.Core.Bool.{true, false};
-ghost use Prim.Native.Nat.{ℕ, _*_, _-_, _≤_};
+ghost use Prim.Native.Nat.{_*_, _-_, _≤_};
 ghost use lib.ListN.{length, take};
 ghost use Rattle.chart_reader.specs.Decode.{places, Formed};
 ghost use Rattle.chart_reader.specs.Held.{Ending, Placed};

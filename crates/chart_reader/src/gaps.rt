@@ -2,7 +2,7 @@
 ghost use mathlib.Core.Path.{_≡_};
 ghost use mathlib.Core.Bool.{true, false};
 ghost use mathlib.Core.List.{flatMap};
-ghost use Prim.Native.Nat.{ℕ, _+_, _*_, _<_, _≤_};
+ghost use Prim.Native.Nat.{_+_, _*_, _<_, _≤_};
 ghost use lib.ListN.{length};
 ghost use lib.Seq.{sets};
 ghost use Rattle.polygon.specs.Lists.{All};
@@ -11,8 +11,7 @@ ghost use Rattle.chart_reader.specs.Decode.{strokeAt, chartIn};
 ghost use Rattle.chart_reader.specs.Rules.{BarRule, Named, StrokeRule, GapRule};
 ghost use Rattle.chart_reader.specs.Held.{Bars, Placed, StrokeIn, gapBar, gapOf, GapsIn, Clear};
 use crate::Ends;
-use crate::question::any_within;
-use crate::question::between;
+use crate::question::bar_between;
 use crate::strokes::stroke_ends;
 use codec::put16;
 
@@ -71,7 +70,7 @@ fn clear(chart: &[u8], at: usize, n: usize, gaps: &[u8], g: usize) -> bool
         return true;
     }
     let e = stroke_ends(chart, at, n);
-    !any_within(gaps, 0, g, between(e.first, e.last))
+    !bar_between(gaps, 0, g, e.first, e.last)
 }
 
 // Whether each stroke is.

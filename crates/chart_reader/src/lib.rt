@@ -2,7 +2,6 @@
 // frame.rt finds the strokes in the bytes, question.rt asks whether a bar stands between two cells, bars.rt, strokes.rt, gaps.rt and part.rt test the rules.
 // The definitions that the contracts cite are in specs/: Reader.antt has the tests in their order, Rules.antt the rules, Decode.antt the bytes, Held.antt how the code holds a chart.
 ghost use mathlib.Core.Path.{_≡_};
-ghost use Prim.Native.Nat.{ℕ};
 ghost use lib.ListN.{length};
 ghost use Rattle.codec.specs.Answer.{answered, written};
 ghost use Rattle.sheet.specs.Held.{readOf, Sized};

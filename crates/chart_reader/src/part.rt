@@ -1,13 +1,14 @@
 // The part that the strokes show: all sides, and n - 3 diagonals that do not cross.
 ghost use mathlib.Core.Path.{_≡_};
 ghost use mathlib.Core.Bool.{true, false};
-ghost use Prim.Native.Nat.{ℕ, _+_, _*_, _-_, _<_, _≤_};
+ghost use Prim.Native.Nat.{_+_, _-_, _<_, _≤_};
 ghost use lib.ListN.{length, take};
-ghost use Rattle.polygon.specs.Lists.{All, keep};
-ghost use Rattle.polygon.specs.Polygon.{Ascending, Diagonal};
+ghost use Rattle.polygon.specs.Lists.{keep};
+ghost use Rattle.polygon.specs.Polygon.{Diagonal};
 ghost use Rattle.polygon.specs.Order.{diagonal?};
 ghost use Rattle.keys.specs.Keys.{edgeOf, edgesOf};
-ghost use Rattle.chart_reader.specs.Held.{EdgesOf, PartOf};
+ghost use Rattle.chart_reader.specs.Rules.{PartOf};
+ghost use Rattle.chart_reader.specs.Held.{EdgesOf};
 use keys::cross::crosses;
 use keys::high;
 use keys::low;

@@ -1,13 +1,11 @@
 // Whether a bar stands between two cells of a row or of a column. The bars lie in bytes, six each: row, left and right column.
 ghost use mathlib.Core.Path.{_≡_};
 ghost use mathlib.Core.Bool.{true, false};
-ghost use Prim.Native.Nat.{ℕ, _+_, _*_, _<_, _≤_};
+ghost use Prim.Native.Nat.{_+_, _*_, _<_, _≤_};
 ghost use lib.ListN.{length};
 ghost use Rattle.chart_reader.specs.Cells.{bar, Has, Inside, Common};
-ghost use Rattle.chart_reader.specs.Areas.{Within, Fills, barArea};
-ghost use Rattle.chart_reader.specs.Decode.{chartIn};
-ghost use Rattle.chart_reader.specs.Rules.{Free};
-ghost use Rattle.chart_reader.specs.Held.{Bars, Small, None, Some};
+ghost use Rattle.chart_reader.specs.Areas.{Within, Fills};
+ghost use Rattle.chart_reader.specs.Held.{Small, None, Some};
 use crate::Area;
 use crate::Cell;
 use codec::get16;
@@ -26,7 +24,7 @@ pub fn bar_area(row: usize, left: usize, right: usize) -> Area
 }
 
 // The cells between two cells of a row or of a column; neither of the two counts.
-pub fn between(p: Cell, q: Cell) -> Area
+fn between(p: Cell, q: Cell) -> Area
     requires { ⌜ Small p × Small q ⌝ }
     ensures { λ r. ⌜ Fills (Inside (p, q)) r ⌝ }
 {
@@ -120,11 +118,11 @@ pub fn any_within(bars: &[u8], from: usize, m: usize, a: Area) -> bool
     false
 }
 
-// Whether a bar of the chart stands between two cells of a row or of a column.
-pub fn bar_between(chart: &[u8], n: usize, p: Cell, q: Cell) -> bool
-    requires { ⌜ Bars (now chart) n × Small p × Small q ⌝ }
-    ensures { λ r. ⌜ (r ≡ true → Free (chartIn (now (chart .entry))) (p, q) → ⊥) ⌝ }
-    ensures { λ r. ⌜ (r ≡ false → Free (chartIn (now (chart .entry))) (p, q)) ⌝ }
+// Whether one of the m bars from `from` on stands between two cells of a row or of a column: the question that the whole reader asks.
+pub fn bar_between(bars: &[u8], from: usize, m: usize, p: Cell, q: Cell) -> bool
+    requires { ⌜ (from + 6 * m ≤ length (now bars)) × Small p × Small q ⌝ }
+    ensures { λ r. ⌜ (r ≡ true → Some (now (bars .entry)) from m (Inside (p, q))) ⌝ }
+    ensures { λ r. ⌜ (r ≡ false → None (now (bars .entry)) from m (Inside (p, q))) ⌝ }
 {
-    any_within(chart, 6, n, between(p, q))
+    any_within(bars, from, m, between(p, q))
 }

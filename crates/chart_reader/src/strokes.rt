@@ -1,11 +1,10 @@
 // Whether the strokes keep their rule: their corners, their order, and their bars.
 ghost use mathlib.Core.Path.{_≡_};
 ghost use mathlib.Core.Bool.{true, false};
-ghost use Prim.Native.Nat.{ℕ, _+_, _*_, _<_, _≤_, min, max};
+ghost use Prim.Native.Nat.{_+_, _*_, _<_, _≤_, min, max};
 ghost use lib.ListN.{length, take};
 ghost use Rattle.polygon.specs.Lists.{All};
 ghost use Rattle.keys.specs.Keys.{edgesOf};
-ghost use Rattle.chart_reader.specs.Cells.{Has};
 ghost use Rattle.chart_reader.specs.Decode.{barAt, strokeAt, chartIn};
 ghost use Rattle.chart_reader.specs.Rules.{Named, Joins, Fits, StrokeRule, edgesIn};
 ghost use Rattle.chart_reader.specs.Held.{Bars, Placed, StrokeIn, EndsOf, Spans};
@@ -129,7 +128,7 @@ fn fits(chart: &[u8], at: usize, n: usize) -> bool
         return false;
     }
     let e = stroke_ends(chart, at, n);
-    !bar_between(chart, n, e.first, e.last)
+    !bar_between(chart, 6, n, e.first, e.last)
 }
 
 // Whether the bars of each stroke do.

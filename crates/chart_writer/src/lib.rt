@@ -13,14 +13,14 @@ ghost use Rattle.chart.specs.Edges.{edges};
 ghost use Rattle.chart.specs.Chart.{layout};
 ghost use Rattle.chart.specs.Bytes.{bytesOf};
 ghost use Rattle.chart_writer.specs.Tables.{Rising, Keyed, Drawn, RowsAre};
-use codec::Written;
-use codec::put16;
 use crate::bars::spans;
 use crate::bytes::put_bars;
 use crate::bytes::put_strokes;
 use crate::bytes::strokes_size;
 use crate::columns::find_columns;
 use crate::edges::list_edges;
+use codec::Written;
+use codec::put16;
 
 pub mod bars;
 pub mod bytes;
@@ -28,7 +28,14 @@ pub mod columns;
 pub mod edges;
 
 // Writes the chart with these edges, if the output is long enough.
-fn write_layout(n: usize, levels: usize, listed: &[u32], cols: &[u32], rows: &[u16], out: &mut [u8]) -> Written
+fn write_layout(
+    n: usize,
+    levels: usize,
+    listed: &[u32],
+    cols: &[u32],
+    rows: &[u16],
+    out: &mut [u8],
+) -> Written
     requires { ⌜ Rising (now listed) ⌝ }
     requires { ⌜ Keyed (now listed) ⌝ }
     requires { ⌜ Drawn (now listed) (now cols) ⌝ }
@@ -55,7 +62,14 @@ fn write_layout(n: usize, levels: usize, listed: &[u32], cols: &[u32], rows: &[u
 }
 
 // Writes the chart of a part with n corners: the keys of its diagonals ascending, the key of each column's upright, the row of each corner.
-pub fn write_chart(n: usize, levels: usize, keys: &[u32], cols: &[u32], rows: &[u16], out: &mut [u8]) -> Written
+pub fn write_chart(
+    n: usize,
+    levels: usize,
+    keys: &[u32],
+    cols: &[u32],
+    rows: &[u16],
+    out: &mut [u8],
+) -> Written
     requires { ⌜ Triangulated n (edgesOf (now keys)) ⌝ }
     requires { ⌜ All (λ e. Mem e (edges 0 (treeOf n (edgesOf (now keys))))) (edgesOf (now cols)) ⌝ }
     requires { ⌜ (n ≤ 1024) × (levels < 1024) × (n ≤ length (now rows)) × (1 ≤ length (now cols)) × (length (now cols) < 65535) ⌝ }

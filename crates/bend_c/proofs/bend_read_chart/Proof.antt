@@ -22,4 +22,3 @@ returns c = (c .pack .ensures (c .before .before .before .read-chart .last .1 .0
 
 pub bend-read-chart-spec : {M : Type 1} → statement M
 bend-read-chart-spec = tie.close (tie.spec read-chart-requires pack-requires same-length returns)
-

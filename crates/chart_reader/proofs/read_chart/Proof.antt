@@ -1,5 +1,5 @@
 -- Read, then written.
-use mathlib.Core.Path.{_≡_, _∙_}
+use mathlib.Core.Path.{_∙_}
 use borrow.Author.Needs.{needs}
 use native.Mathlib.Omega.{arith}
 use Rattle.sheet.proofs.Outcomes.{held-fits}
@@ -7,10 +7,6 @@ use Rattle.chart_reader.specs.Reader.{chartRead}
 use Rattle.chart_reader.proofs.Found.{read-refused, read-held}
 use Rattle.chart_reader.proofs.read_chart.Statement.{statement}
 use Rattle.chart_reader.proofs.read_chart.Tie as tie
-use Rattle.chart_reader.proofs.read_chart.Reads as reads
-use Rattle.chart_reader.proofs.read_chart.Lts as lts
-use Rattle.chart_reader.proofs.read_part.Reads as read-part-reads
-use Rattle.sheet.proofs.writer.write_sheet.Reads as write-sheet-reads
 
 slice-aggregate-read-part : tie.Need-slice-aggregate-read-part
 slice-aggregate-read-part c = search needs
@@ -43,4 +39,3 @@ returns-2 c = c .before .before .write-sheet .ensures ∙ read-held (c .before .
 
 pub read-chart-spec : {M : Type 1} → statement M
 read-chart-spec = tie.close (tie.spec slice-aggregate-read-part read-part-requires enum-known-k enum-known-h slice-aggregate-write-sheet write-sheet-requires returns same-length returns-2)
-

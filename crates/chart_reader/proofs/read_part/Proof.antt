@@ -1,23 +1,16 @@
 -- The tests in their order, by the laws of Found.antt.
-use mathlib.Core.Path.{_≡_, sym}
-use Prim.Native.Nat.{_+_, _*_, _-_, _≤_}
+use mathlib.Core.Path.{sym}
+use Prim.Native.Nat.{_*_, _-_}
 use borrow.Author.Needs.{needs}
 use borrow.Author.Tests.{not-true, not-false}
 use native.Mathlib.Omega.{arith}
-use lib.ListN.{length, take}
+use lib.ListN.{take}
 use lib.Seq.{length-take-le}
 use Rattle.chart_reader.proofs.Stroked.{bars-room}
 use Rattle.chart_reader.proofs.Verdict.{by-14, by-15, by-16, by-17, read-by}
 use Rattle.chart_reader.proofs.Found.{edges-found, no-part, part-held, part-fits}
 use Rattle.chart_reader.proofs.read_part.Statement.{statement}
 use Rattle.chart_reader.proofs.read_part.Tie as tie
-use Rattle.chart_reader.proofs.read_part.Reads as reads
-use Rattle.chart_reader.proofs.read_part.Lts as lts
-use Rattle.chart_reader.proofs.bars.bars_keep.Reads as bars-keep-reads
-use Rattle.chart_reader.proofs.frame.frame.Reads as frame-reads
-use Rattle.chart_reader.proofs.gaps.gaps_keep.Reads as gaps-keep-reads
-use Rattle.chart_reader.proofs.part.part.Reads as part-reads
-use Rattle.chart_reader.proofs.strokes.strokes_keep.Reads as strokes-keep-reads
 
 slice-aggregate-frame : tie.Need-slice-aggregate-frame
 slice-aggregate-frame c = search needs
@@ -90,4 +83,3 @@ returns-6 c = (part-held (c .before .before .before .before .before .before .bef
 
 pub read-part-spec : {M : Type 1} → statement M
 read-part-spec = tie.close (tie.spec slice-aggregate-frame frame-requires returns bars-keep-requires returns-2 mul-m sub-m array-share-prefix-at slice-aggregate-strokes-keep slice-aggregate-strokes-keep-2 strokes-keep-requires returns-3 array-share-prefix-at-2 slice-aggregate-gaps-keep gaps-keep-requires returns-4 array-share-prefix-edges slice-aggregate-part part-requires same-length returns-5 same-length-2 returns-6)
-

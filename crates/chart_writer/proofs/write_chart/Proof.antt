@@ -47,4 +47,3 @@ returns c = λ rs R. c .before .before .write-layout .ensures rs R ∙ ap (λ (e
 
 pub write-chart-spec : {M : Type 1} → statement M
 write-chart-spec = tie.close (tie.spec mul-m sub-m array-borrow-prefix-listed slice-aggregate-list-edges list-edges-requires array-share-prefix-listed slice-aggregate-write-layout write-layout-requires same-length returns)
-

@@ -89,4 +89,3 @@ returns-2 c = λ rs R. chart-written (c .before .before .before .before .before 
 
 pub write-layout-spec : {M : Type 1} → statement M
 write-layout-spec = tie.close (tie.spec slice-aggregate-find-columns find-columns-requires mul-size add-size slice-aggregate-strokes-size strokes-size-requires add-size-2 returns cast-left slice-aggregate-spans slice-aggregate-spans-2 spans-requires mul-put16 add-put16 put16-requires put16-requires-2 put16-requires-3 slice-aggregate-put-bars slice-aggregate-put-bars-2 put-bars-requires mul-put-strokes add-put-strokes slice-aggregate-put-strokes put-strokes-requires same-length returns-2)
-

@@ -50,4 +50,3 @@ returns-2 c = c .before .before .draw-part .ensures ∙ drawn-held (c .before .b
 
 pub draw-spec : {M : Type 1} → statement M
 draw-spec = tie.close (tie.spec slice-aggregate-read-sheet read-sheet-requires enum-known-k enum-known-h sub-m array-share-prefix-keys slice-aggregate-draw-part draw-part-requires returns same-length returns-2)
-

@@ -45,4 +45,3 @@ returns c = c .before .before .write-chart .ensures (rows (best (treeOf (c .befo
 
 pub draw-part-spec : {M : Type 1} → statement M
 draw-part-spec = tie.close (tie.spec place-part-requires cast-write-chart array-share-prefix-columns slice-aggregate-write-chart slice-aggregate-write-chart-2 write-chart-requires same-length returns)
-

@@ -1,9 +1,7 @@
 -- The loop's invariant: the bars before x lie as they should.
 use mathlib.Core.Bool.{true≢false, false≢true}
-use mathlib.Core.Path.{_≡_}
 use Prim.Native.Nat.{ℕ, _≤_, _<_, _-_}
 use borrow.Author.Count.{below-more}
-use borrow.Author.Needs.{needs}
 use borrow.Author.Tests.{not-true, not-false}
 use native.Mathlib.Omega.{arith}
 use Rattle.chart_reader.specs.Decode.{chartIn}
@@ -11,10 +9,6 @@ use Rattle.chart_reader.specs.Rules.{Lies}
 use Rattle.chart_reader.proofs.Below.{below-at, below-all}
 use Rattle.chart_reader.proofs.bars.all_lie.Statement.{statement}
 use Rattle.chart_reader.proofs.bars.all_lie.Tie as tie
-use Rattle.chart_reader.proofs.bars.all_lie.Reads as reads
-use Rattle.chart_reader.proofs.bars.all_lie.Lts as lts
-use Rattle.chart_reader.proofs.bars.lies.Reads as lies-reads
-use Rattle.codec.proofs.get16.Reads as get16-reads
 
 abbrev Inv-loop : tie.InvT-loop
 Inv-loop chart n rows columns x₀ x = (x ≤ n) × ((y : ℕ) → y < x → Lies (chartIn chart) y)
@@ -57,4 +51,3 @@ returns-2 c = (λ h. below-all (c .before .before .before .before .before .args 
 
 pub all-lie-spec : {M : Type 1} → statement M
 all-lie-spec = tie.close (tie.spec Inv-loop μ-loop get16-requires get16-requires-2 loop-holds mul-lies add-lies lies-requires returns add-x loop-less loop-again returns-2)
-

@@ -4,10 +4,6 @@ use borrow.Author.Needs.{needs}
 use borrow.Author.Tests.{not-true, not-false}
 use Rattle.chart_reader.proofs.bars.bars_keep.Statement.{statement}
 use Rattle.chart_reader.proofs.bars.bars_keep.Tie as tie
-use Rattle.chart_reader.proofs.bars.bars_keep.Reads as reads
-use Rattle.chart_reader.proofs.bars.bars_keep.Lts as lts
-use Rattle.chart_reader.proofs.bars.all_apart.Reads as all-apart-reads
-use Rattle.chart_reader.proofs.bars.all_lie.Reads as all-lie-reads
 
 all-lie-requires : tie.Need-all-lie-requires
 all-lie-requires c κs = search needs
@@ -23,4 +19,3 @@ returns-2 c = (λ h. ((rw (c .before .before .before .before .pre .count) at (c 
 
 pub bars-keep-spec : {M : Type 1} → statement M
 bars-keep-spec = tie.close (tie.spec all-lie-requires returns all-apart-requires returns-2)
-

@@ -5,9 +5,6 @@ use borrow.Author.Tests.{ltb-true, ltb-false}
 use native.Mathlib.Omega.{arith}
 use Rattle.chart_reader.proofs.bars.lies.Statement.{statement}
 use Rattle.chart_reader.proofs.bars.lies.Tie as tie
-use Rattle.chart_reader.proofs.bars.lies.Reads as reads
-use Rattle.chart_reader.proofs.bars.lies.Lts as lts
-use Rattle.codec.proofs.get16.Reads as get16-reads
 
 add-get16 : tie.Need-add-get16
 add-get16 c = search needs
@@ -35,4 +32,3 @@ returns-3 c = (λ h. omega (arith, c .before .before .before .before .get16 .ens
 
 pub lies-spec : {M : Type 1} → statement M
 lies-spec = tie.close (tie.spec add-get16 get16-requires add-get16-2 get16-requires-2 returns returns-2 get16-requires-3 returns-3)
-

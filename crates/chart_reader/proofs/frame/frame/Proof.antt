@@ -1,17 +1,11 @@
 -- Each test of the frame, by the laws of Placing.antt.
-use mathlib.Core.Path.{_≡_, refl, sym, _∙_}
-use Prim.Native.Nat.{_+_, _*_, _-_}
+use mathlib.Core.Path.{refl, sym}
 use borrow.Author.Needs.{needs}
 use borrow.Author.Tests.{not-true, not-false}
 use native.Mathlib.Omega.{arith}
-use lib.ListN.{length, length-append, length-drop}
 use Rattle.chart_reader.proofs.Placing.{room-is, not-formed, framed}
 use Rattle.chart_reader.proofs.frame.frame.Statement.{statement}
 use Rattle.chart_reader.proofs.frame.frame.Tie as tie
-use Rattle.chart_reader.proofs.frame.frame.Reads as reads
-use Rattle.chart_reader.proofs.frame.frame.Lts as lts
-use Rattle.chart_reader.proofs.frame.stroke_places.Reads as stroke-places-reads
-use Rattle.codec.proofs.get16.Reads as get16-reads
 
 returns : tie.Need-returns
 returns c = (λ h F. omega (arith, F .head), λ f. absurd (f refl))
@@ -60,4 +54,3 @@ returns-5 c = (λ h. absurd (omega arith), λ f. framed (c .before .before .befo
 
 pub frame-spec : {M : Type 1} → statement M
 frame-spec = tie.close (tie.spec returns get16-requires returns-2 returns-3 mul-m sub-m mul-stroke-places add-stroke-places slice-relend-prefix-stroke-places slice-aggregate-stroke-places stroke-places-requires same-length returns-4 same-length-2 returns-5)
-

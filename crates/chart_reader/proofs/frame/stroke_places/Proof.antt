@@ -1,16 +1,13 @@
 -- The loop's invariant is `Placing`.
-use mathlib.Core.Path.{_≡_, refl}
-use mathlib.Core.Bool.{true≢false, false≢true}
-use Prim.Native.Nat.{_+_, _*_, _-_}
-use borrow.Author.Needs.{needs}
+use mathlib.Core.Path.{refl}
+use mathlib.Core.Bool.{false≢true}
+use Prim.Native.Nat.{_-_}
 use borrow.Author.Tests.{eqb-true, eqb-false}
 use native.Mathlib.Omega.{arith}
 use lib.ListN.{length, length-set}
 use Rattle.chart_reader.proofs.Placing.{Placing, placing-none, past-end, other-bit, placing-next, placed, not-ending}
 use Rattle.chart_reader.proofs.frame.stroke_places.Statement.{statement}
 use Rattle.chart_reader.proofs.frame.stroke_places.Tie as tie
-use Rattle.chart_reader.proofs.frame.stroke_places.Reads as reads
-use Rattle.chart_reader.proofs.frame.stroke_places.Lts as lts
 
 abbrev Inv-loop : tie.InvT-loop
 Inv-loop chart from at₀ i₀ p₀ at i p = Placing chart from (length at₀) at i p
@@ -71,4 +68,3 @@ returns-3 c = (λ h. placed (c .before .before .args .chart .now) (c .before .be
 
 pub stroke-places-spec : {M : Type 1} → statement M
 stroke-places-spec = tie.close (tie.spec Inv-loop μ-loop loop-holds same-length returns shared-slice-read-map same-length-2 returns-2 mul-at slice-write-at cast-p mul-p add-p add-p-2 add-i loop-less loop-again same-length-3 returns-3)
-

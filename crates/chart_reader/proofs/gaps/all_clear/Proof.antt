@@ -1,9 +1,7 @@
 -- The loop's invariant: the strokes before i are clear.
 use mathlib.Core.Bool.{true≢false, false≢true}
-use mathlib.Core.Path.{_≡_}
 use Prim.Native.Nat.{ℕ, _≤_, _<_, _-_}
 use borrow.Author.Count.{below-more}
-use borrow.Author.Needs.{needs}
 use borrow.Author.Tests.{not-true, not-false}
 use native.Mathlib.Omega.{arith}
 use lib.ListN.{length, getD}
@@ -12,9 +10,6 @@ use Rattle.chart_reader.specs.Held.{Clear}
 use Rattle.chart_reader.proofs.Stroked.{strokes-all, strokes-at, bars-room, stroke-in}
 use Rattle.chart_reader.proofs.gaps.all_clear.Statement.{statement}
 use Rattle.chart_reader.proofs.gaps.all_clear.Tie as tie
-use Rattle.chart_reader.proofs.gaps.all_clear.Reads as reads
-use Rattle.chart_reader.proofs.gaps.all_clear.Lts as lts
-use Rattle.chart_reader.proofs.gaps.clear.Reads as clear-reads
 
 abbrev Inv-loop : tie.InvT-loop
 Inv-loop chart at n gaps g i₀ i = (i ≤ length at) × ((k : ℕ) → k < i → Clear (chartIn chart) gaps g (strokeAt chart (getD at k 0)))
@@ -51,4 +46,3 @@ returns-2 c = (λ h. strokes-all (c .before .before .before .before .before .arg
 
 pub all-clear-spec : {M : Type 1} → statement M
 all-clear-spec = tie.close (tie.spec Inv-loop μ-loop loop-holds mul-clear shared-slice-read-clear clear-requires returns add-i loop-less loop-again returns-2)
-

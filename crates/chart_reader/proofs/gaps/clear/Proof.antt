@@ -2,15 +2,9 @@
 use mathlib.Core.Bool.{true≢false}
 use borrow.Author.Needs.{needs}
 use borrow.Author.Tests.{not-true, not-false}
-use Rattle.chart_reader.proofs.Meeting.{none-of, some-of}
 use Rattle.chart_reader.proofs.Passing.{level-clear, upright-clear, upright-met}
 use Rattle.chart_reader.proofs.gaps.clear.Statement.{statement}
 use Rattle.chart_reader.proofs.gaps.clear.Tie as tie
-use Rattle.chart_reader.proofs.gaps.clear.Reads as reads
-use Rattle.chart_reader.proofs.gaps.clear.Lts as lts
-use Rattle.chart_reader.proofs.question.any_within.Reads as any-within-reads
-use Rattle.chart_reader.proofs.question.between.Reads as between-reads
-use Rattle.chart_reader.proofs.strokes.stroke_ends.Reads as stroke-ends-reads
 
 shared-slice-read-if1 : tie.Need-shared-slice-read-if1
 shared-slice-read-if1 c = search needs
@@ -21,15 +15,11 @@ returns c = (λ h. level-clear (c .before .before .before .before .args .chart .
 stroke-ends-requires : tie.Need-stroke-ends-requires
 stroke-ends-requires c κs = search needs
 
-between-requires : tie.Need-between-requires
-between-requires c κs = search needs
-
-any-within-requires : tie.Need-any-within-requires
-any-within-requires c κs = search needs
+bar-between-requires : tie.Need-bar-between-requires
+bar-between-requires c κs = search needs
 
 returns-2 : tie.Need-returns-2
-returns-2 c = (λ h. upright-clear (c .before .before .before .before .before .before .before .args .chart .now) (c .before .before .before .before .before .before .before .args .at) (c .before .before .before .before .before .before .before .pre .0 .bit) (c .before .before .before .if1 .left) (c .before .before .stroke-ends .result) (c .before .before .stroke-ends .ensures) (c .before .before .before .before .before .before .before .args .gaps .now) (c .before .before .before .before .before .before .before .args .g) (none-of (c .before .between .ensures) (c .before .before .before .before .before .before .before .args .gaps .now) 0 (c .before .before .before .before .before .before .before .args .g) (c .any-within .ensures .1 (not-true _ h))), λ h. upright-met (c .before .before .before .before .before .before .before .args .chart .now) (c .before .before .before .before .before .before .before .args .at) (c .before .before .before .before .before .before .before .pre .0 .bit) (c .before .before .before .if1 .left) (c .before .before .stroke-ends .result) (c .before .before .stroke-ends .ensures) (c .before .before .before .before .before .before .before .args .gaps .now) (c .before .before .before .before .before .before .before .args .g) (some-of (c .before .between .ensures) (c .before .before .before .before .before .before .before .args .gaps .now) 0 (c .before .before .before .before .before .before .before .args .g) (c .any-within .ensures .0 (not-false _ h))))
+returns-2 c = (λ h. upright-clear (c .before .before .before .before .before .before .args .chart .now) (c .before .before .before .before .before .before .args .at) (c .before .before .before .before .before .before .pre .0 .bit) (c .before .before .if1 .left) (c .before .stroke-ends .result) (c .before .stroke-ends .ensures) (c .before .before .before .before .before .before .args .gaps .now) (c .before .before .before .before .before .before .args .g) (c .bar-between .ensures .1 (not-true _ h)), λ h. upright-met (c .before .before .before .before .before .before .args .chart .now) (c .before .before .before .before .before .before .args .at) (c .before .before .before .before .before .before .pre .0 .bit) (c .before .before .if1 .left) (c .before .stroke-ends .result) (c .before .stroke-ends .ensures) (c .before .before .before .before .before .before .args .gaps .now) (c .before .before .before .before .before .before .args .g) (c .bar-between .ensures .0 (not-false _ h)))
 
 pub clear-spec : {M : Type 1} → statement M
-clear-spec = tie.close (tie.spec shared-slice-read-if1 returns stroke-ends-requires between-requires any-within-requires returns-2)
-
+clear-spec = tie.close (tie.spec shared-slice-read-if1 returns stroke-ends-requires bar-between-requires returns-2)

@@ -6,10 +6,6 @@ use Rattle.chart_reader.proofs.Stroked.{strokes-room}
 use Rattle.chart_reader.proofs.Passing.{gapped, clear-rule, rule-clear}
 use Rattle.chart_reader.proofs.gaps.gaps_keep.Statement.{statement}
 use Rattle.chart_reader.proofs.gaps.gaps_keep.Tie as tie
-use Rattle.chart_reader.proofs.gaps.gaps_keep.Reads as reads
-use Rattle.chart_reader.proofs.gaps.gaps_keep.Lts as lts
-use Rattle.chart_reader.proofs.gaps.all_clear.Reads as all-clear-reads
-use Rattle.chart_reader.proofs.gaps.put_gaps.Reads as put-gaps-reads
 
 slice-aggregate-put-gaps : tie.Need-slice-aggregate-put-gaps
 slice-aggregate-put-gaps c = search needs
@@ -28,4 +24,3 @@ returns c = (λ h. clear-rule (chartIn (c .before .before .before .before .befor
 
 pub gaps-keep-spec : {M : Type 1} → statement M
 gaps-keep-spec = tie.close (tie.spec slice-aggregate-put-gaps put-gaps-requires slice-aggregate-all-clear all-clear-requires returns)
-

@@ -1,12 +1,9 @@
 -- Three numbers, one behind the other.
-use mathlib.Core.Path.{_≡_, _∙_}
+use mathlib.Core.Path.{_∙_}
 use borrow.Author.Needs.{needs}
 use Rattle.chart_reader.proofs.Gapped.{bar-stored}
 use Rattle.chart_reader.proofs.gaps.put_gap.Statement.{statement}
 use Rattle.chart_reader.proofs.gaps.put_gap.Tie as tie
-use Rattle.chart_reader.proofs.gaps.put_gap.Reads as reads
-use Rattle.chart_reader.proofs.gaps.put_gap.Lts as lts
-use Rattle.codec.proofs.put16.Reads as put16-reads
 
 put16-requires : tie.Need-put16-requires
 put16-requires c κs = search needs
@@ -37,4 +34,3 @@ returns c = c .before .before .put163 .ensures ∙ rw (c .before .before .before
 
 pub put-gap-spec : {M : Type 1} → statement M
 put-gap-spec = tie.close (tie.spec put16-requires add-put16 add-put16-2 put16-requires-2 add-put16-3 sub-put16 put16-requires-3 same-length returns)
-

@@ -1,17 +1,12 @@
 -- Nothing for an upright and for a gap without a cell; else one gap.
-use mathlib.Core.Path.{_≡_, refl, _∙_}
+use mathlib.Core.Path.{refl}
 use mathlib.Core.List.{flatMap}
-use Prim.Native.Nat.{_+_, _*_}
 use borrow.Author.Needs.{needs}
 use native.Mathlib.Omega.{arith}
 use Rattle.chart.specs.Bytes.{barBytes}
 use Rattle.chart_reader.proofs.Gapped.{no-gap, narrow-gap, wide-gap}
 use Rattle.chart_reader.proofs.gaps.put_gap_of.Statement.{statement}
 use Rattle.chart_reader.proofs.gaps.put_gap_of.Tie as tie
-use Rattle.chart_reader.proofs.gaps.put_gap_of.Reads as reads
-use Rattle.chart_reader.proofs.gaps.put_gap_of.Lts as lts
-use Rattle.chart_reader.proofs.gaps.put_gap.Reads as put-gap-reads
-use Rattle.chart_reader.proofs.strokes.stroke_ends.Reads as stroke-ends-reads
 
 shared-slice-read-if1 : tie.Need-shared-slice-read-if1
 shared-slice-read-if1 c = search needs
@@ -48,4 +43,3 @@ returns-3 c = rw (wide-gap (c .before .before .before .before .before .before .b
 
 pub put-gap-of-spec : {M : Type 1} → statement M
 put-gap-of-spec = tie.close (tie.spec shared-slice-read-if1 returns stroke-ends-requires add-if2 returns-2 mul-put-gap put-gap-requires add-result same-length returns-3)
-

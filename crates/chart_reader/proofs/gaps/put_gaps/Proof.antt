@@ -1,16 +1,11 @@
 -- The loop's invariant is `Gapping`.
-use mathlib.Core.Path.{_≡_}
-use Prim.Native.Nat.{_+_, _*_, _-_}
-use borrow.Author.Needs.{needs}
+use Prim.Native.Nat.{_-_}
 use native.Mathlib.Omega.{arith}
 use lib.ListN.{length}
 use Rattle.chart_reader.proofs.Stroked.{bars-room, stroke-in}
 use Rattle.chart_reader.proofs.Gapped.{Gapping, gapping-none, gapping-next, gapped-all}
 use Rattle.chart_reader.proofs.gaps.put_gaps.Statement.{statement}
 use Rattle.chart_reader.proofs.gaps.put_gaps.Tie as tie
-use Rattle.chart_reader.proofs.gaps.put_gaps.Reads as reads
-use Rattle.chart_reader.proofs.gaps.put_gaps.Lts as lts
-use Rattle.chart_reader.proofs.gaps.put_gap_of.Reads as put-gap-of-reads
 
 abbrev Inv-loop : tie.InvT-loop
 Inv-loop chart at n gaps₀ g₀ i₀ gaps g i = Gapping chart at gaps₀ gaps g i
@@ -47,4 +42,3 @@ returns c = (gapped-all (c .before .before .before .before .before .args .chart 
 
 pub put-gaps-spec : {M : Type 1} → statement M
 put-gaps-spec = tie.close (tie.spec Inv-loop μ-loop loop-holds mul-put-gap-of shared-slice-read-put-gap-of put-gap-of-requires add-i loop-less loop-again same-length returns)
-

@@ -1,15 +1,11 @@
 -- The loop's invariant is `Choosing`.
 use mathlib.Core.Logic.{⊎-elim}
 use Prim.Native.Nat.{_-_}
-use borrow.Author.Needs.{needs}
 use native.Mathlib.Omega.{arith}
 use lib.ListN.{length}
 use Rattle.chart_reader.proofs.Choosing.{Choosing, choosing-none, choosing-yes, choosing-no, chosen-all}
 use Rattle.chart_reader.proofs.part.diagonals.Statement.{statement}
 use Rattle.chart_reader.proofs.part.diagonals.Tie as tie
-use Rattle.chart_reader.proofs.part.diagonals.Reads as reads
-use Rattle.chart_reader.proofs.part.diagonals.Lts as lts
-use Rattle.chart_reader.proofs.part.is_diagonal.Reads as is-diagonal-reads
 
 abbrev Inv-loop : tie.InvT-loop
 Inv-loop edges n keys₀ m₀ i₀ keys m i = Choosing n edges (length keys₀) keys m i
@@ -55,4 +51,3 @@ returns c = (omega (arith, c .before .loop .inv .low, c .before .loop .inv .upto
 
 pub diagonals-spec : {M : Type 1} → statement M
 diagonals-spec = tie.close (tie.spec Inv-loop μ-loop loop-holds mul-k shared-slice-read-k is-diagonal-requires mul-keys slice-write-keys add-m add-i loop-less loop-again same-length returns)
-

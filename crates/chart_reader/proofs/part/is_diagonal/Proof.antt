@@ -5,10 +5,6 @@ use borrow.Author.Tests.{ltb-true, ltb-false}
 use native.Mathlib.Omega.{arith}
 use Rattle.chart_reader.proofs.part.is_diagonal.Statement.{statement}
 use Rattle.chart_reader.proofs.part.is_diagonal.Tie as tie
-use Rattle.chart_reader.proofs.part.is_diagonal.Reads as reads
-use Rattle.chart_reader.proofs.part.is_diagonal.Lts as lts
-use Rattle.keys.proofs.high.Reads as high-reads
-use Rattle.keys.proofs.low.Reads as low-reads
 
 low-requires : tie.Need-low-requires
 low-requires c κs = search needs
@@ -36,4 +32,3 @@ returns-3 c = (λ h. omega (arith, c .before .before .before .low .ensures, c .b
 
 pub is-diagonal-spec : {M : Type 1} → statement M
 is-diagonal-spec = tie.close (tie.spec low-requires high-requires add-if1 returns add-if2 add-if2-2 returns-2 returns-3)
-

@@ -1,20 +1,14 @@
 -- The count of the diagonals, then the linear test for crossing.
 use mathlib.Core.Bool.{false≢true}
-use mathlib.Core.Path.{_≡_, sym}
-use Prim.Native.Nat.{_+_, _≤_}
+use mathlib.Core.Path.{sym}
 use borrow.Author.Needs.{needs}
 use borrow.Author.Tests.{not-true, not-false}
 use native.Mathlib.Omega.{arith}
-use lib.ListN.{length}
 use lib.Seq.{length-take-le}
 use Rattle.keys.specs.Keys.{edgesOf}
 use Rattle.chart_reader.proofs.Choosing.{wrong-count, chosen-diagonals, part-of, none-part}
 use Rattle.chart_reader.proofs.part.part.Statement.{statement}
 use Rattle.chart_reader.proofs.part.part.Tie as tie
-use Rattle.chart_reader.proofs.part.part.Reads as reads
-use Rattle.chart_reader.proofs.part.part.Lts as lts
-use Rattle.chart_reader.proofs.part.diagonals.Reads as diagonals-reads
-use Rattle.keys.proofs.cross.crosses.Reads as crosses-reads
 
 diagonals-requires : tie.Need-diagonals-requires
 diagonals-requires c κs = (c .before .before .before .pre .2, c .before .before .before .pre .1)
@@ -45,4 +39,3 @@ returns-2 c = (λ h. part-of (c .before .before .before .before .before .before 
 
 pub part-spec : {M : Type 1} → statement M
 part-spec = tie.close (tie.spec diagonals-requires add-if1 same-length returns slice-reshare-prefix-crosses slice-aggregate-crosses crosses-requires same-length-2 returns-2)
-

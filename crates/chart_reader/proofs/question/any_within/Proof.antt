@@ -1,18 +1,12 @@
 -- The loop's invariant: none of the bars before x has a cell of the area.
 use mathlib.Core.Bool.{true≢false, false≢true}
-use mathlib.Core.Path.{_≡_}
 use Prim.Native.Nat.{_≤_, _-_}
 use borrow.Author.Count.{below-more}
-use borrow.Author.Needs.{needs}
 use native.Mathlib.Omega.{arith}
 use Rattle.chart_reader.specs.Areas.{Within}
 use Rattle.chart_reader.specs.Held.{None}
 use Rattle.chart_reader.proofs.question.any_within.Statement.{statement}
 use Rattle.chart_reader.proofs.question.any_within.Tie as tie
-use Rattle.chart_reader.proofs.question.any_within.Reads as reads
-use Rattle.chart_reader.proofs.question.any_within.Lts as lts
-use Rattle.chart_reader.proofs.question.meets.Reads as meets-reads
-use Rattle.codec.proofs.get16.Reads as get16-reads
 
 abbrev Inv-loop : tie.InvT-loop
 Inv-loop bars from m a x₀ x = (x ≤ m) × None bars from x (Within a)
@@ -70,4 +64,3 @@ returns-4 c = (λ h. absurd (false≢true h), λ h k i. c .before .loop .inv .1 
 
 pub any-within-spec : {M : Type 1} → statement M
 any-within-spec = tie.close (tie.spec Inv-loop μ-loop returns returns-2 loop-holds mul-at add-at get16-requires add-get16 get16-requires-2 add-get16-2 get16-requires-3 meets-requires returns-3 add-x loop-less loop-again returns-4)
-

@@ -5,8 +5,6 @@ use Rattle.chart_reader.specs.Areas.{row-fills, column-fills, nowhere-fi
 use Rattle.chart_reader.proofs.Meeting.{fills-same}
 use Rattle.chart_reader.proofs.question.between.Statement.{statement}
 use Rattle.chart_reader.proofs.question.between.Tie as tie
-use Rattle.chart_reader.proofs.question.between.Reads as reads
-use Rattle.chart_reader.proofs.question.between.Lts as lts
 
 add-t7 : tie.Need-add-t7
 add-t7 c = search needs
@@ -49,4 +47,3 @@ returns-5 c = nowhere-fills (c .before .before .before .before .before .before .
 
 pub between-spec : {M : Type 1} → statement M
 between-spec = tie.close (tie.spec add-t7 add-t8 add-t9 add-t10 add-t15 add-t16 add-t17 add-t18 returns returns-2 returns-3 returns-4 returns-5)
-

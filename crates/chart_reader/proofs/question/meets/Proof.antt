@@ -1,13 +1,10 @@
 -- Each test that fails rules a common cell out; if none fails, there is one.
 use mathlib.Core.Bool.{false≢true}
-use borrow.Author.Needs.{needs}
 use borrow.Author.Tests.{ltb-true, ltb-false}
 use native.Mathlib.Omega.{arith}
 use Rattle.chart_reader.proofs.Meeting.{meet}
 use Rattle.chart_reader.proofs.question.meets.Statement.{statement}
 use Rattle.chart_reader.proofs.question.meets.Tie as tie
-use Rattle.chart_reader.proofs.question.meets.Reads as reads
-use Rattle.chart_reader.proofs.question.meets.Lts as lts
 
 returns : tie.Need-returns
 returns c = (λ h. absurd (false≢true h), λ h x. omega (arith, x .1, x .2))
@@ -29,4 +26,3 @@ returns-6 c = (λ h. meet (c .before .before .before .before .before .before .be
 
 pub meets-spec : {M : Type 1} → statement M
 meets-spec = tie.close (tie.spec returns returns-2 returns-3 returns-4 returns-5 returns-6)
-

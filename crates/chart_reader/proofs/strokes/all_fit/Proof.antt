@@ -1,9 +1,7 @@
 -- The loop's invariant: the strokes before i fit.
 use mathlib.Core.Bool.{true≢false, false≢true}
-use mathlib.Core.Path.{_≡_}
 use Prim.Native.Nat.{ℕ, _≤_, _<_, _-_}
 use borrow.Author.Count.{below-more}
-use borrow.Author.Needs.{needs}
 use borrow.Author.Tests.{not-true, not-false}
 use native.Mathlib.Omega.{arith}
 use lib.ListN.{length, getD}
@@ -12,9 +10,6 @@ use Rattle.chart_reader.specs.Rules.{Fits}
 use Rattle.chart_reader.proofs.Stroked.{strokes-all, strokes-at, bars-room, stroke-in}
 use Rattle.chart_reader.proofs.strokes.all_fit.Statement.{statement}
 use Rattle.chart_reader.proofs.strokes.all_fit.Tie as tie
-use Rattle.chart_reader.proofs.strokes.all_fit.Reads as reads
-use Rattle.chart_reader.proofs.strokes.all_fit.Lts as lts
-use Rattle.chart_reader.proofs.strokes.fits.Reads as fits-reads
 
 abbrev Inv-loop : tie.InvT-loop
 Inv-loop chart at n i₀ i = (i ≤ length at) × ((k : ℕ) → k < i → Fits (chartIn chart) (strokeAt chart (getD at k 0)))
@@ -51,4 +46,3 @@ returns-2 c = (λ h. strokes-all (c .before .before .before .before .args .chart
 
 pub all-fit-spec : {M : Type 1} → statement M
 all-fit-spec = tie.close (tie.spec Inv-loop μ-loop loop-holds mul-fits shared-slice-read-fits fits-requires returns add-i loop-less loop-again returns-2)
-

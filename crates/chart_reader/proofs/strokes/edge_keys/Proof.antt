@@ -1,18 +1,12 @@
 -- The loop's invariant is `Keyed`.
-use mathlib.Core.Path.{_≡_}
 use mathlib.Core.Bool.{true≢false, false≢true}
-use Prim.Native.Nat.{_+_, _-_}
-use borrow.Author.Needs.{needs}
+use Prim.Native.Nat.{_-_}
 use native.Mathlib.Omega.{arith}
-use lib.ListN.{length, getD}
+use lib.ListN.{length}
 use Rattle.chart_reader.proofs.Stroked.{place-room}
 use Rattle.chart_reader.proofs.Keyed.{Keyed, keyed-none, not-named, keyed-next, all-named, all-keyed}
 use Rattle.chart_reader.proofs.strokes.edge_keys.Statement.{statement}
 use Rattle.chart_reader.proofs.strokes.edge_keys.Tie as tie
-use Rattle.chart_reader.proofs.strokes.edge_keys.Reads as reads
-use Rattle.chart_reader.proofs.strokes.edge_keys.Lts as lts
-use Rattle.codec.proofs.get16.Reads as get16-reads
-use Rattle.keys.proofs.key.Reads as key-reads
 
 abbrev Inv-loop : tie.InvT-loop
 Inv-loop chart at n keys₀ i₀ keys i = Keyed chart n at (length keys₀) keys i
@@ -79,4 +73,3 @@ returns-3 c = (λ h. (all-named (c .before .before .before .before .before .args
 
 pub edge-keys-spec : {M : Type 1} → statement M
 edge-keys-spec = tie.close (tie.spec Inv-loop μ-loop loop-holds mul-p shared-slice-read-p add-get16 get16-requires add-get16-2 get16-requires-2 same-length returns same-length-2 returns-2 key-requires mul-keys slice-write-keys add-i loop-less loop-again same-length-3 returns-3)
-

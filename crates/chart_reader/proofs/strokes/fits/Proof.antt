@@ -2,14 +2,10 @@
 use mathlib.Core.Bool.{false≢true}
 use borrow.Author.Needs.{needs}
 use borrow.Author.Tests.{not-true, not-false}
+use Rattle.chart_reader.proofs.Meeting.{none-free, some-stands}
 use Rattle.chart_reader.proofs.Stroked.{free-ends, ends-free}
 use Rattle.chart_reader.proofs.strokes.fits.Statement.{statement}
 use Rattle.chart_reader.proofs.strokes.fits.Tie as tie
-use Rattle.chart_reader.proofs.strokes.fits.Reads as reads
-use Rattle.chart_reader.proofs.strokes.fits.Lts as lts
-use Rattle.chart_reader.proofs.question.bar_between.Reads as bar-between-reads
-use Rattle.chart_reader.proofs.strokes.joins.Reads as joins-reads
-use Rattle.chart_reader.proofs.strokes.stroke_ends.Reads as stroke-ends-reads
 
 joins-requires : tie.Need-joins-requires
 joins-requires c κs = search needs
@@ -24,8 +20,7 @@ bar-between-requires : tie.Need-bar-between-requires
 bar-between-requires c κs = search needs
 
 returns-2 : tie.Need-returns-2
-returns-2 c = (λ h. (c .before .before .before .joins .ensures .0 (not-false _ (c .before .before .if1 .left)), free-ends (c .before .stroke-ends .ensures) (c .bar-between .ensures .1 (not-true _ h))), λ h F. c .bar-between .ensures .0 (not-false _ h) (ends-free (c .before .stroke-ends .ensures) (F .1)))
+returns-2 c = (λ h. (c .before .before .before .joins .ensures .0 (not-false _ (c .before .before .if1 .left)), free-ends (c .before .stroke-ends .ensures) (none-free (c .before .before .before .before .before .args .chart .now) (c .before .before .before .before .before .args .n) (c .before .before .before .before .before .pre .1 .count) _ (c .bar-between .ensures .1 (not-true _ h)))), λ h F. some-stands (c .before .before .before .before .before .args .chart .now) (c .before .before .before .before .before .args .n) (c .before .before .before .before .before .pre .1 .count) _ (c .bar-between .ensures .0 (not-false _ h)) (ends-free (c .before .stroke-ends .ensures) (F .1)))
 
 pub fits-spec : {M : Type 1} → statement M
 fits-spec = tie.close (tie.spec joins-requires returns stroke-ends-requires bar-between-requires returns-2)
-

@@ -2,14 +2,9 @@
 use mathlib.Core.Bool.{false≢true}
 use borrow.Author.Needs.{needs}
 use borrow.Author.Tests.{eqb-true, eqb-false, not-true, not-false}
-use native.Mathlib.Omega.{arith}
 use Rattle.chart_reader.proofs.Stroked.{level-joins, joins-level, joins-rows, upright-joins, joins-spans}
 use Rattle.chart_reader.proofs.strokes.joins.Statement.{statement}
 use Rattle.chart_reader.proofs.strokes.joins.Tie as tie
-use Rattle.chart_reader.proofs.strokes.joins.Reads as reads
-use Rattle.chart_reader.proofs.strokes.joins.Lts as lts
-use Rattle.chart_reader.proofs.strokes.spans.Reads as spans-reads
-use Rattle.codec.proofs.get16.Reads as get16-reads
 
 add-get16 : tie.Need-add-get16
 add-get16 c = search needs
@@ -70,4 +65,3 @@ returns-4 c = (λ h. upright-joins (c .before .before .before .before .before .b
 
 pub joins-spec : {M : Type 1} → statement M
 joins-spec = tie.close (tie.spec add-get16 get16-requires mul-a add-a add-get16-2 get16-requires-2 mul-b add-b get16-requires-3 get16-requires-4 shared-slice-read-if1 returns returns-2 add-get16-3 get16-requires-5 spans-requires returns-3 spans-requires-2 returns-4)
-

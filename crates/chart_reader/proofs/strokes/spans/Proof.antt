@@ -5,9 +5,6 @@ use borrow.Author.Tests.{leb-true, leb-false}
 use native.Mathlib.Omega.{arith}
 use Rattle.chart_reader.proofs.strokes.spans.Statement.{statement}
 use Rattle.chart_reader.proofs.strokes.spans.Tie as tie
-use Rattle.chart_reader.proofs.strokes.spans.Reads as reads
-use Rattle.chart_reader.proofs.strokes.spans.Lts as lts
-use Rattle.codec.proofs.get16.Reads as get16-reads
 
 add-get16 : tie.Need-add-get16
 add-get16 c = search needs
@@ -29,4 +26,3 @@ returns-2 c = (λ h. omega (arith, c .before .before .get16 .ensures, c .get162 
 
 pub spans-spec : {M : Type 1} → statement M
 spans-spec = tie.close (tie.spec add-get16 get16-requires returns add-get16-2 get16-requires-2 returns-2)
-

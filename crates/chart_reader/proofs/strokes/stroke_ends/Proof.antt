@@ -1,15 +1,10 @@
 -- By the map byte; the laws are in Stroked.antt.
-use mathlib.Core.Path.{_≡_, refl, _∙_}
+use mathlib.Core.Path.{_∙_}
 use borrow.Author.Needs.{needs}
 use native.Mathlib.Omega.{arith}
 use Rattle.chart_reader.proofs.Stroked.{upright-ends, level-ends}
 use Rattle.chart_reader.proofs.strokes.stroke_ends.Statement.{statement}
 use Rattle.chart_reader.proofs.strokes.stroke_ends.Tie as tie
-use Rattle.chart_reader.proofs.strokes.stroke_ends.Reads as reads
-use Rattle.chart_reader.proofs.strokes.stroke_ends.Lts as lts
-use Rattle.chart_reader.proofs.strokes.higher.Reads as higher-reads
-use Rattle.chart_reader.proofs.strokes.lower.Reads as lower-reads
-use Rattle.codec.proofs.get16.Reads as get16-reads
 
 add-get16 : tie.Need-add-get16
 add-get16 c = search needs
@@ -88,4 +83,3 @@ returns-2 c = upright-ends (c .before .before .before .before .before .before .b
 
 pub stroke-ends-spec : {M : Type 1} → statement M
 stroke-ends-spec = tie.close (tie.spec add-get16 get16-requires mul-a add-a add-get16-2 get16-requires-2 mul-b add-b get16-requires-3 get16-requires-4 shared-slice-read-if1 add-get16-3 get16-requires-5 add-get16-4 get16-requires-6 lower-requires add-get16-5 get16-requires-7 add-get16-6 get16-requires-8 higher-requires returns add-get16-7 get16-requires-9 returns-2)
-

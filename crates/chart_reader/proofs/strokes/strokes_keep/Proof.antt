@@ -1,6 +1,6 @@
 -- Corners, order, bars.
 use mathlib.Core.Bool.{false≢true}
-use mathlib.Core.Path.{_≡_, sym, _∙_}
+use mathlib.Core.Path.{sym}
 use borrow.Author.Needs.{needs}
 use borrow.Author.Tests.{not-true, not-false}
 use native.Mathlib.Omega.{arith}
@@ -9,11 +9,6 @@ use lib.Seq.{length-take-le}
 use Rattle.chart_reader.proofs.Keyed.{keys-ascend, keys-not}
 use Rattle.chart_reader.proofs.strokes.strokes_keep.Statement.{statement}
 use Rattle.chart_reader.proofs.strokes.strokes_keep.Tie as tie
-use Rattle.chart_reader.proofs.strokes.strokes_keep.Reads as reads
-use Rattle.chart_reader.proofs.strokes.strokes_keep.Lts as lts
-use Rattle.chart_reader.proofs.strokes.all_fit.Reads as all-fit-reads
-use Rattle.chart_reader.proofs.strokes.edge_keys.Reads as edge-keys-reads
-use Rattle.keys.proofs.sort.ascends.Reads as ascends-reads
 
 edge-keys-requires : tie.Need-edge-keys-requires
 edge-keys-requires c κs = search needs
@@ -50,4 +45,3 @@ returns-3 c = (λ h. (((c .before .before .before .before .before .before .befor
 
 pub strokes-keep-spec : {M : Type 1} → statement M
 strokes-keep-spec = tie.close (tie.spec edge-keys-requires same-length returns slice-reshare-prefix-ascends slice-aggregate-ascends ascends-requires same-length-2 returns-2 all-fit-requires same-length-3 returns-3)
-

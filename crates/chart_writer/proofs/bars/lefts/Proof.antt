@@ -63,4 +63,3 @@ returns c = let e : c .before .loop .j ≡ 0 = omega arith in let L : Lefts (c .
 
 pub lefts-spec : {M : Type 1} → statement M
 lefts-spec = tie.close (tie.spec Inv-loop μ-loop loop-holds sub-j mul-k shared-slice-read-k cast-left low-requires mul-left slice-write-left cast-left-2 high-requires mul-left-2 slice-write-left-2 loop-less loop-again same-length returns)
-

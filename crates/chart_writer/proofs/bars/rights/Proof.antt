@@ -64,4 +64,3 @@ returns c = rw (take-all (c .before .loop .j) (c .before .before .before .before
 
 pub rights-spec : {M : Type 1} → statement M
 rights-spec = tie.close (tie.spec Inv-loop μ-loop loop-holds mul-k shared-slice-read-k cast-right low-requires mul-right slice-write-right cast-right-2 high-requires mul-right-2 slice-write-right-2 add-j loop-less loop-again same-length returns)
-

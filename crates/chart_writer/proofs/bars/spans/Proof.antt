@@ -40,4 +40,3 @@ returns c = spans-end (c .before .before .before .before .before .before .before
 
 pub spans-spec : {M : Type 1} → statement M
 spans-spec = tie.close (tie.spec lefts-requires rights-requires slice-write-left sub-right cast-right sub-right-2 mul-right slice-write-right same-length same-length-2 returns)
-

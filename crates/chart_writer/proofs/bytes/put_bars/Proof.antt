@@ -89,4 +89,3 @@ returns c = let e : c .before .loop .x ≡ c .before .before .before .before .be
 
 pub put-bars-spec : {M : Type 1} → statement M
 put-bars-spec = tie.close (tie.spec Inv-loop μ-loop loop-holds mul-put16 add-put16 mul-put16-2 shared-slice-read-put16 cast-put16 put16-requires mul-put16-3 add-put16-2 mul-put16-4 shared-slice-read-put16-2 cast-put16-2 put16-requires-2 mul-put16-5 add-put16-3 mul-put16-6 shared-slice-read-put16-3 cast-put16-3 put16-requires-3 add-x loop-less loop-again same-length returns)
-

@@ -30,4 +30,3 @@ returns c = c .before .before .put162 .ensures ∙ rw (c .before .before .before
 
 pub put-edge-spec : {M : Type 1} → statement M
 put-edge-spec = tie.close (tie.spec low-requires put16-requires add-put16 high-requires put16-requires-2 same-length returns)
-

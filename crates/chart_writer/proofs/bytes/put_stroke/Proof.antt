@@ -50,4 +50,3 @@ returns-2 c = (c .before .before .put16 .ensures ∙ rw (c .before .before .befo
 
 pub put-stroke-spec : {M : Type 1} → statement M
 put-stroke-spec = tie.close (tie.spec slice-write-out add-put-edge put-edge-requires add-result same-length returns slice-write-out-2 add-put-edge-2 put-edge-requires-2 add-put16 put16-requires add-result-2 same-length-2 returns-2)
-

@@ -51,4 +51,3 @@ returns c = let e : c .before .loop .i ≡ length (c .before .before .before .be
 
 pub put-strokes-spec : {M : Type 1} → statement M
 put-strokes-spec = tie.close (tie.spec Inv-loop μ-loop loop-holds mul-put-stroke shared-slice-read-put-stroke mul-put-stroke-2 shared-slice-read-put-stroke-2 put-stroke-requires add-i loop-less loop-again same-length returns)
-

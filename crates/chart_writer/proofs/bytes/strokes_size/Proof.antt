@@ -45,4 +45,3 @@ returns c = let e : c .before .loop .i ≡ c .before .before .args .m = omega ar
 
 pub strokes-size-spec : {M : Type 1} → statement M
 strokes-size-spec = tie.close (tie.spec Inv-loop μ-loop loop-holds mul-if1 shared-slice-read-if1 add-size add-size-2 add-i loop-less loop-again returns)
-

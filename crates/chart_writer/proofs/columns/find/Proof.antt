@@ -48,4 +48,3 @@ returns c = found (c .before .before .args .edges .now) (c .before .loop .lo) (c
 
 pub find-spec : {M : Type 1} → statement M
 find-spec = tie.close (tie.spec Inv-loop μ-loop loop-holds add-loop sub-mid add-mid mul-if1 shared-slice-read-if1 loop-less loop-again loop-less-2 loop-again-2 returns)
-

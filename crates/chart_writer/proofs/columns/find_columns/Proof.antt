@@ -27,4 +27,3 @@ returns c = search needs
 
 pub find-columns-spec : {M : Type 1} → statement M
 find-columns-spec = tie.close (tie.spec slice-aggregate-starts starts-requires slice-aggregate-place-columns place-columns-requires same-length returns)
-

@@ -76,4 +76,3 @@ returns c = let e : c .before .loop .j ≡ 0 = omega arith in rw e at (c .before
 
 pub place-columns-spec : {M : Type 1} → statement M
 place-columns-spec = tie.close (tie.spec Inv-loop μ-loop loop-holds sub-j mul-k shared-slice-read-k low-requires mul-find shared-slice-read-find cast-find add-find mul-find-2 shared-slice-read-find-2 cast-find-2 find-requires cast-columns mul-columns slice-write-columns loop-less loop-again same-length returns)
-

@@ -54,4 +54,3 @@ returns c = starting-end (c .before .before .before .before .args .edges .now) (
 
 pub starts-spec : {M : Type 1} → statement M
 starts-spec = tie.close (tie.spec Inv-loop μ-loop loop-holds mul-low shared-slice-read-low low-requires add-i cast-start add-start mul-start slice-write-start loop-less loop-again same-length returns)
-

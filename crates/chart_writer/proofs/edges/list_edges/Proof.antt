@@ -57,4 +57,3 @@ returns c = listed-all (c .before .before .before .before .before .before .befor
 
 pub list-edges-spec : {M : Type 1} → statement M
 list-edges-spec = tie.close (tie.spec sub-s sub-c cast-t9 slice-aggregate-merge slice-aggregate-merge-2 merge-requires slice-aggregate-list-sides list-sides-requires array-share-prefix-sides slice-aggregate-merge-3 array-share-prefix-chords slice-aggregate-merge-4 merge-requires-2 same-length returns)
-

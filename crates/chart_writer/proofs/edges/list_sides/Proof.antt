@@ -49,4 +49,3 @@ returns c = λ j h. c .before .loop .inv .2 j (omega arith)
 
 pub list-sides-spec : {M : Type 1} → statement M
 list-sides-spec = tie.close (tie.spec Inv-loop μ-loop loop-holds add-loop add-key key-requires mul-sides slice-write-sides add-i loop-less loop-again same-length returns)
-
