@@ -1,0 +1,33 @@
+-- The line fits, by the test.
+use borrow.Author.Needs.{needs}
+use mathlib.Core.Path.{sym}
+use native.Mathlib.Omega.{arith}
+use lib.Seq.{length-take-le}
+use Rattle.bend.proofs.Room.{room-kept}
+use Rattle.bend.proofs.print_line.Statement.{statement}
+use Rattle.bend.proofs.print_line.Tie as tie
+use Rattle.bend.proofs.print_line.Reads as reads
+use Rattle.bend.proofs.print_line.Lts as lts
+use Rattle.draw.proofs.line.line.Reads as line-reads
+use Rattle.io.proofs.write_all.Reads as write-all-reads
+
+line-requires : tie.Need-line-requires
+line-requires c κs = search needs
+
+array-share-prefix-text : tie.Need-array-share-prefix-text
+array-share-prefix-text c = omega (arith, room-kept (c .before .line .ensures))
+
+slice-aggregate-write-all : tie.Need-slice-aggregate-write-all
+slice-aggregate-write-all c = sym (length-take-le (c .before .before .line .result) (c .before .before .line .last .1 .0) (omega (arith, room-kept (c .before .before .line .ensures))))
+
+write-all-requires : tie.Need-write-all-requires
+write-all-requires c κs = search needs
+
+returns : tie.Need-returns
+returns c = search needs
+
+returns-2 : tie.Need-returns-2
+returns-2 c = search needs
+
+pub print-line-spec : {M : Type 1} → statement M
+print-line-spec = tie.close (tie.spec line-requires array-share-prefix-text slice-aggregate-write-all write-all-requires returns returns-2)
