@@ -1,34 +1,31 @@
 -- From the columns, rows and levels of the plan drawn to its chart.
-use mathlib.Core.Path.{_≡_, refl, ap, sym, _∙_}
+use mathlib.Core.Path.{_≡_, ap, sym, _∙_}
 use mathlib.Core.List.{List}
-use Prim.Native.Nat.{ℕ, suc, _+_, _*_, _-_, _≤_, _<_}
+use Prim.Native.Nat.{ℕ, _-_, _≤_, _<_}
 use native.Mathlib.Nat.{zero-add}
 use native.Mathlib.Omega.{arith}
 use lib.ListN.{length, take, getD}
 use lib.Seq.{getD-take}
 use Rattle.polygon.specs.Lists.{Mem, All}
-use Rattle.polygon.specs.Polygon.{Edge, Polygon, Triangulated}
+use Rattle.polygon.specs.Polygon.{Edge, Triangulated}
 use Rattle.polygon.specs.Order.{same?}
 use Rattle.polygon.specs.Tree.{Tree, span, treeOf}
 use Rattle.polygon.proofs.Lists.{all-of}
 use Rattle.polygon.proofs.TreeTheorem.{tree-of}
-use Rattle.codec.specs.Answer.{refusal, written, write}
 use Rattle.keys.specs.Keys.{edgesOf}
-use Rattle.sheet.specs.Sheet.{refused, held, readSheet}
-use Rattle.umbrella.specs.Plan.{Plan, levels, umbrellas, stems}
-use Rattle.umbrella.specs.Best.{best, planOf}
+use Rattle.umbrella.specs.Plan.{Plan, levels}
+use Rattle.umbrella.specs.Best.{best}
 use Rattle.umbrella.proofs.Occurs.{mem-occurs, occurs-mem}
 use Rattle.umbrella.proofs.Theorems.{umbrellas-bound}
 use Rattle.chart.specs.Places.{cols, rows}
 use Rattle.chart.specs.Edges.{edges}
-use Rattle.chart.specs.Chart.{layout, chart, chartOf}
+use Rattle.chart.specs.Chart.{layout, chart}
 use Rattle.chart.specs.Bytes.{bytesOf}
 use Rattle.chart.proofs.EachEdge.{each-drawn}
 use Rattle.chart.proofs.Width.{width}
 use Rattle.chart_writer.specs.Tables.{RowsAre}
 use Rattle.drawing.specs.Placed.{Placed}
 use Rattle.drawing.specs.declared.Size.{Size}
-use Rattle.draw.specs.Answer.{charted, drawn}
 
 -- each column's upright is an edge of the part
 cols-are-edges : {t : Tree} (p : Plan t) → All (λ e. Mem e (edges 0 t)) (cols p 0 (span t))
@@ -55,12 +52,3 @@ module _ (n : ℕ) (ds : List Edge) (T : Triangulated n ds) (h : 3 ≤ n) (colum
   pub placed-chart : bytesOf (layout (n - 1) (s .levels) (rows (best (treeOf n ds))) (edgesOf (take (s .columns) columns)) (edges 0 (treeOf n ds))) ≡ bytesOf (chart (best (treeOf n ds)))
   unfolding chart
   placed-chart = rw (P .uprights, P .height, last)
-
--- the answer of the operation
-pub drawn-refused : (s out : List ℕ) (k : ℕ) → readSheet s ≡ refused k → refusal k out ≡ written (drawn s) out
-unfolding drawn charted written
-drawn-refused s out k e = rw e
-
-pub drawn-held : (s out : List ℕ) (p : Polygon) → readSheet s ≡ held p → written (write (bytesOf (chart (best (treeOf (p .n) (p .ds)))))) out ≡ written (drawn s) out
-unfolding drawn charted chartOf
-drawn-held s out p e = rw e

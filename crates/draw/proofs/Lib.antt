@@ -1,3 +1,7 @@
 pub mod Lines
 pub mod Charting
 pub mod Size
+pub mod WithBars
+pub mod Answers
+pub mod LentAgain
+pub mod LentShared

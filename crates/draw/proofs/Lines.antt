@@ -1,10 +1,10 @@
 -- The line of a sheet, from what was read and planned.
-use mathlib.Core.Path.{_≡_, refl, ap, sym, _∙_}
+use mathlib.Core.Path.{_≡_, ap, sym, _∙_}
 use mathlib.Core.List.{List}
-use Prim.Native.Nat.{ℕ, suc, _+_, _*_, _-_, _≤_, _<_}
+use Prim.Native.Nat.{ℕ, _+_, _*_, _-_, _≤_, _<_}
 use native.Mathlib.Omega.{arith}
 use Rattle.polygon.specs.Lists.{All}
-use Rattle.polygon.specs.Polygon.{Polygon, Valid}
+use Rattle.polygon.specs.Polygon.{Valid}
 use Rattle.polygon.specs.Tree.{Tree, leaf, node, span, treeOf}
 use Rattle.polygon.proofs.TreeTheorem.{tree-of}
 use Rattle.sheet.specs.declared.Head.{Head}
@@ -20,8 +20,8 @@ use Rattle.plan.specs.declared.Planned.the-variants.{Counts, Refused}
 use Rattle.plan.specs.Answer as plan
 use Rattle.chart.specs.Chart.{chartOf}
 use Rattle.chart.proofs.Theorems.{chart-rows, chart-columns}
-use Rattle.log_line.specs.Line.{Facts, line, refusedLine}
-use Rattle.draw.specs.Printed.{factsOf, printedOf, printed}
+use Rattle.log_line.specs.Line.{line, refusedLine}
+use Rattle.draw.specs.Printed.{printedOf, printed}
 use Rattle.draw.specs.Told.{told}
 
 pub refused-line : (s : List ℕ) (k : ℕ) → readSheet s ≡ refused k → refusedLine k ≡ printed s

@@ -5,14 +5,13 @@ use mathlib.Core.List.{List, [], _∷_, flatMap}
 use Prim.Native.Nat.{ℕ, _+_, _*_, _≤_}
 use native.Mathlib.Omega.{arith}
 use lib.ListN.{length, length-append}
-use Rattle.polygon.specs.Polygon.{Polygon}
 use Rattle.polygon.proofs.TreeTheorem.{tree-of}
-use Rattle.codec.specs.Answer.{refuse, write, written}
+use Rattle.codec.specs.Answer.{written}
 use Rattle.sheet.specs.Sheet.{Reading, refused, held, readSheet}
 use Rattle.sheet.proofs.Size.{read-counted, written-size}
 use Rattle.plan.proofs.Answers.{held-triangulated}
 use Rattle.umbrella.specs.Best.{planOf}
-use Rattle.chart.specs.Chart.{Stroke, upright, level, Chart, barsOf, chart, chartOf}
+use Rattle.chart.specs.Chart.{Stroke, upright, level, Chart, barsOf, chartOf}
 use Rattle.chart.specs.Bytes.{barBytes, strokeBytes, bytesOf}
 use Rattle.chart.proofs.Charts.{chart-size, chart-strokes}
 use Rattle.chart_writer.proofs.Runs.{bars-size}

@@ -1,7 +1,7 @@
 -- Document 01, "Operations and their refusals": Draw gives the chart's bytes, their length, and the bars. "1 to 7; 8: either output too short."
 use mathlib.Core.Logic.{Dec·and}
 use mathlib.Core.List.{List, _++_}
-use Prim.Native.Nat.{ℕ, _≤_}
+use Prim.Native.Nat.{ℕ}
 use native.Mathlib.Decide.{decLe}
 use lib.ListN.{length, drop}
 use Rattle.codec.specs.Answer.{Outcome, refuse, write, Answer, refusal}

@@ -1,3 +1,4 @@
 pub mod Answer
+pub mod WithBars
 pub mod Printed
 pub mod Told

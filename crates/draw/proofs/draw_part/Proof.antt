@@ -1,10 +1,9 @@
 -- By the laws of Charting.antt, of what was placed.
 use borrow.Author.Needs.{needs}
-use mathlib.Core.Path.{_≡_, ap, sym, _∙_}
+use mathlib.Core.Path.{ap, sym, _∙_}
 use mathlib.Core.List.{List}
 use Prim.Native.Nat.{ℕ}
 use native.Mathlib.Omega.{arith}
-use lib.ListN.{length, take}
 use lib.Seq.{length-take-le}
 use Rattle.keys.specs.Keys.{edgesOf}
 use Rattle.codec.specs.Answer.{written, write}
@@ -14,10 +13,6 @@ use Rattle.chart.specs.Places.{rows}
 use Rattle.draw.proofs.Charting.{uprights-are-edges, placed-sizes, rows-are, placed-chart}
 use Rattle.draw.proofs.draw_part.Statement.{statement}
 use Rattle.draw.proofs.draw_part.Tie as tie
-use Rattle.draw.proofs.draw_part.Reads as reads
-use Rattle.draw.proofs.draw_part.Lts as lts
-use Rattle.chart_writer.proofs.write_chart.Reads as write-chart-reads
-use Rattle.drawing.proofs.place_part.Reads as place-part-reads
 
 place-part-requires : tie.Need-place-part-requires
 place-part-requires c κs = search needs
