@@ -2,7 +2,7 @@
 //! Follows "The chart's places" of document 01, and "Draw" under "Operations
 //! and their refusals".
 
-use crate::answer::Written;
+use crate::answer::{Refusal, Written};
 use crate::chart::{Bar, Chart, Stroke};
 use crate::neighbours::Neighbours;
 use crate::part::{lower_first, Corner, Part};
@@ -233,4 +233,16 @@ pub fn chart_of(part: &Part) -> Chart {
 /// Draw: a sheet to its chart's bytes.
 pub fn draw_sheet(sheet: &[u8], out: &mut [u8]) -> Written {
     chart_of(&sheet::read(sheet)?).write(out)
+}
+
+/// Draw with the bar list: the chart's bytes, and its bars from the start of
+/// the list. If either is too short, neither is written.
+pub fn draw_with_bars(sheet: &[u8], out: &mut [u8], bars: &mut [Bar]) -> Written {
+    let chart = chart_of(&sheet::read(sheet)?);
+    let first = bars
+        .get_mut(..chart.bars.len())
+        .ok_or(Refusal::OutputShort)?;
+    let length = chart.write(out)?;
+    first.copy_from_slice(&chart.bars);
+    Ok(length)
 }

@@ -16,8 +16,8 @@ use Rattle.plan.proofs.Answers.{held-triangulated}
 use Rattle.umbrella.specs.Best.{best}
 use Rattle.chart.specs.Chart.{layout, chart, chartOf}
 use Rattle.chart.specs.Bytes.{bytesOf}
-use Rattle.bars.specs.declared.Bar.{Bar}
-use Rattle.bars.specs.OfChart.{barOf}
+use Rattle.bar_list.specs.declared.Bar.{Bar}
+use Rattle.bar_list.specs.OfChart.{barOf}
 use Rattle.draw.specs.declared.Drawn.{Drawn}
 use Rattle.draw.specs.declared.Drawn.the-variants.{Chart, Refused}
 use Rattle.draw.specs.Answer.{charted, drawn, intoBoth, drawnBoth, drawnWithBars}

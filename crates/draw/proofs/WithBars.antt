@@ -1,5 +1,5 @@
 -- A chart drawn into both outputs: the answer of the code, its bytes and its records, is the one of specs/Answer.antt.
--- Rests on the records that are filled from a chart's bytes (crate bars, proofs/OfChart.antt).
+-- Rests on the records that are filled from a chart's bytes (crate bar_list, proofs/OfChart.antt).
 use mathlib.Core.Path.{_≡_, refl, ap, sym, _∙_}
 use mathlib.Core.Logic.{Dec·and}
 use mathlib.Core.List.{List, [], _∷_, _++_, map, flatMap, map-append}
@@ -13,10 +13,10 @@ use Rattle.chart.specs.Chart as chart
 use Rattle.chart.specs.Chart.{barsOf}
 use Rattle.chart.specs.Bytes.{barBytes, strokeBytes, bytesOf}
 use Rattle.chart_writer.proofs.Runs.{bars-size}
-use Rattle.bars.specs.declared.Bar.{Bar}
-use Rattle.bars.specs.Bars.{filled}
-use Rattle.bars.specs.OfChart.{recordOf, barOf}
-use Rattle.bars.proofs.OfChart.{bars-of-chart, chart-bars}
+use Rattle.bar_list.specs.declared.Bar.{Bar}
+use Rattle.bar_list.specs.Bars.{filled}
+use Rattle.bar_list.specs.OfChart.{recordOf, barOf}
+use Rattle.bar_list.proofs.OfChart.{bars-of-chart, chart-bars}
 use Rattle.draw.specs.declared.Drawn.the-variants.{Chart}
 use Rattle.draw.specs.Answer.{noDrawing, fitBoth, intoBoth}
 use Rattle.draw.specs.WithBars.{drawing}

@@ -44,25 +44,25 @@ use denote.Triple.Spec.{Meets, tripleOf}
 use denote.Triple.Table.{entered, cited}
 use denote.Triple.Walked.{says, Stays, stay-none-slice, stay-slice, gave-slice, walkOf, goes-none-slice, goes-slice, goes-gave-slice, Walks, ends-at, walked, walk-meets}
 use denote.Exit.{yes}
-use Rattle.bars.specs.declared.Bar.{Bar}
+use Rattle.bar_list.specs.declared.Bar.{Bar}
 use Rattle.draw.specs.declared.Drawn.{Drawn}
 use Rattle.draw.specs.declared.Drawn.the-variants.{Chart, Refused}
-use Rattle.bars.specs.Bars.{filled}
-use Rattle.bars.specs.OfChart.{barOf}
+use Rattle.bar_list.specs.Bars.{filled}
+use Rattle.bar_list.specs.OfChart.{barOf}
 use Rattle.draw.specs.Answer.{drawnWithBars}
 use Rattle.draw.specs.WithBars.{drawing, filledBy, Fits}
-use Rattle.bars.proofs.Filled.{filled-len}
-use Rattle.bars.proofs.Bar as T
+use Rattle.bar_list.proofs.Filled.{filled-len}
+use Rattle.bar_list.proofs.Bar as T
 use Rattle.draw.proofs.Drawn as D
 use Rattle.draw.proofs.Drawn.Laws as D′
 use Rattle.draw.proofs.draw_for as draw-for
 use Rattle.draw.proofs.draw_for.Symbol as draw-for-def
 use Rattle.draw.proofs.draw_for.Symbol.{name as #draw·draw-for}
 use Rattle.draw.proofs.draw_for.Met as draw-for-thm
-use Rattle.bars.proofs.fill_bars as fill-bars
-use Rattle.bars.proofs.fill_bars.Symbol as fill-bars-def
-use Rattle.bars.proofs.fill_bars.Symbol.{name as #bars·fill-bars}
-use Rattle.bars.proofs.fill_bars.Met as fill-bars-thm
+use Rattle.bar_list.proofs.fill_bars as fill-bars
+use Rattle.bar_list.proofs.fill_bars.Symbol as fill-bars-def
+use Rattle.bar_list.proofs.fill_bars.Symbol.{name as #bar-list·fill-bars}
+use Rattle.bar_list.proofs.fill_bars.Met as fill-bars-thm
 use Rattle.draw.proofs.LentAgain.{LentAgain, lends-again, comes-back}
 use Rattle.draw.proofs.LentShared.{LentShared, lends-shared, shared-back}
 use Rattle.draw.proofs.draw_with_bars.Key.{name as #draw·draw-with-bars}
@@ -201,7 +201,7 @@ module _ {M : Type 1} (𝓤 : URA M) (H : Heap 𝓤) (A : Atoms 𝓤) (W : Given
       qed W (‵ (flft (ν ∷ []) fullShare) ∷ ‵ (flft κ₂ q₂) ∷ (‵ (OutShr (ν ∷ []) δ zs os) ⊛ ‵ BarsOwn) ∷ []) ∵ says ! enough $ nothing ! $ move ! (2 ∷ 0 ∷ []) $ join ! $ move ! (1 ∷ 0 ∷ []) $ join ! $ frame ! $ split ! $
       nothing ! $ move ! (2 ∷ 0 ∷ []) $ fjoin ! $ owned ! usize (Is usize) (uint-makes 𝓤 H A W w64) n _ (refl, fits) $ fjoin ! $ move ! (1 ∷ 0 ∷ []) $ fjoin ! $ done !
 
-  module _ (C : Calls 𝓤 H) (Λ : Loops 𝓤 H) (fm : FmC 𝓤 H (W .laws) C) (known-draw : Triple 𝓤 (C #draw·draw-for) (DrawFor 𝓤 H A mem run)) (known-fill : Triple 𝓤 (C #bars·fill-bars) (FillBars 𝓤 H A mem run)) where
+  module _ (C : Calls 𝓤 H) (Λ : Loops 𝓤 H) (fm : FmC 𝓤 H (W .laws) C) (known-draw : Triple 𝓤 (C #draw·draw-for) (DrawFor 𝓤 H A mem run)) (known-fill : Triple 𝓤 (C #bar-list·fill-bars) (FillBars 𝓤 H A mem run)) where
     module _ (l₀ l₁ l₂ l₃ l₄ l₅ l₆ l₇ l₈ l₉ l₁₀ l₁₁ l₁₂ l₁₃ : ℕ) where
       abbrev E : Env 𝓤 H
       E = (D′.mir, l₀) ∷ (Sheet, l₁) ∷ (Out, l₂) ∷ (Bars, l₃) ∷ (word, l₄) ∷ (D′.mir, l₅) ∷ (word, l₆) ∷ (ByteRef, l₇) ∷ (sliceTy ByteRef, l₈) ∷ (tyUnit, l₉) ∷ (ByteShr, l₁₀) ∷ (sliceTy ByteShr, l₁₁) ∷ (BarRef, l₁₂) ∷ (sliceTy BarRef, l₁₃) ∷ []
@@ -321,7 +321,7 @@ module _ {M : Type 1} (𝓤 : URA M) (H : Heap 𝓤) (A : Atoms 𝓤) (W : Given
         first ! $ matched l₀ l₁ l₂ l₃ l₄ l₅ l₆ l₇ l₈ l₉ l₁₀ l₁₁ l₁₂ l₁₃ d (ws .1 .0) (e₀, e₁, l, subst (Is D.the-row d) (EL.tells D.the-type D′.the-laws d _ is) is))))))))))))))))))))))))
 
 module _ {M : Type 1} (𝓤 : URA M) (H : Heap 𝓤) (A : Atoms 𝓤) (W : Given 𝓤 H A) (mem : Memory → SProp 𝓤) (run : Routine → Fun 𝓤) where
-  draw-with-bars-walks : (C : Calls 𝓤 H) (Λ : Loops 𝓤 H) → FmC 𝓤 H (W .laws) C → Triple 𝓤 (C #draw·draw-for) (DrawFor 𝓤 H A mem run) → Triple 𝓤 (C #bars·fill-bars) (FillBars 𝓤 H A mem run)
+  draw-with-bars-walks : (C : Calls 𝓤 H) (Λ : Loops 𝓤 H) → FmC 𝓤 H (W .laws) C → Triple 𝓤 (C #draw·draw-for) (DrawFor 𝓤 H A mem run) → Triple 𝓤 (C #bar-list·fill-bars) (FillBars 𝓤 H A mem run)
       → Walks 𝓤 H A draw-with-bars.ended stayed (WpFn 𝓤 H C Λ code.function) (draw-with-bars.clauses 𝓤 H A mem run)
   draw-with-bars-walks C Λ fm known-draw known-fill = walked 𝓤 H A draw-with-bars.ended stayed (draw-with-bars.clauses 𝓤 H A mem run) (WpFn 𝓤 H C Λ code.function)
       (λ κs. (slice-vals, (slice-vals, (slice-vals, tt)))) (λ κs. (shr-slice-tells (named 0) (κs .0) u8, (mut-slice-tells (named 1) (κs .1 .0) u8, (mut-slice-tells (named 2) (κs .1 .1 .0) T.the-row, tt))))
@@ -329,7 +329,7 @@ module _ {M : Type 1} (𝓤 : URA M) (H : Heap 𝓤) (A : Atoms 𝓤) (W : Given
       (walk 𝓤 H A W mem run (κs .0) (κs .1 .0) (κs .1 .1 .0) bounds (qs .0) (qs .1 .0) (qs .1 .1 .0) (a .0) (a .1 .0 .ptr .0) (a .1 .0 .ptr .1) (a .1 .0 .name) (a .1 .0 .now) (a .1 .1 .0 .ptr .0) (a .1 .1 .0 .ptr .1) (a .1 .1 .0 .name) (a .1 .1 .0 .now) (are .0 .0 .1) (are .1 .0 .0 .1) (are .1 .1 .0 .0 .1) C Λ fm known-draw known-fill))
 
 draw-with-bars-meets : {M : Type 1} (𝓤 : URA M) (H : Heap 𝓤) (A : Atoms 𝓤) → Given 𝓤 H A → (mem : Memory → SProp 𝓤) (run : Routine → Fun 𝓤) (𝓣 : Tables 𝓤 H)
-    → Triple 𝓤 (𝓣 .C #draw·draw-for) (DrawFor 𝓤 H A mem run) → Triple 𝓤 (𝓣 .C #bars·fill-bars) (FillBars 𝓤 H A mem run) → Meets 𝓤 H A draw-with-bars.signature (WpFn 𝓤 H (𝓣 .C) (𝓣 .Λ) code.function) (draw-with-bars.spec 𝓤 H A mem run)
+    → Triple 𝓤 (𝓣 .C #draw·draw-for) (DrawFor 𝓤 H A mem run) → Triple 𝓤 (𝓣 .C #bar-list·fill-bars) (FillBars 𝓤 H A mem run) → Meets 𝓤 H A draw-with-bars.signature (WpFn 𝓤 H (𝓣 .C) (𝓣 .Λ) code.function) (draw-with-bars.spec 𝓤 H A mem run)
 draw-with-bars-meets 𝓤 H A W mem run 𝓣 known-draw known-fill =
     walk-meets 𝓤 H A draw-with-bars.ended stayed W (goes-none-slice 𝓤 H A W 3 (0 ∷ []) tt (plain (λ _. u8)) yes, (goes-slice 𝓤 H A W 3 1 tt (plain (λ _. u8)), (goes-gave-slice 𝓤 H A W 3 2 tt (plain (λ _. T.the-row)), tt))) (draw-with-bars.clauses 𝓤 H A mem run)
     (WpFn 𝓤 H (𝓣 .C) (𝓣 .Λ) code.function) (WpFn-mono 𝓤 H (W .laws) 𝓣 code.function) (draw-with-bars-walks 𝓤 H A W mem run (𝓣 .C) (𝓣 .Λ) (fmOf 𝓤 H (W .laws) 𝓣) known-draw known-fill)
@@ -341,4 +341,4 @@ draw-with-bars-spec 𝓤 H 𝓜 𝓖 𝓡 =
     (tables 𝓤 H 𝓜 𝓡 code.env .C) (tables 𝓤 H 𝓜 𝓡 code.env .Λ) #draw·draw-with-bars code.function (code.unfolded 𝓤 H 𝓜 𝓡)
     (draw-with-bars-meets 𝓤 H (𝓖 .A) (givenOf 𝓤 H 𝓜 𝓖) (𝓜 .mem) (𝓡 .run) (tablesOf 𝓤 H 𝓜 (tables 𝓤 H 𝓜 𝓡 code.env))
     (cited 𝓤 H (DrawFor 𝓤 H (𝓖 .A) (𝓜 .mem) (𝓡 .run)) 𝓜 𝓡 code.env #draw·draw-for draw-for-def.routine code.calls-draw·draw-for (draw-for-thm.met 𝓤 H 𝓜 𝓖 𝓡))
-    (cited 𝓤 H (FillBars 𝓤 H (𝓖 .A) (𝓜 .mem) (𝓡 .run)) 𝓜 𝓡 code.env #bars·fill-bars fill-bars-def.routine code.calls-bars·fill-bars (fill-bars-thm.met 𝓤 H 𝓜 𝓖 𝓡)))
+    (cited 𝓤 H (FillBars 𝓤 H (𝓖 .A) (𝓜 .mem) (𝓡 .run)) 𝓜 𝓡 code.env #bar-list·fill-bars fill-bars-def.routine code.calls-bar-list·fill-bars (fill-bars-thm.met 𝓤 H 𝓜 𝓖 𝓡)))

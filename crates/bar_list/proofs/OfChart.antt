@@ -10,9 +10,9 @@ use Rattle.codec.specs.Numbers.{bytes16, get16}
 use Rattle.sheet.proofs.Bytes.{get16-after, get16-back}
 use Rattle.chart.specs.Chart.{Chart, barsOf, Bar}
 use Rattle.chart.specs.Bytes.{barBytes, strokeBytes, bytesOf}
-use Rattle.bars.specs.declared.Bar.{Bar as Record}
-use Rattle.bars.specs.Bars.{barAt, barsFrom, filled}
-use Rattle.bars.specs.OfChart.{recordOf}
+use Rattle.bar_list.specs.declared.Bar.{Bar as Record}
+use Rattle.bar_list.specs.Bars.{barAt, barsFrom, filled}
+use Rattle.bar_list.specs.OfChart.{recordOf}
 
 -- a bar's bytes behind a prefix
 bar-behind : (p q : List ℕ) (b : Bar) (i : ℕ) → length p ≡ 6 + 6 * i → barAt (p ++ (barBytes b ++ q)) i ≡ recordOf b

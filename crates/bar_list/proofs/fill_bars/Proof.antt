@@ -48,20 +48,20 @@ use denote.Triple.Spec.{Meets, tripleOf}
 use denote.Triple.Table.{entered, cited}
 use denote.Triple.Walked.{says, needs, Stays, stay-none, stay-none-slice, stay-slice, walkOf, goes-none, goes-none-slice, goes-slice, Walks, ends-at, walked, walk-meets}
 use denote.Exit.{yes}
-use Rattle.bars.specs.declared.Bar.{Bar}
-use Rattle.bars.specs.Bars.{barAt, filled}
-use Rattle.bars.proofs.Filled.{filled-len, filled-more}
-use Rattle.bars.proofs.Bar as T
-use Rattle.bars.proofs.Bar.Laws as T′
-use Rattle.bars.proofs.bar_at as bar-at
-use Rattle.bars.proofs.bar_at.Symbol as bar-at-def
-use Rattle.bars.proofs.bar_at.Symbol.{name as #bars·bar-at}
-use Rattle.bars.proofs.bar_at.Met as bar-at-thm
-use Rattle.bars.proofs.fill_bars.Key.{name as #bars·fill-bars}
-use Rattle.bars.proofs.fill_bars as fill-bars
-use Rattle.bars.proofs.fill_bars.Statement as stated
-use Rattle.bars.proofs.fill_bars.Code as code
-use Rattle.bars.proofs.fill_bars.Code.Mir as parts
+use Rattle.bar_list.specs.declared.Bar.{Bar}
+use Rattle.bar_list.specs.Bars.{barAt, filled}
+use Rattle.bar_list.proofs.Filled.{filled-len, filled-more}
+use Rattle.bar_list.proofs.Bar as T
+use Rattle.bar_list.proofs.Bar.Laws as T′
+use Rattle.bar_list.proofs.bar_at as bar-at
+use Rattle.bar_list.proofs.bar_at.Symbol as bar-at-def
+use Rattle.bar_list.proofs.bar_at.Symbol.{name as #bar-list·bar-at}
+use Rattle.bar_list.proofs.bar_at.Met as bar-at-thm
+use Rattle.bar_list.proofs.fill_bars.Key.{name as #bar-list·fill-bars}
+use Rattle.bar_list.proofs.fill_bars as fill-bars
+use Rattle.bar_list.proofs.fill_bars.Statement as stated
+use Rattle.bar_list.proofs.fill_bars.Code as code
+use Rattle.bar_list.proofs.fill_bars.Code.Mir as parts
 
 -- ---- truth values
 holds : (t : Bool) → Holds t → t ≡ true
@@ -159,7 +159,7 @@ module _ {M : Type 1} (𝓤 : URA M) (H : Heap 𝓤) (A : Atoms 𝓤) (W : Given
   next-fits : (i : ℕ) → i < n → i + 1 < 2 ^ 64
   next-fits i small = omega (arith, small, n-fits)
 
-  module _ (𝓣 : Tables 𝓤 H) (fm : FmC 𝓤 H (W .laws) (𝓣 .C)) (known : Triple 𝓤 (𝓣 .C #bars·bar-at) (BarAt 𝓤 H A mem run)) where
+  module _ (𝓣 : Tables 𝓤 H) (fm : FmC 𝓤 H (W .laws) (𝓣 .C)) (known : Triple 𝓤 (𝓣 .C #bar-list·bar-at) (BarAt 𝓤 H A mem run)) where
     module _ (l₀ l₁ l₂ l₃ l₄ l₅ l₆ l₇ l₈ : ℕ) where
       abbrev En : Env 𝓤 H
       En = (tyUnit, l₀) ∷ (Chart, l₁) ∷ (word, l₂) ∷ (Bars, l₃) ∷ (word, l₄) ∷ (tyBool, l₅) ∷ (T′.mir, l₆) ∷ (word, l₇) ∷ (tyPtr, l₈) ∷ []
@@ -263,14 +263,14 @@ module _ {M : Type 1} (𝓤 : URA M) (H : Heap 𝓤) (A : Atoms 𝓤) (W : Given
         keep ! (0 ∷ 15 ∷ 13 ∷ 11 ∷ 9 ∷ 7 ∷ 6 ∷ 4 ∷ 21 ∷ 19 ∷ 17 ∷ 23 ∷ 1 ∷ 2 ∷ 3 ∷ 24 ∷ 22 ∷ 20 ∷ 18 ∷ 16 ∷ 14 ∷ 12 ∷ 10 ∷ 8 ∷ []) $ by ! (loops l₀ l₁ l₂ l₃ l₄ l₅ l₆ l₇ l₈))))))))))
 
 module _ {M : Type 1} (𝓤 : URA M) (H : Heap 𝓤) (A : Atoms 𝓤) (W : Given 𝓤 H A) (mem : Memory → SProp 𝓤) (run : Routine → Fun 𝓤) where
-  fill-bars-walks : (𝓣 : Tables 𝓤 H) → FmC 𝓤 H (W .laws) (𝓣 .C) → Triple 𝓤 (𝓣 .C #bars·bar-at) (BarAt 𝓤 H A mem run) → Walks 𝓤 H A fill-bars.ended stayed (WpFn 𝓤 H (𝓣 .C) (𝓣 .Λ) code.function) (fill-bars.clauses 𝓤 H A mem run)
+  fill-bars-walks : (𝓣 : Tables 𝓤 H) → FmC 𝓤 H (W .laws) (𝓣 .C) → Triple 𝓤 (𝓣 .C #bar-list·bar-at) (BarAt 𝓤 H A mem run) → Walks 𝓤 H A fill-bars.ended stayed (WpFn 𝓤 H (𝓣 .C) (𝓣 .Λ) code.function) (fill-bars.clauses 𝓤 H A mem run)
   fill-bars-walks 𝓣 fm known = walked 𝓤 H A fill-bars.ended stayed (fill-bars.clauses 𝓤 H A mem run) (WpFn 𝓤 H (𝓣 .C) (𝓣 .Λ) code.function)
       (λ κs. (slice-vals, (uint-vals w64, (slice-vals, tt)))) (λ κs. (shr-slice-tells (named 0) (κs .0) u8, (uint-tells w64, (mut-slice-tells (named 1) (κs .1 .0) T.the-row, tt))))
       (λ κs qs bounds a g are. needs 𝓤 ((a .1 .0 ≤ length (a .1 .1 .0 .now)) × (6 + 6 * (a .1 .0) ≤ length (a .0 .now))) _ (λ enough.
       walk 𝓤 H A W mem run (κs .0) (κs .1 .0) bounds (qs .0) (qs .1 .0) (a .0) (a .1 .0) (a .1 .1 .0 .ptr .0) (a .1 .1 .0 .ptr .1) (a .1 .1 .0 .name) (a .1 .1 .0 .now) (are .1 .0 .1) (are .0 .0 .1) (are .1 .1 .0 .0 .1) enough 𝓣 fm known))
 
 fill-bars-meets : {M : Type 1} (𝓤 : URA M) (H : Heap 𝓤) (A : Atoms 𝓤) → Given 𝓤 H A → (mem : Memory → SProp 𝓤) (run : Routine → Fun 𝓤) (𝓣 : Tables 𝓤 H)
-    → Triple 𝓤 (𝓣 .C #bars·bar-at) (BarAt 𝓤 H A mem run) → Meets 𝓤 H A fill-bars.signature (WpFn 𝓤 H (𝓣 .C) (𝓣 .Λ) code.function) (fill-bars.spec 𝓤 H A mem run)
+    → Triple 𝓤 (𝓣 .C #bar-list·bar-at) (BarAt 𝓤 H A mem run) → Meets 𝓤 H A fill-bars.signature (WpFn 𝓤 H (𝓣 .C) (𝓣 .Λ) code.function) (fill-bars.spec 𝓤 H A mem run)
 fill-bars-meets 𝓤 H A W mem run 𝓣 known =
     walk-meets 𝓤 H A fill-bars.ended stayed W (goes-none-slice 𝓤 H A W 2 (0 ∷ []) tt (plain (λ _. u8)) yes, (goes-none 𝓤 H A W 2 (λ _. usize) yes (λ κs x f. refl), (goes-slice 𝓤 H A W 2 1 tt (plain (λ _. T.the-row)), tt))) (fill-bars.clauses 𝓤 H A mem run)
     (WpFn 𝓤 H (𝓣 .C) (𝓣 .Λ) code.function) (WpFn-mono 𝓤 H (W .laws) 𝓣 code.function) (fill-bars-walks 𝓤 H A W mem run 𝓣 (fmOf 𝓤 H (W .laws) 𝓣) known)
@@ -279,6 +279,6 @@ pub fill-bars-spec : {M : Type 1} → stated.statement M
 unfolding code.routine tablesOf
 fill-bars-spec 𝓤 H 𝓜 𝓖 𝓡 =
     entered 𝓤 H (tripleOf 𝓤 H (𝓖 .A) fill-bars.signature (fill-bars.spec 𝓤 H (𝓖 .A) (𝓜 .mem) (𝓡 .run)))
-    (tables 𝓤 H 𝓜 𝓡 code.env .C) (tables 𝓤 H 𝓜 𝓡 code.env .Λ) #bars·fill-bars code.function (code.unfolded 𝓤 H 𝓜 𝓡)
+    (tables 𝓤 H 𝓜 𝓡 code.env .C) (tables 𝓤 H 𝓜 𝓡 code.env .Λ) #bar-list·fill-bars code.function (code.unfolded 𝓤 H 𝓜 𝓡)
     (fill-bars-meets 𝓤 H (𝓖 .A) (givenOf 𝓤 H 𝓜 𝓖) (𝓜 .mem) (𝓡 .run) (tablesOf 𝓤 H 𝓜 (tables 𝓤 H 𝓜 𝓡 code.env))
-    (cited 𝓤 H (BarAt 𝓤 H (𝓖 .A) (𝓜 .mem) (𝓡 .run)) 𝓜 𝓡 code.env #bars·bar-at bar-at-def.routine code.calls-bars·bar-at (bar-at-thm.met 𝓤 H 𝓜 𝓖 𝓡)))
+    (cited 𝓤 H (BarAt 𝓤 H (𝓖 .A) (𝓜 .mem) (𝓡 .run)) 𝓜 𝓡 code.env #bar-list·bar-at bar-at-def.routine code.calls-bar-list·bar-at (bar-at-thm.met 𝓤 H 𝓜 𝓖 𝓡)))

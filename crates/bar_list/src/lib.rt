@@ -2,7 +2,7 @@
 ghost use mathlib.Core.Path.{_≡_};
 ghost use Prim.Native.Nat.{_+_, _*_, _≤_};
 ghost use lib.ListN.{length};
-ghost use Rattle.bars.specs.Bars.{barAt, filled};
+ghost use Rattle.bar_list.specs.Bars.{barAt, filled};
 use codec::get16;
 
 // The bar of a corner: its row, its first and its last column.

@@ -6,8 +6,8 @@ use native.Mathlib.Numerals.{add-one}
 use native.Mathlib.Omega.{arith}
 use mathlib.Core.List.{List, [], _∷_, _++_}
 use lib.ListN.{length, set, drop, length-append, length-drop}
-use Rattle.bars.specs.declared.Bar.{Bar}
-use Rattle.bars.specs.Bars.{barAt, barsFrom, filled}
+use Rattle.bar_list.specs.declared.Bar.{Bar}
+use Rattle.bar_list.specs.Bars.{barAt, barsFrom, filled}
 
 from-len : (s : List ℕ) (k n : ℕ) → length (barsFrom s k n) ≡ n
 from-len s k zero = refl

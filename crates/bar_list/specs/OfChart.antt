@@ -1,6 +1,6 @@
 -- The record of a bar of a chart, and the bar of a record.
 use Rattle.chart.specs.Chart as chart
-use Rattle.bars.specs.declared.Bar.{Bar}
+use Rattle.bar_list.specs.declared.Bar.{Bar}
 
 abbrev pub recordOf : chart.Bar → Bar
 recordOf b = record { row = b .row; left = b .left; right = b .right }

@@ -3,7 +3,7 @@ use mathlib.Core.List.{List, [], _∷_, _++_}
 use Prim.Native.Nat.{ℕ, zero, suc, _+_, _*_}
 use lib.ListN.{drop}
 use Rattle.codec.specs.Numbers.{get16}
-use Rattle.bars.specs.declared.Bar.{Bar}
+use Rattle.bar_list.specs.declared.Bar.{Bar}
 
 abbrev pub barAt : List ℕ → ℕ → Bar
 barAt s i = record { row = get16 s (6 + 6 * i); left = get16 s (6 + 6 * i + 2); right = get16 s (6 + 6 * i + 4) }

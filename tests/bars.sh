@@ -1,0 +1,68 @@
+#!/usr/bin/env bash
+# Runs Draw with the bar list, which is no export for C, against the model: a program that calls it is tried on the interpreter, compiled
+# without optimisation and with it, and with the compiler's assumptions checked. The calls and their answers are those of src/bin/bar_cases.rs.
+# The last line is 'N passed, M failed'.
+set -u
+root=$(cd "$(dirname "$0")/.." && pwd)
+work=$(mktemp -d)
+trap 'rm -rf "$work"' EXIT
+
+cp -r "$root/crates" "$root/crates.txt" "$work"
+echo "bars_run: $(sed -n 's/^draw: //p' "$root/crates.txt") draw io libc" >>"$work/crates.txt"
+mkdir -p "$work/crates/bars_run/src"
+cat >"$work/crates/bars_run/src/main.rt" <<'END'
+use bar_list::Bar;
+use codec::get16;
+use codec::put16;
+use draw::Drawn;
+use draw::draw_with_bars;
+use libc::STDOUT_FILENO;
+
+fn write_bar(bar: Bar) {
+    let mut bytes = [0u8; 6];
+    put16(&mut bytes, 0, bar.row as usize);
+    put16(&mut bytes, 2, bar.left as usize);
+    put16(&mut bytes, 4, bar.right as usize);
+    io::write_all(STDOUT_FILENO, &bytes);
+}
+
+fn call(sheet: &[u8], lent: usize, room: usize) {
+    let mut out = [238u8; 1024];
+    let mut bars = [Bar { row: 61166, left: 61166, right: 61166 }; 64];
+    let mut said = [0u8; 6];
+    match draw_with_bars(sheet, &mut out[..lent], &mut bars[..room]) {
+        Drawn::Refused(k) => put16(&mut said, 0, k as usize),
+        Drawn::Chart(k, n) => {
+            put16(&mut said, 2, k);
+            put16(&mut said, 4, n);
+        }
+    }
+    io::write_all(STDOUT_FILENO, &said);
+    let end = lent + 4;
+    io::write_all(STDOUT_FILENO, &out[..end]);
+    let mut i = 0;
+    while i < room + 4 {
+        write_bar(bars[i]);
+        i += 1;
+    }
+}
+
+fn main() {
+    let mut input = [0u8; 65536];
+    let size = io::read_full(libc::STDIN_FILENO, &mut input);
+    let mut at = 0;
+    while at + 6 <= size {
+        let from = at + 6;
+        let to = from + get16(&input, at + 4);
+        call(&input[from..to], get16(&input, at), get16(&input, at + 2));
+        at = to;
+    }
+}
+END
+cargo run --quiet --release --manifest-path "$root/tests/Cargo.toml" --bin bar_cases -- \
+    "$work/crates/bars_run/stdin" "$work/crates/bars_run/stdout" || exit 1
+(cd "$work" && rt try bars_run) >"$work/log" 2>&1
+cat "$work/log"
+passed=$(grep -c '^ok: ' "$work/log")
+echo "$passed passed, $((4 - passed)) failed"
+[ "$passed" -eq 4 ]

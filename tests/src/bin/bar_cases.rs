@@ -1,0 +1,102 @@
+//! Writes calls of Draw with the bar list, and what they must answer, to two
+//! files: the standard input and output of the program in `bars.sh`.
+//!
+//! A call is the length of the output, that of the list of records and that of
+//! the sheet, in two bytes each, and the sheet. An answer is the number, the
+//! length and the count of bars, in two bytes each; then the output with
+//! `BEHIND` more bytes, and the records with `BEHIND` more, six bytes each.
+
+use bend_tests::chart::Bar;
+use bend_tests::draw::{chart_of, draw_with_bars};
+use bend_tests::part::{Corner, Part};
+use bend_tests::random::Random;
+use bend_tests::shapes::{all_parts, part, SHAPES};
+use bend_tests::sheet;
+use std::{env, fs};
+
+/// What every lent byte is before the call.
+const BEFORE: u8 = 0xee;
+/// How many bytes, and records, behind those lent must stay.
+const BEHIND: usize = 4;
+
+#[derive(Default)]
+struct Cases {
+    calls: Vec<u8>,
+    answers: Vec<u8>,
+}
+
+fn put(bytes: &mut Vec<u8>, number: usize) {
+    bytes.extend(u16::try_from(number).expect("two bytes").to_be_bytes());
+}
+
+impl Cases {
+    /// A call with an output of `lent` bytes and a list of `room` records.
+    fn add(&mut self, sheet: &[u8], lent: usize, room: usize) {
+        put(&mut self.calls, lent);
+        put(&mut self.calls, room);
+        put(&mut self.calls, sheet.len());
+        self.calls.extend(sheet);
+
+        let untouched = u16::from_be_bytes([BEFORE; 2]);
+        let untouched = Bar {
+            row: untouched,
+            left: untouched,
+            right: untouched,
+        };
+        let mut out = vec![BEFORE; lent + BEHIND];
+        let mut bars = vec![untouched; room + BEHIND];
+        let answer = draw_with_bars(sheet, &mut out[..lent], &mut bars[..room]);
+        let (number, length) = match answer {
+            Ok(length) => (0, length),
+            Err(refusal) => (refusal.number(), 0),
+        };
+        let count = match answer {
+            Ok(_) => usize::from(sheet::read(sheet).expect("a sheet").n),
+            Err(_) => 0,
+        };
+        put(&mut self.answers, usize::from(number));
+        put(&mut self.answers, length);
+        put(&mut self.answers, count);
+        self.answers.extend(out);
+        for bar in bars {
+            for number in [bar.row, bar.left, bar.right] {
+                put(&mut self.answers, usize::from(number));
+            }
+        }
+    }
+
+    /// The part's sheet, with either output too short, just long enough and longer.
+    fn add_part(&mut self, part: &Part) {
+        let sheet = sheet::normal(part);
+        let (length, n) = (chart_of(part).length(), usize::from(part.n));
+        for (lent, room) in [
+            (length, n),
+            (length + 3, n + 2),
+            (length - 1, n),
+            (length, n - 1),
+            (0, n),
+            (length, 0),
+        ] {
+            self.add(&sheet, lent, room);
+        }
+        self.add(&sheet[..sheet.len() - 1], length, n);
+    }
+}
+
+fn main() {
+    let files: Vec<String> = env::args().skip(1).collect();
+    let [calls, answers] = files.as_slice() else {
+        panic!("usage: bar_cases CALLS ANSWERS");
+    };
+    let mut cases = Cases::default();
+    let mut random = Random::new(301);
+    // few and small enough for the interpreter's ten million steps
+    (3..=6)
+        .flat_map(all_parts)
+        .for_each(|part| cases.add_part(&part));
+    for shape in SHAPES {
+        cases.add_part(&part(shape, random.between(7, 40) as Corner, &mut random));
+    }
+    fs::write(calls, cases.calls).expect("the file of the calls");
+    fs::write(answers, cases.answers).expect("the file of the answers");
+}
