@@ -4,7 +4,7 @@ use mathlib.Core.List.{List, [], _∷_, _++_, map, flatMap, append-assoc}
 use Prim.Native.Nat.{ℕ, zero, suc, _+_, _*_}
 use native.Mathlib.Nat.{add-zero}
 use native.Mathlib.Omega.{arith}
-use lib.ListN.{length, drop, length-append, length-map}
+use lib.ListN.{length, drop, length-append}
 use Rattle.polygon.specs.Lists.{numbers, below}
 use Rattle.codec.specs.Numbers.{bytes16, get16}
 use Rattle.sheet.proofs.Bytes.{get16-after, get16-back}
@@ -47,13 +47,3 @@ bars-of-chart c rest ys =
     let strokes : List ℕ = flatMap strokeBytes (c .strokes) in
     let q : bytesOf c ++ rest ≡ p ++ (flatMap barBytes (barsOf c) ++ (strokes ++ rest)) = ap (λ (l : List ℕ). p ++ l) (append-assoc (flatMap barBytes (barsOf c)) strokes rest) in
     ap (λ (l : List Record). l ++ drop (c .n) ys) (ap (λ (l : List ℕ). barsFrom l 0 (c .n)) q ∙ bars-behind (c .bar) p (strokes ++ rest) 0 (c .n) refl)
-
--- there is a bar for each corner
-length-numbers : (m u : ℕ) → length (numbers m u) ≡ m
-unfolding numbers
-length-numbers zero u = refl
-length-numbers (suc m) u = ap suc (length-numbers m (suc u))
-
-pub chart-bars : (c : Chart) → length (barsOf c) ≡ c .n
-unfolding barsOf below
-chart-bars c = length-map (numbers (c .n) 0) (c .bar) ∙ length-numbers (c .n) 0

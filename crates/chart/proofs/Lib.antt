@@ -23,6 +23,7 @@ pub mod EachEdge
 pub mod Truth
 pub mod Charts
 pub mod Fits
+pub mod Sizes
 pub mod Segments
 pub mod Hung
 pub mod Pieces

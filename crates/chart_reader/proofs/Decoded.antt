@@ -4,15 +4,15 @@ use mathlib.Core.List.{List, [], _∷_, _++_, map, flatMap, append-assoc}
 use Prim.Native.Nat.{ℕ, zero, suc, _+_, _*_, _-_, _≤_, _<_}
 use native.Mathlib.Nat.{add-zero}
 use native.Mathlib.Omega.{arith}
-use lib.ListN.{length, getD, length-append, length-map, List·getD-map}
+use lib.ListN.{length, getD, length-append, List·getD-map}
 use lib.Seq.{getD-append-add}
 use Rattle.polygon.specs.Lists.{All, all-nil, all-cons, numbers, below}
 use Rattle.codec.specs.Numbers.{bytes16, get16}
 use Rattle.sheet.proofs.Bytes.{get16-after, get16-back}
 use Rattle.chart.specs.Chart.{Bar, Stroke, upright, level, Chart, barsOf}
 use Rattle.chart.specs.Bytes.{barBytes, strokeBytes, bytesOf}
+use Rattle.chart.proofs.Sizes.{bars-count, bars-size}
 use Rattle.chart_reader.proofs.Same.{Same}
-use Rattle.chart_reader.proofs.Sides.{numbers-count}
 use Rattle.chart_reader.specs.Decode.{countIn, barAt, strokeSize, shaped, strokeAt, places, behind, chartIn, Formed}
 
 -- k strokes of the bytes from a place on, and where they end
@@ -80,16 +80,7 @@ numbers-get (suc k) u zero h = omega arith
 numbers-get (suc k) u (suc i) h = numbers-get k (suc u) i (omega arith) ∙ omega arith
 
 -- the whole chart
-pub bars-length : (bs : List Bar) → length (flatMap barBytes bs) ≡ 6 * length bs
-unfolding flatMap barBytes
-bars-length [] = refl
-bars-length (b ∷ bs) = omega (arith, bars-length bs)
-
 module _ (c : Chart) where
-  bars-count : length (barsOf c) ≡ c .n
-  unfolding barsOf below
-  bars-count = length-map (numbers (c .n) 0) (c .bar) ∙ numbers-count (c .n) 0
-
   bars-get : (x : ℕ) → x < c .n → getD (barsOf c) x (c .bar 0) ≡ c .bar x
   unfolding barsOf below
   bars-get x h = List·getD-map (c .bar) (numbers (c .n) 0) x 0 ∙ ap (c .bar) (numbers-get (c .n) 0 x h ∙ omega arith)
@@ -100,7 +91,7 @@ module _ (c : Chart) where
 
   front-length : length front ≡ 6 + 6 * c .n
   unfolding front
-  front-length = omega (arith, bars-length (barsOf c), bars-count)
+  front-length = omega (arith, bars-size (barsOf c), bars-count c)
 
   pub decoded-count : countIn (bytesOf c) ≡ c .n
   unfolding bytesOf
@@ -119,7 +110,7 @@ module _ (c : Chart) where
     columns = get16-back (c .columns) [];
     corners = decoded-count;
     bars = λ x i. bar-after (bytes16 (c .rows) ++ (bytes16 (c .columns) ++ bytes16 (c .n))) (flatMap barBytes (barsOf c) ++ flatMap strokeBytes (c .strokes)) (6 * x)
-        ∙ (bar-back (barsOf c) (flatMap strokeBytes (c .strokes)) (c .bar 0) x (omega (arith, bars-count)) ∙ bars-get x i);
+        ∙ (bar-back (barsOf c) (flatMap strokeBytes (c .strokes)) (c .bar 0) x (omega (arith, bars-count c)) ∙ bars-get x i);
     strokes = rw decoded-count (decoded-strokes h .strokes);
   }
 

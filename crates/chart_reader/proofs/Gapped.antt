@@ -14,13 +14,14 @@ use Rattle.codec.specs.Numbers.{bytes16}
 use Rattle.codec.proofs.Stores.{sets-append, sets-front}
 use Rattle.chart.specs.Chart.{Bar, Stroke, upright, level}
 use Rattle.chart.specs.Bytes.{barBytes}
+use Rattle.chart.proofs.Sizes.{bars-size}
 use Rattle.chart_reader.specs.declared.Cell.{Cell}
 use Rattle.chart_reader.specs.declared.Ends.{Ends}
 use Rattle.chart_reader.specs.Cells.{bar}
 use Rattle.chart_reader.specs.Decode.{strokeAt, strokePlaces, chartIn}
 use Rattle.chart_reader.specs.Rules.{ends}
 use Rattle.chart_reader.specs.Held.{Placed, EndsOf, gapBar, gapIn, gapOf, gapsOf, GapsIn}
-use Rattle.chart_reader.proofs.Decoded.{bars-length, bar-back}
+use Rattle.chart_reader.proofs.Decoded.{bar-back}
 use Rattle.chart_reader.proofs.Stroked.{level-at, upright-at}
 
 -- a bar is three numbers
@@ -96,7 +97,7 @@ module _ (s at first gaps : List ℕ) (g i : ℕ) (G : Gapping s at first gaps g
   gapping-next more o r kept er eo =
       let b : List Bar = gapOf (chartIn s) (strokeAt s (getD at i 0)) in
       let e : gapsTo s at (suc i) ≡ gapsTo s at i ++ b = gaps-next s at i more in
-      let n : 6 * g ≡ 0 + length (flatMap barBytes (gapsTo s at i)) = omega (arith, bars-length (gapsTo s at i), G .count) in
+      let n : 6 * g ≡ 0 + length (flatMap barBytes (gapsTo s at i)) = omega (arith, bars-size (gapsTo s at i), G .count) in
       rw (add-one i) (record {
         upto = omega arith;
         low = omega (arith, G .low, one-most s (getD at i 0));
@@ -111,7 +112,7 @@ module _ (s at first gaps : List ℕ) (g i : ℕ) (G : Gapping s at first gaps g
       let e : take i at ≡ strokePlaces s = take-all i at last ∙ P .strokes in
       let count : g ≡ length gs = rw e at (G .count) in
       let stored : gaps ≡ sets first 0 (flatMap barBytes gs) = rw e at (G .stored) in
-      let front : gaps ≡ flatMap barBytes gs ++ drop (length (flatMap barBytes gs)) first = stored ∙ sets-front (flatMap barBytes gs) first (omega (arith, bars-length gs, G .low, G .upto)) in
+      let front : gaps ≡ flatMap barBytes gs ++ drop (length (flatMap barBytes gs)) first = stored ∙ sets-front (flatMap barBytes gs) first (omega (arith, bars-size gs, G .low, G .upto)) in
       record {
         count = count;
         bars = λ k h. let z : 0 + 6 * k ≡ 6 * k = omega arith in rw (z, front) (bar-back gs (drop (length (flatMap barBytes gs)) first) (bar 0 0 0) k (omega arith));

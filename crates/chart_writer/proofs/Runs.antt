@@ -5,13 +5,14 @@ use Prim.Native.Nat.{ℕ, zero, suc, _+_, _*_, _/_, _%_, _<_, _≤_}
 use native.Mathlib.Decide.{decLt}
 use native.Mathlib.Numerals.{add-one}
 use native.Mathlib.Omega.{arith}
-use lib.ListN.{length, getD, set, length-append}
+use lib.ListN.{length, getD, set, length-append, length-map}
 use lib.Seq.{sets}
 use Rattle.polygon.specs.Lists.{numbers, below}
+use Rattle.polygon.proofs.Lists.{below-count}
 use Rattle.codec.specs.Numbers.{bytes16}
 use Rattle.codec.proofs.Stores.{sets-append}
-use Rattle.chart.specs.Chart.{Bar}
 use Rattle.chart.specs.Bytes.{barBytes, strokeBytes}
+use Rattle.chart.proofs.Sizes.{bars-size}
 use Rattle.chart_writer.specs.Tables.{strokeOf, barAt, strokeAt, barRun, strokeRun}
 use Rattle.chart_writer.proofs.Below.{below-next}
 use Rattle.chart_writer.proofs.Placing.{level-stroke, upright-stroke}
@@ -47,15 +48,6 @@ module _ {A : Type 0} (f : A → List ℕ) (h : ℕ → A) where
   pub run-stored : (out : List ℕ) (from i : ℕ) → sets (sets out from (run i)) (from + length (run i)) (f (h i)) ≡ sets out from (run (suc i))
   run-stored out from i = rw (run-next i) (sym (sets-append (run i) (f (h i)) out from))
 
--- bars: six bytes each
-pub bars-size : (h : ℕ → Bar) (n : ℕ) → length (flatMap barBytes (map h (below n))) ≡ 6 * n
-unfolding barBytes
-bars-size h zero = ap length (run-none barBytes h)
-bars-size h (suc n) = omega (arith, run-size barBytes h n, bars-size h n, size n)
-  where
-    size : (x : ℕ) → length (barBytes (h x)) ≡ 6
-    size x = refl
-
 module _ (rows left right : List ℕ) where
   pub bars-none : (out : List ℕ) → out ≡ sets out 6 (barRun rows left right 0)
   bars-none out = rw (run-none barBytes (barAt rows left right))
@@ -71,7 +63,7 @@ module _ (rows left right : List ℕ) where
       let c : List ℕ = bytes16 (getD right x 0) in
       let p : 8 + 6 * x ≡ 6 + 6 * x + 2 = omega arith in
       let q : 10 + 6 * x ≡ 6 + 6 * x + 2 + 2 = omega arith in
-      let r : 6 + 6 * x ≡ 6 + length (barRun rows left right x) = omega (arith, bars-size (barAt rows left right) x) in
+      let r : 6 + 6 * x ≡ 6 + length (barRun rows left right x) = omega (arith, bars-size (map (barAt rows left right) (below x)), length-map (below x) (barAt rows left right), below-count x) in
       rw (p, q)
       (sym (sets-append b c (sets s (6 + 6 * x) a) (6 + 6 * x + 2))
       ∙ (sym (sets-append a (b ++ c) s (6 + 6 * x)) ∙ rw (r, add-one x) (run-stored barBytes (barAt rows left right) out 6 x)))

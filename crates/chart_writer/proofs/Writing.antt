@@ -14,10 +14,10 @@ use Rattle.codec.proofs.Answers.{written-short, written-fits}
 use Rattle.keys.specs.Keys.{edgeOf, edgesOf}
 use Rattle.chart.specs.Chart.{stroke, Chart, layout, barsOf}
 use Rattle.chart.specs.Bytes.{barBytes, strokeBytes, bytesOf}
+use Rattle.chart.proofs.Sizes.{bars-count, bars-size}
 use Rattle.chart_writer.specs.Tables.{Columns, Spans, RowsAre, barAt, strokeAt, barRun, strokeRun}
 use Rattle.chart_writer.proofs.Below.{map-places, map-below}
 use Rattle.chart_writer.proofs.Placing.{stroke-is}
-use Rattle.chart_writer.proofs.Runs.{bars-size}
 
 -- the strokes
 strokes-are : (es cols columns : List ℕ) → length cols ≤ 65535 → Columns es cols columns → strokeRun es columns (length es) ≡ flatMap strokeBytes (map (stroke 0 (edgesOf cols)) (edgesOf es))
@@ -42,8 +42,8 @@ module _ (n D : ℕ) (rs : List ℕ) (us es : List Edge) (pos : 1 ≤ n) where
 
   -- all fields
   bars-length : length (flatMap barBytes (barsOf C)) ≡ 6 * n
-  unfolding barsOf layout
-  bars-length = bars-size (C .bar) (suc (n - 1)) ∙ omega arith
+  unfolding layout
+  bars-length = bars-size (barsOf C) ∙ omega (arith, bars-count C)
 
   module _ (strokes out : List ℕ) (s : strokes ≡ flatMap strokeBytes (C .strokes)) where
     abbrev fields : List ℕ → List ℕ

@@ -2,21 +2,21 @@
 -- Rests on the records that are filled from a chart's bytes (crate bar_list, proofs/OfChart.antt).
 use mathlib.Core.Path.{_≡_, refl, ap, sym, _∙_}
 use mathlib.Core.Logic.{Dec·and}
-use mathlib.Core.List.{List, [], _∷_, _++_, map, flatMap, map-append}
+use mathlib.Core.List.{List, [], _∷_, _++_, map, map-append}
 use Prim.Native.Nat.{ℕ, zero, suc, _+_, _*_, _≤_, _<_}
 use native.Mathlib.Decide.{decLe}
 use native.Mathlib.Omega.{arith}
-use lib.ListN.{length, drop, length-map, length-append}
+use lib.ListN.{length, drop, length-map}
 use Rattle.codec.specs.Answer.{Answer, refusal, fit, write, written, answered}
 use Rattle.codec.specs.declared.Written.the-variants as is
 use Rattle.chart.specs.Chart as chart
 use Rattle.chart.specs.Chart.{barsOf}
-use Rattle.chart.specs.Bytes.{barBytes, strokeBytes, bytesOf}
-use Rattle.chart_writer.proofs.Runs.{bars-size}
+use Rattle.chart.specs.Bytes.{bytesOf}
+use Rattle.chart.proofs.Sizes.{bars-count, bytes-size}
 use Rattle.bar_list.specs.declared.Bar.{Bar}
 use Rattle.bar_list.specs.Bars.{filled}
 use Rattle.bar_list.specs.OfChart.{recordOf, barOf}
-use Rattle.bar_list.proofs.OfChart.{bars-of-chart, chart-bars}
+use Rattle.bar_list.proofs.OfChart.{bars-of-chart}
 use Rattle.draw.specs.declared.Drawn.the-variants.{Chart}
 use Rattle.draw.specs.Answer.{noDrawing, fitBoth, intoBoth}
 use Rattle.draw.specs.WithBars.{drawing}
@@ -31,12 +31,7 @@ drop-map zero ys = refl
 drop-map (suc k) [] = refl
 drop-map (suc k) (y ∷ ys) = drop-map k ys
 
--- the bars' bytes are in the chart
-bytes-hold : (c : chart.Chart) → 6 + 6 * c .n ≤ length (bytesOf c)
-unfolding bytesOf barsOf
-bytes-hold c = omega (arith, length-append (flatMap barBytes (barsOf c)) (flatMap strokeBytes (c .strokes)), bars-size (c .bar) (c .n))
-
--- a chart c of n corners, an output and a list of records
+-- a chart, an output and a list of records
 module _ (c : chart.Chart) (out : List ℕ) (ys : List Bar) where
   abbrev bytes? : Dec (length (bytesOf c) ≤ length out)
   bytes? = decLe (length (bytesOf c)) (length out)
@@ -52,7 +47,7 @@ module _ (c : chart.Chart) (out : List ℕ) (ys : List Bar) where
       go : (d : Dec (length (bytesOf c) ≤ length out)) (e : Dec (length (barsOf c) ≤ length (map barOf ys))) → noDrawing 8 out (map barOf ys) ≡ fitBoth (Dec·and d e) (bytesOf c) (barsOf c) out (map barOf ys)
       go (no p) e = refl
       go (yes p) (no q) = refl
-      go (yes p) (yes q) = absurd (omega (arith, h, q, chart-bars c, length-map ys barOf))
+      go (yes p) (yes q) = absurd (omega (arith, h, q, bars-count c, length-map ys barOf))
 
   records-are : (after : List ℕ) → after ≡ bytesOf c ++ drop (length (bytesOf c)) out → map barOf (filled after (c .n) ys) ≡ barsOf c ++ drop (length (barsOf c)) (map barOf ys)
   records-are after e =
@@ -60,7 +55,7 @@ module _ (c : chart.Chart) (out : List ℕ) (ys : List Bar) where
       ∙ (ap (map barOf) (bars-of-chart c (drop (length (bytesOf c)) out) ys)
       ∙ (map-append barOf (map recordOf (barsOf c)) (drop (c .n) ys)
       ∙ (ap (λ (l : List chart.Bar). l ++ map barOf (drop (c .n) ys)) (bars-back (barsOf c))
-      ∙ ap (λ (l : List chart.Bar). barsOf c ++ l) (drop-map (c .n) ys ∙ ap (λ (k : ℕ). drop k (map barOf ys)) (sym (chart-bars c))))))
+      ∙ ap (λ (l : List chart.Bar). barsOf c ++ l) (drop-map (c .n) ys ∙ ap (λ (k : ℕ). drop k (map barOf ys)) (sym (bars-count c))))))
 
   -- enough of them: the answer is that of the chart's bytes alone, and the records are filled if the chart was written
   module _ (room : c .n ≤ length ys) (after : List ℕ) where
@@ -71,7 +66,7 @@ module _ (c : chart.Chart) (out : List ℕ) (ys : List Bar) where
         go : (d : Dec (length (bytesOf c) ≤ length out)) (e : Dec (length (barsOf c) ≤ length (map barOf ys))) → answered (is.Bytes k) after ≡ fit d (bytesOf c) out
             → drawing (Chart k (c .n)) after (filled after (c .n) ys) ≡ fitBoth (Dec·and d e) (bytesOf c) (barsOf c) out (map barOf ys)
         go (no p) e h = absurd (omega (arith, ap (λ (a : Answer). a .number) h))
-        go (yes p) (no q) h = absurd (q (omega (arith, room, chart-bars c, length-map ys barOf)))
+        go (yes p) (no q) h = absurd (q (omega (arith, room, bars-count c, length-map ys barOf)))
         go (yes p) (yes q) h = λ i. record { answer = h i; bars = records-are after (ap (λ (a : Answer). a .bytes) h) i }
 
     pub none-written : (k : ℕ) → refusal k after ≡ written (write (bytesOf c)) out → noDrawing k after (map barOf ys) ≡ intoBoth c out (map barOf ys)
@@ -80,7 +75,7 @@ module _ (c : chart.Chart) (out : List ℕ) (ys : List Bar) where
       where
         go : (d : Dec (length (bytesOf c) ≤ length out)) (e : Dec (length (barsOf c) ≤ length (map barOf ys))) → refusal k after ≡ fit d (bytesOf c) out → noDrawing k after (map barOf ys) ≡ fitBoth (Dec·and d e) (bytesOf c) (barsOf c) out (map barOf ys)
         go (no p) e h = λ i. record { answer = h i; bars = map barOf ys }
-        go (yes p) e h = absurd (omega (arith, ap (λ (a : Answer). a .size) h, bytes-hold c))
+        go (yes p) e h = absurd (omega (arith, ap (λ (a : Answer). a .size) h, bytes-size c .0))
 
 -- a chart that was written has room
 pub wrote : (c : chart.Chart) (out after : List ℕ) (k : ℕ) → answered (is.Bytes k) after ≡ written (write (bytesOf c)) out → 6 + 6 * c .n ≤ length out
@@ -88,7 +83,7 @@ unfolding written fit
 wrote c out after k = go (decLe (length (bytesOf c)) (length out))
   where
     go : (d : Dec (length (bytesOf c) ≤ length out)) → answered (is.Bytes k) after ≡ fit d (bytesOf c) out → 6 + 6 * c .n ≤ length out
-    go (yes p) h = omega (arith, p, bytes-hold c)
+    go (yes p) h = omega (arith, p, bytes-size c .0)
     go (no p) h = absurd (omega (arith, ap (λ (a : Answer). a .number) h))
 
 -- the answer for enough records is that of Draw without them
@@ -99,4 +94,4 @@ enough-records c out bars h = go (decLe (length (bytesOf c)) (length out)) (decL
     go : (d : Dec (length (bytesOf c) ≤ length out)) (e : Dec (length (barsOf c) ≤ length bars)) → fitBoth (Dec·and d e) (bytesOf c) (barsOf c) out bars .answer ≡ fit d (bytesOf c) out
     go (no p) e = refl
     go (yes p) (yes q) = refl
-    go (yes p) (no q) = absurd (q (omega (arith, h, chart-bars c)))
+    go (yes p) (no q) = absurd (q (omega (arith, h, bars-count c)))

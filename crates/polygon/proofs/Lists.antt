@@ -1,6 +1,6 @@
 -- The laws of the words about lists in specs/Lists.antt: membership, "all of them", the elements that pass a test, sorted lists, the numbers below n.
 -- They rest on nothing else of this crate.
-use mathlib.Core.Path.{_≡_, refl, ap₂, sym, _∙_, subst}
+use mathlib.Core.Path.{_≡_, refl, ap, ap₂, sym, _∙_, subst}
 use mathlib.Core.Logic.{_⊎_, inl, inr}
 use mathlib.Core.List.{List, [], _∷_, _++_, map}
 use Prim.Native.Nat.{ℕ, zero, suc, _+_, _≤_, _<_}
@@ -203,6 +203,11 @@ module _ {A : Type 0} {R : A → A → Type 0} (one-way : (x y : A) → R x y �
       ap₂ _∷_ e (sorted-same xs ys s t (tail-sub x y xs ys e a f) (tail-sub y x ys xs (sym e) b g))
 
 -- the numbers below n
+pub numbers-count : (k u : ℕ) → length (numbers k u) ≡ k
+unfolding numbers
+numbers-count zero u = refl
+numbers-count (suc k) u = ap suc (numbers-count k (suc u))
+
 pub numbers-in : (k u : ℕ) → All (λ x. (u ≤ x) × (x < u + k)) (numbers k u)
 unfolding numbers
 numbers-in zero u = all-nil
@@ -221,6 +226,10 @@ numbers-mem (suc k) u x h i = go (decLt u x) (numbers-mem k (suc u) x)
     go : Dec (u < x) → (suc u ≤ x → x < suc u + k → Mem x (numbers k (suc u))) → Mem x (u ∷ numbers k (suc u))
     go (yes p) f = there (f p (omega arith))
     go (no p) f = head {x = u} (omega arith)
+
+pub below-count : (n : ℕ) → length (below n) ≡ n
+unfolding below
+below-count n = numbers-count n 0
 
 pub below-sorted : (n : ℕ) → Sorted _<_ (below n)
 unfolding below

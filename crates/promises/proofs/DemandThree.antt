@@ -2,12 +2,12 @@
 use mathlib.Core.Path.{_≡_, refl, ap, sym, _∙_}
 use mathlib.Core.Logic.{Dec·and}
 use mathlib.Core.List.{List}
-use Prim.Native.Nat.{ℕ, zero, suc, _<_}
+use Prim.Native.Nat.{ℕ, _<_}
 use native.Mathlib.Decide.{decLe}
 use native.Mathlib.Omega.{arith}
-use lib.ListN.{length, take, length-map}
+use lib.ListN.{length, take}
 use lib.Seq.{take-append-seam, take-at}
-use Rattle.polygon.specs.Lists.{All, numbers, below}
+use Rattle.polygon.specs.Lists.{All}
 use Rattle.polygon.specs.Polygon.{Polygon}
 use Rattle.polygon.specs.Tree.{treeOf}
 use Rattle.polygon.proofs.Theorems.{same-diagonals}
@@ -19,6 +19,7 @@ use Rattle.umbrella.proofs.Theorems.{none-has-fewer, is-drawn}
 use Rattle.plan.specs.Answer.{answer, planned}
 use Rattle.chart.specs.Chart.{Bar, Chart, barsOf, chart, chartOf}
 use Rattle.chart.specs.Bytes.{bytesOf}
+use Rattle.chart.proofs.Sizes.{bars-count}
 use Rattle.chart.proofs.Theorems.{chart-is-true, chart-shows, chart-rows, chart-columns, chart-column-named}
 use Rattle.draw.specs.Answer.{Drawing, wholeDrawing, fitBoth, intoBoth, drawnBoth, drawnWithBars}
 use Rattle.promises.specs.DemandThree.{DemandThree, SameChart, partLeft}
@@ -43,15 +44,6 @@ demand-three s p bytes reads cs =
       named = chart-column-named q (F .valid);
     }
 
-length-numbers : (k u : ℕ) → length (numbers k u) ≡ k
-unfolding numbers
-length-numbers zero u = refl
-length-numbers (suc k) u = ap suc (length-numbers k (suc u))
-
-length-below : (n : ℕ) → length (below n) ≡ n
-unfolding below
-length-below n = length-numbers n 0
-
 -- a drawing that is not refused is whole
 whole : (c : Chart) (out : List ℕ) (bars : List Bar) → intoBoth c out bars .answer .number ≡ 0 → intoBoth c out bars ≡ wholeDrawing (bytesOf c) (barsOf c) out bars
 unfolding intoBoth fitBoth
@@ -64,9 +56,8 @@ whole c out bars = go (Dec·and (decLe (length (bytesOf c)) (length out)) (decLe
 -- what a whole drawing has written
 whole-front : (c : Chart) (n : ℕ) (out : List ℕ) (bars : List Bar) (d : Drawing) → c .n ≡ n → d ≡ wholeDrawing (bytesOf c) (barsOf c) out bars
     → (d .answer .size ≡ length (bytesOf c)) × (take (d .answer .size) (d .answer .bytes) ≡ bytesOf c) × (take n (d .bars) ≡ barsOf c)
-unfolding barsOf
 whole-front c n out bars d h e =
-    let l : length (barsOf c) ≡ n = length-map (below (c .n)) (c .bar) ∙ (length-below (c .n) ∙ h) in
+    let l : length (barsOf c) ≡ n = bars-count c ∙ h in
     rw e (refl, take-append-seam (bytesOf c) _, take-at (barsOf c) _ n l)
 
 -- the chart depends on the corners and the set of diagonals alone
