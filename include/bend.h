@@ -27,13 +27,17 @@
  *   16  a stroke's corners or order are wrong, or its bars do not fit
  *   17  an upright passes through the gap of a level stroke
  *   18  the strokes lack a side of the part, or diagonals cross
+ *   32  the list's length is no multiple of 13
+ *   33  the list has an edit of a kind above 2
+ *   34  the output for the numbers is shorter than two bytes an edit
+ *   35  an edit of the list lends more than one of the buffers has
  *
  * The first that applies, in the order given at each function, is returned; the
  * other bits are then 0 and no byte of the output is changed. If the operation
  * was done, the bytes of the output beyond the result stay as they were.
  *
- * The input is only read. The output must not overlap it. No pointer may be
- * null, not even with a length of 0.
+ * The inputs are only read. No output may overlap an input or another output.
+ * No pointer may be null, not even with a length of 0.
  */
 #ifndef BEND_H
 #define BEND_H
@@ -80,6 +84,31 @@ uint64_t bend_flip(const uint8_t *sheet, size_t sheet_len, size_t a, size_t b,
                    uint8_t *out, size_t out_len);
 
 /*
+ * Run a list of edits, from the sheet `first`. Each edit reads the sheet that
+ * the last edit taken wrote, or the first sheet if none was taken, and writes
+ * the buffer in which that sheet does not lie, the front buffer first. An edit
+ * is 13 bytes, its numbers high byte first:
+ *
+ *    1 byte   the kind: 0 add a corner on side a, 1 take off corner a, 2 turn
+ *             the diagonal between a and b
+ *    4 bytes  a
+ *    4 bytes  b, any number unless the kind is 2
+ *    4 bytes  how many bytes of the buffer are lent to the edit
+ *
+ * The number of each edit, 0 or the refusal as for bend_add_ear,
+ * bend_remove_ear and bend_flip, is written to `numbers` in two bytes, high byte
+ * first. A refused edit changes nothing else and the list goes on. Gives the
+ * place of the sheet left: 0 the first sheet, 1 the front buffer, 2 the back
+ * buffer; and for 1 and 2 its length.
+ * Refusals of the list, before any edit is done: 32; 33; 34; 35.
+ */
+uint64_t bend_run_edits(const uint8_t *first, size_t first_len,
+                        const uint8_t *list, size_t list_len,
+                        uint8_t *front, size_t front_len,
+                        uint8_t *back, size_t back_len,
+                        uint8_t *numbers, size_t numbers_len);
+
+/*
  * Plan: gives the levels, umbrellas and stems of the plan that is drawn. No
  * plan of the part has fewer levels.
  * Refusals: 1 to 7 as for bend_normalize.
@@ -107,10 +136,25 @@ static inline unsigned bend_number(uint64_t answer)
     return (unsigned)(answer & 0xffff);
 }
 
-/* The length written, in the answer of an operation that writes; 0 if refused. */
+/*
+ * The length written, in the answer of an operation that writes one output; 0 if
+ * refused.
+ */
 static inline size_t bend_length(uint64_t answer)
 {
     return (size_t)(answer >> 16);
+}
+
+/* The place in an answer of bend_run_edits: 0 first, 1 front, 2 back. */
+static inline unsigned bend_place(uint64_t answer)
+{
+    return (unsigned)(answer >> 16 & 0xffff);
+}
+
+/* The length of the sheet left in a buffer, in an answer of bend_run_edits. */
+static inline size_t bend_left(uint64_t answer)
+{
+    return (size_t)(answer >> 32);
 }
 
 /* The levels in an answer of bend_plan. */

@@ -6,8 +6,12 @@ use crate::library;
 use bend_tests::draw::chart_of;
 #[cfg(feature = "draw")]
 use bend_tests::draw::draw_sheet;
+#[cfg(feature = "run_edits")]
+use bend_tests::edit::PlainPart;
 #[cfg(feature = "edits")]
 use bend_tests::edit::{edit_sheet, Edit};
+#[cfg(feature = "run_edits")]
+use bend_tests::edit_list;
 use bend_tests::part::{Corner, Part};
 #[cfg(feature = "plan")]
 use bend_tests::plan::plan_sheet;
@@ -126,6 +130,42 @@ fn edit(sheet: &[u8], edit: Edit, out: &mut [u8]) -> u64 {
     }
 }
 
+/// The middle diagonal turned.
+#[cfg(feature = "edits")]
+fn turn(part: &Part) -> Edit {
+    let (a, b) = part.diagonals[part.diagonals.len() / 2];
+    Edit::Turn {
+        a: a.into(),
+        b: b.into(),
+    }
+}
+
+/// The parts' sheets with a list of 16 turns each.
+#[cfg(feature = "run_edits")]
+fn lists(corners: Corner) -> Vec<(Vec<u8>, Vec<u8>)> {
+    let list = |part: &Part| {
+        let sheet = sheet::normal(part);
+        let mut plain = PlainPart::new(&sheet).expect("the part is valid");
+        let room = sheet.len();
+        let edit = |_| {
+            let edit = turn(&plain.part);
+            plain.edit(edit, room);
+            (edit, room as u32)
+        };
+        let list: Vec<edit_list::Lending> = (0..16).map(edit).collect();
+        (sheet, edit_list::encoded(&list, 0))
+    };
+    parts(corners).iter().map(list).collect()
+}
+
+/// The output as a front buffer, a back buffer and an output for the numbers.
+#[cfg(feature = "run_edits")]
+fn in_three(out: &mut [u8]) -> [&mut [u8]; 3] {
+    let (front, rest) = out.split_at_mut(ROOM / 3);
+    let (back, numbers) = rest.split_at_mut(ROOM / 3);
+    [front, back, numbers]
+}
+
 /// All cases, each operation's two sizes next to each other.
 pub fn all() -> Vec<Case> {
     let mut cases = Vec::new();
@@ -177,17 +217,24 @@ pub fn all() -> Vec<Case> {
             };
             edit_case("take off a corner", n, edits(n, corner))
         }));
-        cases.extend(sizes.map(|n| {
-            let diagonal = |part: &Part| {
-                let (a, b) = part.diagonals[part.diagonals.len() / 2];
-                Edit::Turn {
-                    a: a.into(),
-                    b: b.into(),
-                }
-            };
-            edit_case("turn a diagonal", n, edits(n, diagonal))
-        }));
+        cases.extend(sizes.map(|n| edit_case("turn a diagonal", n, edits(n, turn))));
     }
+    #[cfg(feature = "run_edits")]
+    cases.extend(sizes.map(|n| {
+        case(
+            "run a list of 16 turns",
+            n,
+            lists(n),
+            |(sheet, list), out| {
+                let [front, back, numbers] = in_three(out);
+                library::run_edits(sheet, list, front, back, numbers)
+            },
+            |(sheet, list), out| {
+                let [front, back, numbers] = in_three(out);
+                edit_list::run(sheet, list, front, back, numbers)
+            },
+        )
+    }));
     #[cfg(feature = "plan")]
     cases.extend(sizes.map(|n| {
         case(

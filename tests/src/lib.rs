@@ -8,6 +8,7 @@ pub mod changes;
 pub mod chart;
 pub mod draw;
 pub mod edit;
+pub mod edit_list;
 pub mod line;
 pub mod neighbours;
 pub mod part;

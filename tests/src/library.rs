@@ -29,6 +29,19 @@ extern "C" {
         out: *mut u8,
         out_len: usize,
     ) -> u64;
+    #[cfg(feature = "run_edits")]
+    fn bend_run_edits(
+        first: *const u8,
+        first_len: usize,
+        list: *const u8,
+        list_len: usize,
+        front: *mut u8,
+        front_len: usize,
+        back: *mut u8,
+        back_len: usize,
+        numbers: *mut u8,
+        numbers_len: usize,
+    ) -> u64;
     #[cfg(feature = "plan")]
     fn bend_plan(sheet: *const u8, sheet_len: usize) -> u64;
     #[cfg(feature = "draw")]
@@ -37,8 +50,8 @@ extern "C" {
     fn bend_read_chart(chart: *const u8, chart_len: usize, out: *mut u8, out_len: usize) -> u64;
 }
 
-// Each call below lends a whole slice with its own length, and the two slices
-// of a call never overlap: one is shared, the other is not.
+// Each call below lends a whole slice with its own length, and an output never
+// overlaps another slice of the call: it is not shared.
 
 #[cfg(feature = "normalize")]
 pub fn normalize(sheet: &[u8], out: &mut [u8]) -> u64 {
@@ -81,6 +94,30 @@ pub fn flip(sheet: &[u8], a: usize, b: usize, out: &mut [u8]) -> u64 {
             b,
             out.as_mut_ptr(),
             out.len(),
+        )
+    }
+}
+
+#[cfg(feature = "run_edits")]
+pub fn run_edits(
+    first: &[u8],
+    list: &[u8],
+    front: &mut [u8],
+    back: &mut [u8],
+    numbers: &mut [u8],
+) -> u64 {
+    unsafe {
+        bend_run_edits(
+            first.as_ptr(),
+            first.len(),
+            list.as_ptr(),
+            list.len(),
+            front.as_mut_ptr(),
+            front.len(),
+            back.as_mut_ptr(),
+            back.len(),
+            numbers.as_mut_ptr(),
+            numbers.len(),
         )
     }
 }

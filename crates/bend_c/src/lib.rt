@@ -1,6 +1,6 @@
 // Every operation without record lists, for C: numbers and byte runs in, one number out. include/bend.h declares them.
 // The low 16 bits of an answer are the number, 0 or that of a refusal. Above it stands the length of what was written, or for Plan the levels,
-// umbrellas and stems, 16 bits each.
+// umbrellas and stems, 16 bits each, or for a list of edits the place of the sheet left, in 16 bits, and its length.
 ghost use mathlib.Core.Path.{_≡_};
 ghost use mathlib.Core.List.{List};
 ghost use Prim.Native.Nat.{ℕ};
@@ -8,10 +8,12 @@ ghost use Rattle.codec.specs.Answer.{written, answered, packed, Packable};
 ghost use Rattle.sheet.specs.Sheet.{ordered};
 ghost use Rattle.edit.specs.Rules.{addEar, removeEar, flip};
 ghost use Rattle.edit.specs.Calls.{edited};
+ghost use Rattle.edit_list.specs.Result.{ranOf, resultOf, packedRun, Tellable};
 ghost use Rattle.draw.specs.Answer.{drawn};
 ghost use Rattle.chart_reader.specs.Reader.{chartRead};
 ghost use Rattle.plan.specs.Answer.{planned, plannedOf, packedPlan};
 use codec::Written;
+use edit_list::Ran;
 use plan::Planned;
 
 // The answer in one number.
@@ -59,6 +61,39 @@ pub extern "C" fn bend_flip(sheet: &[u8], a: usize, b: usize, out: &mut [u8]) ->
     ensures { λ r. ⌜ now (out .exit) ≡ written (edited (flip a b) (now (sheet .entry))) (now (out .entry)) .bytes ⌝ }
 {
     pack(edit::flip(sheet, a, b, out))
+}
+
+// The answer of a list of edits in one number.
+fn pack_run(r: Ran) -> u64
+    requires { ⌜ Tellable r ⌝ }
+    ensures { λ k. ⌜ ((front back outs : List ℕ) → k ≡ packedRun (ranOf r front back outs)) ⌝ }
+{
+    match r {
+        Ran::Done(place, size) => {
+            if place == 0 {
+                return 0;
+            }
+            place as u64 * 65536 + size as u64 * 4294967296
+        }
+        Ran::Refused(k) => k as u64,
+    }
+}
+
+// A list of edits, run over two buffers; the number of each edit is written to `numbers`, in two bytes.
+#[no_mangle]
+pub extern "C" fn bend_run_edits(
+    first: &[u8],
+    list: &[u8],
+    front: &mut [u8],
+    back: &mut [u8],
+    numbers: &mut [u8],
+) -> u64
+    ensures { λ r. ⌜ r ≡ packedRun (resultOf (now (first .entry)) (now (list .entry)) (now (front .entry)) (now (back .entry)) (now (numbers .entry))) ⌝ }
+    ensures { λ r. ⌜ now (front .exit) ≡ resultOf (now (first .entry)) (now (list .entry)) (now (front .entry)) (now (back .entry)) (now (numbers .entry)) .front ⌝ }
+    ensures { λ r. ⌜ now (back .exit) ≡ resultOf (now (first .entry)) (now (list .entry)) (now (front .entry)) (now (back .entry)) (now (numbers .entry)) .back ⌝ }
+    ensures { λ r. ⌜ now (numbers .exit) ≡ resultOf (now (first .entry)) (now (list .entry)) (now (front .entry)) (now (back .entry)) (now (numbers .entry)) .outs ⌝ }
+{
+    pack_run(edit_list::run(first, list, front, back, numbers))
 }
 
 // The answer of Plan in one number.

@@ -3,5 +3,6 @@ pub mod Desks
 pub mod Within
 pub mod Following
 pub mod Running
+pub mod Packing
 pub mod Known
 pub mod Theorems

@@ -14,7 +14,7 @@ use Rattle.edit_list.specs.Desk.{placed, Desk, deskOf, current, other, b
 use Rattle.edit_list.specs.Steps.{Lies, Spacious}
 
 -- an answer is no longer than the output, and keeps the output's length
-written-within : (o : Outcome) (out : List ℕ) → (written o out .size ≤ length out) × (length (written o out .bytes) ≡ length out)
+pub written-within : (o : Outcome) (out : List ℕ) → (written o out .size ≤ length out) × (length (written o out .bytes) ≡ length out)
 unfolding written fit
 written-within (refuse k) out = (omega arith, refl)
 written-within (write bs) out = go (decLe (length bs) (length out))

@@ -1,7 +1,7 @@
 -- What running an encoded list of edits gives: the number, the place and the length of the sheet left, and the lent bytes afterwards.
 use mathlib.Core.Path.{_≡_}
 use mathlib.Core.List.{List, _++_}
-use Prim.Native.Nat.{ℕ}
+use Prim.Native.Nat.{ℕ, _+_, _*_, _≤_, _<_}
 use native.Mathlib.Decide.{ℕ-discrete}
 use lib.ListN.{length, drop}
 use Rattle.polygon.specs.Lists.{choose}
@@ -11,7 +11,7 @@ use Rattle.edit.specs.Model.{numbers, modelSheet}
 use Rattle.edit_list.specs.declared.Ran.{Ran}
 use Rattle.edit_list.specs.declared.Ran.the-variants.{Done, Refused}
 use Rattle.edit_list.specs.Script.{scriptOf, faultOf}
-use Rattle.edit_list.specs.Desk.{begin, sheetAt, deskAfter, numbersOf}
+use Rattle.edit_list.specs.Desk.{placed, begin, sheetAt, deskAfter, numbersOf}
 
 pub record Result : Type 0 where
   pub number : ℕ
@@ -55,3 +55,15 @@ ranOf (Refused k) front back outs = unchanged k front back outs
 pub record AsModel (first : List ℕ) (p : Polygon) (list outs : List ℕ) (r : Result) : Type 0 where
   pub same-numbers : r .outs ≡ numbered (numbers p (scriptOf list)) outs
   pub same-sheet : sheetAt (r .place) (r .size) first (r .front) (r .back) ≡ modelSheet first p (scriptOf list)
+
+-- the result in one number, for C: the number in the low 16 bits, the place in the next 16, the length above them; that of the first sheet is not told
+abbrev pub packedRun : Result → ℕ
+packedRun r = r .number + r .place * 65536 + placed (r .place) 0 (r .size) (r .size) * 4294967296
+
+-- the place and the length are small enough for that
+abbrev pub Told : ℕ → ℕ → Type 0
+Told place size = (place ≤ 2) × (¬ (place ≡ 0) → size < 4294967296)
+
+abbrev pub Tellable : Ran → Type 0
+Tellable (Done place size) = Told place size
+Tellable (Refused k) = Unit {0}

@@ -30,6 +30,17 @@ fn filling(i: usize) -> u8 {
     (i * 151 + 89) as u8 ^ (i >> 8) as u8
 }
 
+/// An output to lend, filled, with the bytes before and after it.
+pub fn guarded(lent: usize) -> Vec<u8> {
+    (0..lent + 2 * GUARD).map(filling).collect()
+}
+
+/// The output itself.
+pub fn inside(bytes: &mut [u8]) -> &mut [u8] {
+    let end = bytes.len() - GUARD;
+    &mut bytes[GUARD..end]
+}
+
 /// The model's answer as the library packs it.
 pub fn packed(answer: Written) -> u64 {
     match answer {
@@ -47,13 +58,12 @@ pub fn same_writing(
     library: impl FnOnce(&[u8], &mut [u8]) -> u64,
     model: impl FnOnce(&[u8], &mut [u8]) -> Written,
 ) -> Outcome {
-    let before: Vec<u8> = (0..lent + 2 * GUARD).map(filling).collect();
-    let mut by_library = before.clone();
-    let mut by_model = before;
+    let mut by_library = guarded(lent);
+    let mut by_model = by_library.clone();
     let kept_input = input.to_vec();
-    let answer = library(input, &mut by_library[GUARD..GUARD + lent]);
+    let answer = library(input, inside(&mut by_library));
     let input = black_box(input);
-    let expected = packed(model(&kept_input, &mut by_model[GUARD..GUARD + lent]));
+    let expected = packed(model(&kept_input, inside(&mut by_model)));
     if answer == expected && by_library == by_model && input == kept_input {
         return Ok(());
     }
@@ -96,7 +106,7 @@ pub fn must_be(number: u16, answer: u64, input: &[u8]) -> Outcome {
     Err(Failure {
         input: hex(input),
         library: format!("number {}", answer & 0xffff),
-        model: format!("number {number}, by the order of document 01"),
+        model: format!("number {number}, by the published order"),
     })
 }
 

@@ -12,6 +12,16 @@ use bend_tests::edit::PlainPart;
 use bend_tests::plan::Pieces;
 use bend_tests::random::Random;
 
+/// A length to lend to an edit of a sheet of `length` bytes, mostly enough.
+pub fn any_room(length: usize, random: &mut Random) -> usize {
+    match random.below(12) {
+        0 => random.below(length + 5),
+        1 => length,
+        2 => length + 4,
+        _ => length + 4 + random.below(100),
+    }
+}
+
 /// Runs one list of edits. The library reads what it wrote last; the plain part
 /// is fed the edits alone.
 fn list(first: &[u8], length: usize, random: &mut Random) -> Outcome {
@@ -19,12 +29,7 @@ fn list(first: &[u8], length: usize, random: &mut Random) -> Outcome {
     let mut left = first.to_vec();
     for _ in 0..length {
         let edit = any_edit(&plain.part, random);
-        let lent = match random.below(12) {
-            0 => random.below(left.len() + 5),
-            1 => left.len(),
-            2 => left.len() + 4,
-            _ => left.len() + 4 + random.below(100),
-        };
+        let lent = any_room(left.len(), random);
         let mut out = random.bytes(lent);
         let answer = by_library(&left, edit, &mut out);
         let number = plain.edit(edit, lent);

@@ -14,6 +14,8 @@ mod normalize;
 mod plan;
 #[cfg(feature = "read_chart")]
 mod read_chart;
+#[cfg(feature = "run_edits")]
+mod run_edits;
 
 // What the groups share; which of it is used depends on the features.
 #[allow(dead_code)]
@@ -34,6 +36,8 @@ pub fn run(tests: &mut Tests) {
     edits::run(tests);
     #[cfg(feature = "edits")]
     edit_lists::run(tests);
+    #[cfg(feature = "run_edits")]
+    run_edits::run(tests);
     #[cfg(feature = "plan")]
     plan::run(tests);
     #[cfg(feature = "draw")]

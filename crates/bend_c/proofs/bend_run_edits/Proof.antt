@@ -1,0 +1,30 @@
+-- What the operation answers, in one number.
+use mathlib.Core.Path.{ap, _∙_}
+use borrow.Author.Needs.{needs}
+use native.Mathlib.Omega.{arith}
+use Rattle.keys.proofs.Crosses.{all-at}
+use Rattle.edit_list.specs.Result.{packedRun}
+use Rattle.edit_list.proofs.Packing.{result-told, tellable, lent-left}
+use Rattle.bend_c.proofs.bend_run_edits.Statement.{statement}
+use Rattle.bend_c.proofs.bend_run_edits.Tie as tie
+
+run-requires : tie.Need-run-requires
+run-requires c κs = search needs
+
+pack-run-requires : tie.Need-pack-run-requires
+pack-run-requires c κs = tellable (c .before .before .before .before .before .before .run .result) (c .before .before .before .before .before .before .run .last .1 .1 .0) (c .before .before .before .before .before .before .run .last .1 .1 .1 .0) (c .before .before .before .before .before .before .run .last .1 .1 .1 .1 .0) (c .before .before .before .before .before .before .run .ensures .0) (result-told (c .before .before .before .before .before .before .before .before .before .before .before .before .before .before .before .args .first .now) (c .before .before .before .before .before .before .before .before .before .before .before .before .before .before .before .args .list .now) (c .before .before .before .before .before .before .before .before .before .before .before .before .before .before .before .args .front .now) (c .before .before .before .before .before .before .before .before .before .before .before .before .before .before .before .args .back .now) (c .before .before .before .before .before .before .before .before .before .before .before .before .before .before .before .args .numbers .now) (all-at 0 (c .before .before .before .before .before .before .before .before .before .before .before .before .before .before .before .args .list .now) (λ i h. omega (arith, c .before .before .before .before .before .before .before .before .before .before .before .before .before .shared-slice-known2 .given i))))
+
+same-length : tie.Need-same-length
+same-length c = search needs
+
+same-length-2 : tie.Need-same-length-2
+same-length-2 c = search needs
+
+same-length-3 : tie.Need-same-length-3
+same-length-3 c = search needs
+
+returns : tie.Need-returns
+returns c = (c .pack-run .ensures (c .before .before .before .before .before .before .before .run .last .1 .1 .0) (c .before .before .before .before .before .before .before .run .last .1 .1 .1 .0) (c .before .before .before .before .before .before .before .run .last .1 .1 .1 .1 .0) ∙ ap packedRun (c .before .before .before .before .before .before .before .run .ensures .0), lent-left (c .before .before .before .before .before .before .before .run .result) (c .before .before .before .before .before .before .before .run .last .1 .1 .0) (c .before .before .before .before .before .before .before .run .last .1 .1 .1 .0) (c .before .before .before .before .before .before .before .run .last .1 .1 .1 .1 .0) (c .before .before .before .before .before .before .before .run .ensures .0))
+
+pub bend-run-edits-spec : {M : Type 1} → statement M
+bend-run-edits-spec = tie.close (tie.spec run-requires pack-run-requires same-length same-length-2 same-length-3 returns)

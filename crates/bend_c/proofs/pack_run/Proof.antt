@@ -1,0 +1,36 @@
+-- By the two cases of an answer, and by the place.
+use borrow.Author.Needs.{needs}
+use native.Mathlib.Omega.{arith}
+use Rattle.edit_list.proofs.Packing.{told-fits, packed-first, packed-buffer, packed-refused}
+use Rattle.bend_c.proofs.pack_run.Statement.{statement}
+use Rattle.bend_c.proofs.pack_run.Tie as tie
+
+enum-known-r : tie.Need-enum-known-r
+enum-known-r c = search needs
+
+returns : tie.Need-returns
+returns c = packed-first (c .before .before .before .before .args .r) _ _ (c .before .before .r .given .1) (c .if1 .taken)
+
+mul-result : tie.Need-mul-result
+mul-result c = omega (arith, told-fits (c .before .before .before .before .args .r) _ _ (c .before .before .before .before .pre) (c .before .before .r .given .1) .0)
+
+mul-result-2 : tie.Need-mul-result-2
+mul-result-2 c = omega (arith, told-fits (c .before .before .before .before .args .r) _ _ (c .before .before .before .before .pre) (c .before .before .r .given .1) .1 (c .if1 .left))
+
+add-result : tie.Need-add-result
+add-result c = omega (arith, told-fits (c .before .before .before .before .args .r) _ _ (c .before .before .before .before .pre) (c .before .before .r .given .1) .0, told-fits (c .before .before .before .before .args .r) _ _ (c .before .before .before .before .pre) (c .before .before .r .given .1) .1 (c .if1 .left))
+
+enum-known-r-2 : tie.Need-enum-known-r-2
+enum-known-r-2 c = search needs
+
+cast-result : tie.Need-cast-result
+cast-result c = search needs
+
+returns-2 : tie.Need-returns-2
+returns-2 c = packed-buffer (c .before .before .before .before .args .r) _ _ (c .before .before .r .given .1) (c .if1 .left)
+
+returns-3 : tie.Need-returns-3
+returns-3 c = packed-refused (c .before .before .before .args .r) _ (c .before .r2 .given .1)
+
+pub pack-run-spec : {M : Type 1} → statement M
+pack-run-spec = tie.close (tie.spec enum-known-r returns mul-result mul-result-2 add-result enum-known-r-2 cast-result returns-2 returns-3)

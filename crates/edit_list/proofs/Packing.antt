@@ -1,0 +1,93 @@
+-- A result in one number: its place is at most 2, and a sheet in a buffer is no longer than an edit lent, which is a number of four bytes.
+use mathlib.Core.Path.{_≡_, refl}
+use mathlib.Core.List.{List}
+use Prim.Native.Nat.{ℕ, zero, suc, _+_, _*_, _≤_, _<_}
+use native.Mathlib.Decide.{ℕ-discrete}
+use native.Mathlib.Omega.{arith}
+use lib.ListN.{length, take, length-take}
+use Rattle.polygon.specs.Lists.{All, all-nil, all-cons, choose}
+use Rattle.sheet.proofs.Bytes.{get32-below}
+use Rattle.edit.specs.Rules.{Edit}
+use Rattle.edit.specs.Calls.{edited, called}
+use Rattle.edit_list.specs.declared.Ran.{Ran}
+use Rattle.edit_list.specs.declared.Ran.the-variants.{Done, Refused}
+use Rattle.edit_list.specs.Script.{count, editAt, scriptOf, faultOf}
+use Rattle.edit_list.specs.Desk.{placed, Desk, begin, other, current, buffer, answerOf, answeredDesk, deskStep, deskAfter}
+use Rattle.edit_list.specs.Result.{Result, finished, unchanged, ranOf, resultOf, packedRun, Told, Tellable}
+use Rattle.edit_list.proofs.Tests.{edits-all}
+use Rattle.edit_list.proofs.Within.{written-within}
+
+-- an edit lends a number of four bytes
+lends-small : (list : List ℕ) → All (λ b. b < 256) list → All (λ (x : Edit × ℕ). x .1 < 4294967296) (scriptOf list)
+unfolding scriptOf editAt
+lends-small list bytes = edits-all list 0 (count list) (λ j h. get32-below (j * 13 + 9) bytes)
+
+other-told : (place : ℕ) → other place ≤ 2
+unfolding other placed
+other-told zero = omega arith
+other-told (suc zero) = omega arith
+other-told (suc (suc k)) = omega arith
+
+module _ (first : List ℕ) where
+  answer-size : (d : Desk) (x : Edit × ℕ) → answerOf first d x .size ≤ x .1
+  unfolding answerOf called
+  answer-size d x = omega (arith, written-within (edited (x .0) (current first d)) (take (x .1) (buffer d)) .0, length-take (x .1) (buffer d))
+
+  step-told : (d : Desk) (x : Edit × ℕ) → x .1 < 4294967296 → Told (d .place) (d .size) → Told (deskStep first d x .place) (deskStep first d x .size)
+  unfolding deskStep answeredDesk choose
+  step-told d x h T = go (ℕ-discrete (answerOf first d x .number) 0)
+    where
+      go : (n : Dec (answerOf first d x .number ≡ 0)) → Told (choose n (other (d .place)) (d .place)) (choose n (answerOf first d x .size) (d .size))
+      go (yes p) = (other-told (d .place), λ q. omega (arith, answer-size d x))
+      go (no p) = T
+
+  after-told : (d : Desk) {xs : List (Edit × ℕ)} → All (λ (x : Edit × ℕ). x .1 < 4294967296) xs → Told (d .place) (d .size) → Told (deskAfter first d xs .place) (deskAfter first d xs .size)
+  unfolding deskAfter
+  after-told d all-nil T = T
+  after-told d (all-cons {x} h a) T = after-told (deskStep first d x) a (step-told d x h T)
+
+  pub result-told : (list front back outs : List ℕ) → All (λ b. b < 256) list → Told (resultOf first list front back outs .place) (resultOf first list front back outs .size)
+  unfolding resultOf choose finished
+  result-told list front back outs bytes = go (faultOf list (length front) (length back) (length outs)) (ℕ-discrete _ 0)
+    where
+      go : (k : ℕ) (d : Dec (k ≡ 0)) → let r = choose d (finished first list front back outs) (unchanged k front back outs) in Told (r .place) (r .size)
+      go k (yes z) = after-told (begin first front back) (lends-small list bytes) (omega arith, λ q. absurd (q refl))
+      go k (no z) = (omega arith, λ q. absurd (q refl))
+
+-- from the result to the code's answer
+module _ (r : Ran) (front back outs : List ℕ) where
+  pub tellable : {s : Result} → ranOf r front back outs ≡ s → Told (s .place) (s .size) → Tellable r
+  tellable e T = go r (rw e T)
+    where
+      go : (r : Ran) → Told (ranOf r front back outs .place) (ranOf r front back outs .size) → Tellable r
+      go (Done place size) T = T
+      go (Refused k) T = tt
+
+  -- the lent bytes of a result are those at the return
+  pub lent-left : {s : Result} → ranOf r front back outs ≡ s → (front ≡ s .front) × ((back ≡ s .back) × (outs ≡ s .outs))
+  lent-left e = rw (← e) (go r)
+    where
+      go : (r : Ran) → let s = ranOf r front back outs in (front ≡ s .front) × ((back ≡ s .back) × (outs ≡ s .outs))
+      go (Done place size) = (refl, (refl, refl))
+      go (Refused k) = (refl, (refl, refl))
+
+-- the three cases in one number
+pub told-fits : (r : Ran) (place size : ℕ) → Tellable r → r ≡ Done place size → Told place size
+told-fits r place size t e = rw e at t
+
+pub packed-first : (r : Ran) (place size : ℕ) → r ≡ Done place size → place ≡ 0 → (front back outs : List ℕ) → 0 ≡ packedRun (ranOf r front back outs)
+unfolding placed
+packed-first r place size e p front back outs = rw (e, p) refl
+
+pub packed-buffer : (r : Ran) (place size : ℕ) → r ≡ Done place size → ¬ (place ≡ 0) → (front back outs : List ℕ) → place * 65536 + size * 4294967296 ≡ packedRun (ranOf r front back outs)
+unfolding placed
+packed-buffer r place size e p front back outs = rw e (go place p)
+  where
+    go : (k : ℕ) → ¬ (k ≡ 0) → k * 65536 + size * 4294967296 ≡ 0 + k * 65536 + placed k 0 size size * 4294967296
+    go zero p = absurd (p refl)
+    go (suc zero) p = omega arith
+    go (suc (suc k)) p = omega arith
+
+pub packed-refused : (r : Ran) (k : ℕ) → r ≡ Refused k → (front back outs : List ℕ) → k ≡ packedRun (ranOf r front back outs)
+unfolding placed
+packed-refused r k e front back outs = rw e (omega arith)

@@ -1,0 +1,38 @@
+//! Writes 200 sheets, one to a file, into the folder that the argument names:
+//! parts of 3 to 1,024 corners in eight shapes, their pairs in any order, with
+//! and without part number, and some with a byte replaced. Every run writes the
+//! same sheets.
+
+use bend_tests::part::Corner;
+use bend_tests::random::Random;
+use bend_tests::shapes::{part, SHAPES};
+use bend_tests::sheet::with_pairs;
+use std::path::Path;
+
+/// The sizes of each shape's parts; the last of them gets a byte replaced.
+const SIZES: [Corner; 25] = [
+    3, 4, 5, 6, 7, 8, 9, 12, 17, 23, 31, 48, 64, 100, 127, 200, 333, 512, 700, 900, 1022, 1023,
+    1024, 5, 40,
+];
+const DAMAGED: usize = 2;
+
+fn main() -> std::io::Result<()> {
+    let folder = std::env::args().nth(1).expect("a folder to write to");
+    let mut random = Random::new(7);
+    for shape in SHAPES {
+        for (place, n) in SIZES.into_iter().enumerate() {
+            let part = part(shape, n, &mut random);
+            let mut pairs = part.diagonals;
+            random.shuffle(&mut pairs);
+            let number = random.coin().then(|| random.bits() as u32);
+            let mut sheet = with_pairs(n, &pairs, number);
+            if place >= SIZES.len() - DAMAGED {
+                let at = random.below(sheet.len());
+                sheet[at] = random.byte();
+            }
+            let name = format!("{shape:?}_{place:02}_{n}.sheet");
+            std::fs::write(Path::new(&folder).join(name), sheet)?;
+        }
+    }
+    Ok(())
+}
