@@ -10,8 +10,8 @@ use Rattle.polygon.specs.Polygon.{Polygon, Valid}
 use Rattle.sheet.specs.Sheet.{Reading, refused, held}
 use Rattle.chart.specs.Chart.{Chart, True, Shows}
 use Rattle.chart.specs.Bytes.{bytesOf}
-use Rattle.chart_reader.specs.Decode.{countIn, strokeAt, places, strokePlaces, chartIn}
-use Rattle.chart_reader.specs.Rules.{partIn}
+use Rattle.chart_reader.specs.Decode.{countIn, strokeAt, places, strokePlaces, chartIn, Formed}
+use Rattle.chart_reader.specs.Rules.{BarRule, StrokeRule, GapRule, PartRule, partIn}
 use Rattle.chart_reader.specs.Reader.{readChart}
 use Rattle.chart_reader.specs.Charts.{Charts}
 use Rattle.chart_reader.proofs.Verdict.{Verdict, taken, by-14, by-15, by-16, by-17, by-18, read-by}
@@ -32,24 +32,37 @@ strokes-count s h = omega (arith, length-map (strokePlaces s) (strokeAt s), plac
 not-held : (k : ℕ) (p : Polygon) → refused k ≡ held p → ⊥
 not-held k p e = let z : _≡_ {A = ℕ} 0 1 = cc in omega arith
 
--- what is held is shown
-pub held-charts : (s : List ℕ) (p : Polygon) {r : Reading} → All (λ b. b < 256) s → Verdict s r → r ≡ held p → Charts s p
-held-charts s p B (taken F R S G P) e =
+-- what is held keeps every rule, and is the chart's part
+pub record Held (s : List ℕ) (p : Polygon) : Type 0 where
+  pub formed : Formed s
+  pub bars : BarRule (chartIn s)
+  pub strokes : StrokeRule (chartIn s)
+  pub gaps : GapRule (chartIn s)
+  pub part : PartRule (chartIn s)
+  pub is : partIn (chartIn s) ≡ p
+
+pub held-keeps : (s : List ℕ) (p : Polygon) {r : Reading} → Verdict s r → r ≡ held p → Held s p
+held-keeps s p (taken F R S G P) e = record { formed = F; bars = R; strokes = S; gaps = G; part = P; is = cc }
+held-keeps s p (by-14 a) e = absurd (not-held _ p e)
+held-keeps s p (by-15 a b) e = absurd (not-held _ p e)
+held-keeps s p (by-16 a b c) e = absurd (not-held _ p e)
+held-keeps s p (by-17 a b c d) e = absurd (not-held _ p e)
+held-keeps s p (by-18 a b c d f) e = absurd (not-held _ p e)
+
+-- and it is shown
+pub held-charts : (s : List ℕ) (p : Polygon) → All (λ b. b < 256) s → Held s p → Charts s p
+held-charts s p B H =
     let c : Chart = chartIn s in
-    let h : partIn c ≡ p = cc in
-    rw (← h) (record {
-      valid = rule-valid c (F .least) (S .0) (S .1) P (F .most) (strokes-count s (F .least));
+    let F = H .formed in
+    let S = H .strokes in
+    rw (← H .is) (record {
+      valid = rule-valid c (F .least) (S .0) (S .1) (H .part) (F .most) (strokes-count s (F .least));
       unnumbered = refl;
       chart = c;
       bytes = encoded B F;
-      is-true = rules-true c R S G;
-      shows = rule-shows c (F .least) (S .0) (S .1) P;
+      is-true = rules-true c (H .bars) S (H .gaps);
+      shows = rule-shows c (F .least) (S .0) (S .1) (H .part);
     })
-held-charts s p B (by-14 a) e = absurd (not-held _ p e)
-held-charts s p B (by-15 a b) e = absurd (not-held _ p e)
-held-charts s p B (by-16 a b c) e = absurd (not-held _ p e)
-held-charts s p B (by-17 a b c d) e = absurd (not-held _ p e)
-held-charts s p B (by-18 a b c d f) e = absurd (not-held _ p e)
 
 -- what is shown is held
 bytes-held : (c : Chart) (p : Polygon) → Valid p → p .number ≡ none → True c → Shows c p → readChart (bytesOf c) ≡ held p

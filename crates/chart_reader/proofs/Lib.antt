@@ -18,4 +18,5 @@ pub mod Encoded
 pub mod Same
 pub mod Accepts
 pub mod Size
+pub mod Long
 pub mod Theorems

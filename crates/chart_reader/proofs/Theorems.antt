@@ -14,11 +14,11 @@ use Rattle.chart.proofs.Theorems.{chart-is-true, chart-shows}
 use Rattle.chart_reader.specs.Reader.{readChart, chartRead}
 use Rattle.chart_reader.specs.Charts.{Charts, withoutNumber}
 use Rattle.chart_reader.proofs.Verdict.{Verdict, read-by, by-reading}
-use Rattle.chart_reader.proofs.Accepts.{held-charts, charts-held}
+use Rattle.chart_reader.proofs.Accepts.{held-keeps, held-charts, charts-held}
 
 -- Bytes are accepted, but for 8, exactly if they are those of a true chart that shows a valid part; and they are read as that part, without a number.
 pub accepts : (s : List ℕ) (p : Polygon) → All (λ b. b < 256) s → (readChart s ≡ held p) ↔ Charts s p
-accepts s p B = (λ e. held-charts s p B (by-reading s e) refl, charts-held)
+accepts s p B = (λ e. held-charts s p B (held-keeps s p (by-reading s e) refl), charts-held)
 
 -- What is refused is refused by the first number that applies: `Verdict` in Verdict.antt has a case for each.
 pub refuses : (s : List ℕ) (r : Reading) → (readChart s ≡ r) ↔ Verdict s r
@@ -29,8 +29,8 @@ pub writes : (s : List ℕ) (p : Polygon) → Charts s p → chartRead s ≡ wri
 unfolding chartRead outcome
 writes s p C = ap outcome (charts-held C)
 
--- The chart of every valid part is read back as that part, without its number.
-chart-charts : (p : Polygon) → Valid p → Charts (bytesOf (chartOf p)) (withoutNumber p)
+-- The chart of every valid part is a chart of it, and is read back as that part, without its number.
+unfoldable pub chart-charts : (p : Polygon) → Valid p → Charts (bytesOf (chartOf p)) (withoutNumber p)
 chart-charts p v =
     let S = chart-shows p v in
     record {

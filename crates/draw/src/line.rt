@@ -1,21 +1,23 @@
-// The line that the program prints of a sheet.
+// The line that the program prints of a sheet, and the line of any part.
 ghost use Prim.Native.Nat.{_≤_};
+ghost use lib.ListN.{length};
+ghost use Rattle.polygon.specs.Polygon.{Valid};
 ghost use Rattle.log_line.specs.Put.{Put};
 ghost use Rattle.log_line.specs.Line.{line};
-ghost use Rattle.draw.specs.Printed.{printed};
-ghost use Rattle.draw.specs.Told.{told};
+ghost use Rattle.draw.specs.Printed.{factsOf, printed};
+ghost use Rattle.draw.specs.Told.{partOf, told};
 use log_line::Facts;
 use log_line::put_line;
 use log_line::put_refused;
 use plan::Planned;
-use plan::plan;
+use plan::plan_part;
 use sheet::Head;
 use sheet::Read;
 use sheet::reader::read_sheet;
 
 // Writes the line of a part with these counts. "Two rows a level and one more"; "Columns = n − 2 + umbrellas + stems."
-fn part_line(h: Head, levels: u16, umbrellas: u16, stems: u16, out: &mut [u8; 256]) -> usize
-    requires { ⌜ (2 ≤ h .n) × (h .n ≤ 1024) ⌝ }
+fn counts_line(h: Head, levels: u16, umbrellas: u16, stems: u16, out: &mut [u8]) -> usize
+    requires { ⌜ (2 ≤ h .n) × (h .n ≤ 1024) × (256 ≤ length (now out)) ⌝ }
     ensures { λ r. ⌜ Put (line (told h levels umbrellas stems)) (now (out .entry)) 0 (now (out .exit)) r ⌝ }
 {
     let rows = 2 * levels as usize + 1;
@@ -33,6 +35,18 @@ fn part_line(h: Head, levels: u16, umbrellas: u16, stems: u16, out: &mut [u8; 25
     put_line(f, out)
 }
 
+// Writes the line of the part of a head and the keys of its diagonals, and says how long it is.
+pub fn part_line(h: Head, keys: &[u32], out: &mut [u8]) -> usize
+    requires { ⌜ Valid (partOf h (now keys)) ⌝ }
+    requires { ⌜ 256 ≤ length (now out) ⌝ }
+    ensures { λ r. ⌜ Put (line (factsOf (partOf h (now (keys .entry))))) (now (out .entry)) 0 (now (out .exit)) r ⌝ }
+{
+    match plan_part(keys, h.n) {
+        Planned::Refused(k) => put_refused(k as usize, out),
+        Planned::Counts(l, u, s) => counts_line(h, l, u, s, out),
+    }
+}
+
 // Writes the line of a sheet's part, or of its refusal, and says how long it is.
 pub fn line(sheet: &[u8], out: &mut [u8; 256]) -> usize
     ensures { λ r. ⌜ Put (printed (now (sheet .entry))) (now (out .entry)) 0 (now (out .exit)) r ⌝ }
@@ -40,9 +54,9 @@ pub fn line(sheet: &[u8], out: &mut [u8; 256]) -> usize
     let mut keys = [0u32; 1021];
     match read_sheet(sheet, &mut keys) {
         Read::Refused(k) => put_refused(k as usize, out),
-        Read::Held(h) => match plan(sheet) {
-            Planned::Refused(k) => put_refused(k as usize, out),
-            Planned::Counts(l, u, s) => part_line(h, l, u, s, out),
-        },
+        Read::Held(h) => {
+            let m = h.n - 3;
+            part_line(h, &keys[..m], out)
+        }
     }
 }

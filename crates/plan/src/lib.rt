@@ -26,7 +26,7 @@ pub enum Planned {
 }
 
 // The counts of a part of n corners from the keys of its diagonals.
-fn plan_part(keys: &[u32], n: usize) -> Planned
+pub fn plan_part(keys: &[u32], n: usize) -> Planned
     requires { ⌜ Triangulated n (edgesOf (now keys)) ⌝ }
     requires { ⌜ n ≤ 1024 ⌝ }
     ensures { λ r. ⌜ plannedOf r ≡ countsOf (best (treeOf n (edgesOf (now (keys .entry))))) ⌝ }

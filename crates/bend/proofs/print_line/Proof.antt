@@ -3,7 +3,7 @@ use borrow.Author.Needs.{needs}
 use mathlib.Core.Path.{sym}
 use native.Mathlib.Omega.{arith}
 use lib.Seq.{length-take-le}
-use Rattle.bend.proofs.Room.{room-kept}
+use Rattle.log_line.proofs.Putting.{put-length}
 use Rattle.bend.proofs.print_line.Statement.{statement}
 use Rattle.bend.proofs.print_line.Tie as tie
 use Rattle.bend.proofs.print_line.Reads as reads
@@ -15,10 +15,10 @@ line-requires : tie.Need-line-requires
 line-requires c κs = search needs
 
 array-share-prefix-text : tie.Need-array-share-prefix-text
-array-share-prefix-text c = omega (arith, room-kept (c .before .line .ensures))
+array-share-prefix-text c = omega (arith, put-length (c .before .line .ensures))
 
 slice-aggregate-write-all : tie.Need-slice-aggregate-write-all
-slice-aggregate-write-all c = sym (length-take-le (c .before .before .line .result) (c .before .before .line .last .1 .0) (omega (arith, room-kept (c .before .before .line .ensures))))
+slice-aggregate-write-all c = sym (length-take-le (c .before .before .line .result) (c .before .before .line .last .1 .0) (omega (arith, put-length (c .before .before .line .ensures))))
 
 write-all-requires : tie.Need-write-all-requires
 write-all-requires c κs = search needs

@@ -1,0 +1,76 @@
+-- Lines written one behind another: one more corner, one more diagonal.
+-- Rests on runs of bytes behind each other (crate log_line).
+use mathlib.Core.Path.{_≡_, refl}
+use mathlib.Core.List.{List, [], _∷_, _++_, map-append, append-nil, flatMap}
+use Prim.Native.Nat.{ℕ, _+_, _*_, _/_, _%_, _<_, _≤_}
+use native.Mathlib.Numerals.{add-one}
+use native.Mathlib.Omega.{arith}
+use lib.ListN.{length, take, getD}
+use lib.Seq.{take-suc, take-all}
+use Rattle.polygon.specs.Lists.{numbers, below}
+use Rattle.codec.specs.Numbers.{get16}
+use Rattle.keys.specs.Keys.{edgeOf, edgesOf}
+use Rattle.log_line.specs.Line.{decimal, columnsWord}
+use Rattle.log_line.specs.Put.{Put}
+use Rattle.log_line.proofs.Putting.{put-then}
+use Rattle.chart_writer.proofs.Below.{below-next}
+use Rattle.chart_reader.specs.Decode.{countIn, barAt, chartIn}
+use Rattle.chart_reader.proofs.Gapped.{flat-append}
+use Rattle.chart_text.specs.Text.{cornerWord, rowWord, toWord, diagonalWord, cornerLine, diagonalLine, cornerLines, diagonalLines}
+
+-- the words and numbers of a line, grouped as the code writes them, are the line
+pub corner-put : (s : List ℕ) (bar x row left right : ℕ) {o₀ o₁ : List ℕ} {a b : ℕ} → row ≡ get16 s bar → left ≡ get16 s (bar + 2) → right ≡ get16 s (bar + 4)
+    → Put ((cornerWord ++ decimal x) ++ ((rowWord ++ decimal row) ++ ((columnsWord ++ decimal left) ++ ((toWord ++ decimal right) ++ (10 ∷ []))))) o₀ a o₁ b
+    → Put (cornerLine x (barAt s bar)) o₀ a o₁ b
+unfolding cornerLine
+corner-put s bar x row left right e f g p = rw (e, f, g) at p
+
+pub diagonal-put : (k low high : ℕ) {o₀ o₁ : List ℕ} {a b : ℕ} → low ≡ k / 1024 → high ≡ k % 1024
+    → Put ((diagonalWord ++ decimal low) ++ (((32 ∷ []) ++ decimal high) ++ (10 ∷ []))) o₀ a o₁ b
+    → Put (diagonalLine (edgeOf k)) o₀ a o₁ b
+unfolding diagonalLine
+diagonal-put k low high e f p = rw (e, f) at p
+
+-- no line yet
+none-put : (o : List ℕ) (a : ℕ) → Put [] o a o a
+none-put o a = record { bytes = refl; end = omega arith }
+
+-- one line more
+more-put : {A : Type 0} (f : A → List ℕ) (xs : List A) (x : A) {o₀ o₁ o₂ : List ℕ} {a b c : ℕ}
+    → Put (flatMap f xs) o₀ a o₁ b → Put (f x) o₁ b o₂ c → Put (flatMap f (xs ++ (x ∷ []))) o₀ a o₂ c
+unfolding flatMap
+more-put f xs x p q = rw (flat-append f xs (x ∷ []), append-nil (f x)) (put-then p q)
+
+-- the lines of the first i corners of a chart
+abbrev pub cornersTo : List ℕ → ℕ → List ℕ
+cornersTo s i = flatMap (λ x. cornerLine x (barAt s (6 + 6 * x))) (below i)
+
+module _ (s : List ℕ) where
+  pub corners-none : (o : List ℕ) (a : ℕ) → Put (cornersTo s 0) o a o a
+  unfolding below numbers flatMap
+  corners-none o a = none-put o a
+
+  pub corners-more : (i : ℕ) {o₀ o₁ o₂ : List ℕ} {a b c : ℕ}
+      → Put (cornersTo s i) o₀ a o₁ b → Put (cornerLine i (barAt s (6 + 6 * i))) o₁ b o₂ c → Put (cornersTo s (i + 1)) o₀ a o₂ c
+  corners-more i p q = rw (add-one i, below-next i) (more-put (λ x. cornerLine x (barAt s (6 + 6 * x))) (below i) i p q)
+
+  pub corners-all : (i : ℕ) → i ≡ countIn s → cornersTo s i ≡ cornerLines (chartIn s)
+  unfolding cornerLines
+  corners-all i e = rw e
+
+-- the lines of the first i keys' diagonals
+abbrev pub diagonalsTo : List ℕ → ℕ → List ℕ
+diagonalsTo ks i = flatMap diagonalLine (edgesOf (take i ks))
+
+module _ (ks : List ℕ) where
+  pub diagonals-none : (o : List ℕ) (a : ℕ) → Put (diagonalsTo ks 0) o a o a
+  unfolding flatMap
+  diagonals-none o a = none-put o a
+
+  pub diagonals-more : (i : ℕ) → i < length ks → {o₀ o₁ o₂ : List ℕ} {a b c : ℕ}
+      → Put (diagonalsTo ks i) o₀ a o₁ b → Put (diagonalLine (edgeOf (getD ks i 0))) o₁ b o₂ c → Put (diagonalsTo ks (i + 1)) o₀ a o₂ c
+  diagonals-more i h p q = rw (add-one i, take-suc ks i 0 h, map-append edgeOf (take i ks) (getD ks i 0 ∷ [])) (more-put diagonalLine (edgesOf (take i ks)) (edgeOf (getD ks i 0)) p q)
+
+  pub diagonals-all : (i : ℕ) → length ks ≤ i → diagonalsTo ks i ≡ diagonalLines (edgesOf ks)
+  unfolding diagonalLines
+  diagonals-all i h = rw (take-all i ks h)

@@ -1,0 +1,46 @@
+-- The loop's invariant: the lines of the first x corners are written.
+use mathlib.Core.Path.{_≡_, refl}
+use Prim.Native.Nat.{_+_, _*_, _-_, _≤_}
+use native.Mathlib.Omega.{arith}
+use lib.ListN.{length}
+use Rattle.log_line.specs.Put.{Put}
+use Rattle.chart_reader.specs.Decode.{countIn}
+use Rattle.chart_text.proofs.Lines.{cornersTo, corners-none, corners-more, corners-all}
+use Rattle.chart_text.proofs.put_corners.Statement.{statement}
+use Rattle.chart_text.proofs.put_corners.Tie as tie
+
+abbrev Inv-loop : tie.InvT-loop
+Inv-loop out₀ at chart n end₀ x₀ out end x = (x ≤ n) × (length out ≡ length out₀) × (end ≤ at + 106 * x) × Put (cornersTo chart x) out₀ at out end
+
+abbrev μ-loop : tie.MeasureT-loop
+μ-loop out₀ at chart n end₀ x₀ out end x = n - x
+
+loop-holds : tie.Need-loop-holds Inv-loop μ-loop
+loop-holds c = (omega arith, refl, omega arith, corners-none (c .before .before .args .chart .now) (c .before .before .args .out .now) (c .before .before .args .at))
+
+mul-put-corner : tie.Need-mul-put-corner Inv-loop μ-loop
+mul-put-corner c = omega arith
+
+add-put-corner : tie.Need-add-put-corner Inv-loop μ-loop
+add-put-corner c = omega arith
+
+put-corner-requires : tie.Need-put-corner-requires Inv-loop μ-loop
+put-corner-requires c κs = omega (arith, c .before .before .loop .inv, c .before .before .before .before .before .pre .0, c .before .before .before .before .before .pre .1)
+
+add-x : tie.Need-add-x Inv-loop μ-loop
+add-x c = omega arith
+
+loop-less : tie.Need-loop-less Inv-loop μ-loop
+loop-less c = omega arith
+
+loop-again : tie.Need-loop-again Inv-loop μ-loop
+loop-again c = (omega arith, omega (arith, c .before .before .put-corner .kept .0, c .before .before .before .before .before .loop .inv .1), omega (arith, c .before .before .put-corner .ensures .1, c .before .before .before .before .before .loop .inv .2), corners-more (c .before .before .before .before .before .before .before .before .args .chart .now) (c .before .before .before .before .before .loop .x) (c .before .before .before .before .before .loop .inv .3) (c .before .before .put-corner .ensures .0))
+
+same-length : tie.Need-same-length Inv-loop μ-loop
+same-length c = c .before .loop .inv .1
+
+returns : tie.Need-returns Inv-loop μ-loop
+returns c = let e : c .before .loop .x ≡ countIn (c .before .before .before .before .args .chart .now) = omega (arith, c .before .before .before .before .pre .1 .count) in (rw (corners-all (c .before .before .before .before .args .chart .now) (c .before .loop .x) e) at (c .before .loop .inv .3), omega arith)
+
+pub put-corners-spec : {M : Type 1} → statement M
+put-corners-spec = tie.close (tie.spec Inv-loop μ-loop loop-holds mul-put-corner add-put-corner put-corner-requires add-x loop-less loop-again same-length returns)

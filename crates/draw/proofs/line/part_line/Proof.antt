@@ -1,0 +1,38 @@
+-- By what was planned, by the laws of Lines.antt.
+use borrow.Author.Needs.{needs}
+use Rattle.draw.proofs.Lines.{planned-refused, told-facts}
+use Rattle.draw.proofs.line.part_line.Statement.{statement}
+use Rattle.draw.proofs.line.part_line.Tie as tie
+
+plan-part-requires : tie.Need-plan-part-requires
+plan-part-requires c κs = search needs
+
+enum-known-k : tie.Need-enum-known-k
+enum-known-k c = search needs
+
+cast-put-refused : tie.Need-cast-put-refused
+cast-put-refused c = search needs
+
+put-refused-requires : tie.Need-put-refused-requires
+put-refused-requires c κs = search needs
+
+enum-known-l : tie.Need-enum-known-l
+enum-known-l c = search needs
+
+counts-line-requires : tie.Need-counts-line-requires
+counts-line-requires c κs = search needs
+
+same-length : tie.Need-same-length
+same-length c = search needs
+
+returns : tie.Need-returns
+returns c = absurd (planned-refused (c .before .before .before .before .before .before .before .before .before .before .args .h) (c .before .before .before .before .before .before .before .before .before .before .args .keys .now) (c .before .before .before .before .before .before .before .before .before .before .pre .0) (c .before .before .before .before .before .before .before .plan-part .result) (c .before .before .before .before .before .before .before .plan-part .ensures) _ (c .before .before .before .before .before .k .given .1))
+
+same-length-2 : tie.Need-same-length-2
+same-length-2 c = search needs
+
+returns-2 : tie.Need-returns-2
+returns-2 c = rw (← told-facts (c .before .before .before .before .before .before .before .before .before .before .args .h) (c .before .before .before .before .before .before .before .before .before .before .args .keys .now) (c .before .before .before .before .before .before .before .before .before .before .pre .0) (c .before .before .before .before .before .before .before .plan-part .result) (c .before .before .before .before .before .before .before .plan-part .ensures) _ _ _ (c .before .before .before .before .before .l .given .1)) (c .before .before .counts-line .ensures)
+
+pub part-line-spec : {M : Type 1} → statement M
+part-line-spec = tie.close (tie.spec plan-part-requires enum-known-k cast-put-refused put-refused-requires enum-known-l counts-line-requires same-length returns same-length-2 returns-2)

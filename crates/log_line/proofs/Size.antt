@@ -1,0 +1,32 @@
+-- How long a line is at most. Rests on the digits of a number, 20 at most.
+use mathlib.Core.List.{List, [], _∷_, _++_}
+use mathlib.Core.Option.{Option, none, some}
+use Prim.Native.Nat.{ℕ, _+_, _≤_}
+use native.Mathlib.Omega.{arith}
+use lib.ListN.{length, length-append}
+use Rattle.log_line.specs.Line.{decimal, cornersWord, levelsWord, umbrellasWord, stemsWord, rowsWord, columnsWord, numberWord, Facts, line, refusedLine}
+use Rattle.log_line.proofs.Digits.{digits-length}
+
+before : (n : ℕ) (xs : List ℕ) → length (decimal n ++ xs) ≤ 20 + length xs
+unfolding decimal
+before n xs = omega (arith, length-append (decimal n) xs, digits-length 20 n)
+
+number-before : (k : Option ℕ) (xs : List ℕ) → length (numberWord k ++ xs) ≤ 20 + length xs
+unfolding numberWord
+number-before none xs = omega arith
+number-before (some k) xs = before k xs
+
+pub line-size : (f : Facts) → length (line f) ≤ 256
+unfolding line
+line-size f =
+    let a : List ℕ = columnsWord ++ (decimal (f .columns) ++ (10 ∷ [])) in
+    let b : List ℕ = rowsWord ++ (decimal (f .rows) ++ a) in
+    let c : List ℕ = stemsWord ++ (decimal (f .stems) ++ b) in
+    let d : List ℕ = umbrellasWord ++ (decimal (f .umbrellas) ++ c) in
+    let e : List ℕ = levelsWord ++ (decimal (f .levels) ++ d) in
+    let g : List ℕ = cornersWord ++ (decimal (f .corners) ++ e) in
+    omega (arith, number-before (f .number) g, before (f .corners) e, before (f .levels) d, before (f .umbrellas) c, before (f .stems) b, before (f .rows) a, before (f .columns) (10 ∷ []))
+
+pub refused-size : (k : ℕ) → length (refusedLine k) ≤ 256
+unfolding refusedLine
+refused-size k = omega (arith, before k (10 ∷ []))
