@@ -12,8 +12,7 @@ use crate::columns::draw_piece;
 use crate::rows::Line;
 use crate::rows::place_rows;
 use crate::steps::Part;
-use plan::levels::levels;
-use plan::tables::tables;
+use plan::filled::fill;
 
 pub mod columns;
 pub mod rows;
@@ -39,21 +38,19 @@ pub fn place_part(keys: &[u32], n: usize, columns: &mut [u32; 4096], rows: &mut 
     let mut handle = [0u16; 1022];
     let mut fan_a = [0u16; 1022];
     let mut fan_b = [0u16; 1022];
-    tables(keys, n, &mut apex, &mut left, &mut right);
-    let root = n - 3;
-    let v = n - 1;
-    let s = levels(
-        &apex,
-        &left,
-        &right,
+    let s = fill(
+        keys,
+        n,
+        &mut apex,
+        &mut left,
+        &mut right,
         &mut ud,
         &mut handle,
         &mut fan_a,
         &mut fan_b,
-        root,
-        0,
-        v,
     );
+    let root = n - 3;
+    let v = n - 1;
     let w = draw_piece(
         &apex,
         &left,

@@ -1,10 +1,10 @@
--- From the tables and counts of a part, and from what a sheet holds, to what the operation answers.
--- Rests on Held.antt and Counted.antt, on the theorems of the crate umbrella and on the laws of reading of the crate sheet.
-use mathlib.Core.Path.{_≡_, refl, _∙_}
+-- From the numbers and counts of a part, and from what a sheet holds, to what the operation answers.
+-- Rests on Counted.antt, on the theorems of the crate umbrella and on the laws of reading of the crate sheet.
+use mathlib.Core.Path.{_≡_, _∙_}
 use mathlib.Core.List.{List}
 use Prim.Native.Nat.{ℕ, _+_, _*_, _-_}
 use native.Mathlib.Omega.{arith}
-use lib.ListN.{length, take, replicate, length-replicate}
+use lib.ListN.{take}
 use Rattle.polygon.specs.Polygon.{Polygon, Triangulated}
 use Rattle.polygon.specs.Tree.{Tree, treeOf}
 use Rattle.keys.specs.Keys.{edgesOf}
@@ -13,7 +13,6 @@ use Rattle.sheet.specs.Held.{polygonOf}
 use Rattle.sheet.specs.declared.Head.{Head}
 use Rattle.sheet.proofs.Asks.{held-form}
 use Rattle.sheet.proofs.Valid.{form-triangulates}
-use Rattle.umbrella.specs.Numbers.{ud, handle, fanA, fanB}
 use Rattle.umbrella.specs.Best.{best}
 use Rattle.umbrella.proofs.Theorems.{computed-has}
 use Rattle.plan.specs.declared.levels.Six.{Six}
@@ -21,28 +20,10 @@ use Rattle.plan.specs.declared.counts.Role.the-variants.{Hung}
 use Rattle.plan.specs.declared.counts.Tally.{Tally}
 use Rattle.plan.specs.declared.Planned.{Planned}
 use Rattle.plan.specs.declared.Planned.the-variants.{Counts, Refused}
-use Rattle.plan.specs.Shows.{Shows}
-use Rattle.plan.specs.Numbered.{six, Stored, Known}
+use Rattle.plan.specs.Numbered.{six}
 use Rattle.plan.specs.Roles.{counted}
 use Rattle.plan.specs.Answer.{countsOf, plannedOf, answer, planned, packedPlan}
-use Rattle.plan.proofs.Held.{holds}
 use Rattle.plan.proofs.Counted.{counted-best}
-
--- a table as it is made, and the tables after the recursion for the levels
-abbrev fresh : List ℕ
-fresh = replicate 1022 0
-
-pub known-stored : {apex left right : List ℕ} {e u v : ℕ} {t : Tree} {w h a b : List ℕ} {r : Six} → Shows apex left right e u v t → Stored left right e t fresh fresh fresh fresh w h a b r → Known apex left right w h a b e u v t
-unfolding ud
-known-stored {apex} {left} {right} s S =
-    let n : length fresh ≡ 1022 = length-replicate {A = ℕ} 1022 0 in
-    record {
-      shows = s;
-      ud-held = rw (S .ud-stored) (holds ud refl apex left right fresh n s);
-      handle-held = rw (S .handle-stored) (holds handle refl apex left right fresh n s);
-      fan-a-held = rw (S .fan-a-stored) (holds fanA refl apex left right fresh n s);
-      fan-b-held = rw (S .fan-b-stored) (holds fanB refl apex left right fresh n s);
-    }
 
 -- the counts of the plan drawn
 pub part-planned : (t : Tree) (d : ℕ) (s : Six) (x : Tally) → s ≡ six t → x ≡ counted Hung d t → plannedOf (Counts (s .ud) (x .umbrellas) (x .stems)) ≡ countsOf (best t)

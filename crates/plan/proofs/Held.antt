@@ -5,11 +5,13 @@ use mathlib.Core.List.{List}
 use Prim.Native.Nat.{ℕ, _+_, _<_}
 use native.Mathlib.Decide.{ℕ-discrete}
 use native.Mathlib.Omega.{arith}
-use lib.ListN.{length, set, getD, length-set, List·getD-eq-default}
+use lib.ListN.{length, set, getD, replicate, length-set, length-replicate, List·getD-eq-default}
 use lib.Seq.{getD-set-same, getD-set-other}
 use Rattle.polygon.specs.Tree.{Tree, leaf, node}
+use Rattle.umbrella.specs.Numbers.{ud, handle, fanA, fanB}
+use Rattle.plan.specs.declared.levels.Six.{Six}
 use Rattle.plan.specs.Shows.{Shows, side, triangle}
-use Rattle.plan.specs.Numbered.{stored, Holds}
+use Rattle.plan.specs.Numbered.{stored, Stored, Holds, Known}
 use Rattle.plan.proofs.Pieces.{opened, closed}
 
 module _ {apex left right : List ℕ} where
@@ -88,3 +90,19 @@ module _ (f : Tree → ℕ) (none : f leaf ≡ 0) (apex left right : List ℕ) w
 pub held-root : (f : Tree → ℕ) (left right xs : List ℕ) (e : ℕ) (t : Tree) → Holds f left right xs e t → getD xs e 0 ≡ f t
 held-root f left right xs e leaf h = h
 held-root f left right xs e (node l r) h = h .0
+
+-- a table as it is made
+pub fresh-length : length {A = ℕ} (replicate 1022 0) ≡ 1022
+fresh-length = length-replicate {A = ℕ} 1022 0
+
+-- the tables after the recursion for the levels
+pub known-stored : {apex left right : List ℕ} {e u v : ℕ} {t : Tree} {w₀ h₀ a₀ b₀ w h a b : List ℕ} {r : Six} → Shows apex left right e u v t → (length w₀ ≡ 1022) × (length h₀ ≡ 1022) × (length a₀ ≡ 1022) × (length b₀ ≡ 1022) → Stored left right e t w₀ h₀ a₀ b₀ w h a b r → Known apex left right w h a b e u v t
+unfolding ud
+known-stored {apex} {left} {right} {w₀ = w₀} {h₀} {a₀} {b₀} s n S =
+    record {
+      shows = s;
+      ud-held = rw (S .ud-stored) (holds ud refl apex left right w₀ (n .0) s);
+      handle-held = rw (S .handle-stored) (holds handle refl apex left right h₀ (n .1) s);
+      fan-a-held = rw (S .fan-a-stored) (holds fanA refl apex left right a₀ (n .2) s);
+      fan-b-held = rw (S .fan-b-stored) (holds fanB refl apex left right b₀ (n .3) s);
+    }

@@ -1,5 +1,5 @@
 // The operation Plan: levels, umbrellas and stems of the plan drawn of a sheet's part.
-// tables.rt holds the part's tree in tables, levels.rt works out the numbers of its pieces, counts.rt counts the umbrellas and stems of the plan drawn.
+// tables.rt holds the part's tree in tables, levels.rt works out the numbers of its pieces, filled.rt does both, counts.rt counts the umbrellas and stems of the plan drawn.
 // The definitions that the contracts cite are in specs/; Answer.antt says what the operation answers.
 ghost use mathlib.Core.Path.{_≡_};
 ghost use Prim.Native.Nat.{_≤_};
@@ -10,12 +10,12 @@ ghost use Rattle.umbrella.specs.Best.{best};
 ghost use Rattle.plan.specs.Answer.{plannedOf, countsOf, planned};
 use crate::counts::Role;
 use crate::counts::count;
-use crate::levels::levels;
-use crate::tables::tables;
+use crate::filled::fill;
 use sheet::Read;
 use sheet::reader::read_sheet;
 
 pub mod counts;
+pub mod filled;
 pub mod levels;
 pub mod tables;
 
@@ -38,21 +38,19 @@ pub fn plan_part(keys: &[u32], n: usize) -> Planned
     let mut handle = [0u16; 1022];
     let mut fan_a = [0u16; 1022];
     let mut fan_b = [0u16; 1022];
-    tables(keys, n, &mut apex, &mut left, &mut right);
-    let root = n - 3;
-    let v = n - 1;
-    let s = levels(
-        &apex,
-        &left,
-        &right,
+    let s = fill(
+        keys,
+        n,
+        &mut apex,
+        &mut left,
+        &mut right,
         &mut ud,
         &mut handle,
         &mut fan_a,
         &mut fan_b,
-        root,
-        0,
-        v,
     );
+    let root = n - 3;
+    let v = n - 1;
     let t = count(
         &apex,
         &left,
