@@ -12,7 +12,7 @@ use Rattle.codec.specs.Answer.{Answer, refusal, write, written, answered}
 use Rattle.codec.specs.declared.Written.the-variants as is
 use Rattle.sheet.specs.Sheet.{Reading, refused, held, readSheet}
 use Rattle.sheet.proofs.Size.{read-counted}
-use Rattle.plan.proofs.Answers.{held-triangulated}
+use Rattle.sheet.proofs.Valid.{read-triangulated}
 use Rattle.umbrella.specs.Best.{best}
 use Rattle.chart.specs.Chart.{layout, chart, chartOf}
 use Rattle.chart.specs.Bytes.{bytesOf}
@@ -31,7 +31,7 @@ For s out room r after = (bars : List Bar) → length bars ≡ room → drawing 
 -- the chart has the part's corners
 corners : (s : List ℕ) (p : Polygon) → readSheet s ≡ held p → chartOf p .n ≡ p .n
 unfolding chartOf chart layout
-corners s p e = omega (arith, tree-of (p .n) (p .ds) (held-triangulated s p e) .size, read-counted s p e)
+corners s p e = omega (arith, tree-of (p .n) (p .ds) (read-triangulated s p e) .size, read-counted s p e)
 
 -- a sheet that is refused
 pub for-refused : (s out : List ℕ) (room k : ℕ) → readSheet s ≡ refused k → For s out room (Refused k) out

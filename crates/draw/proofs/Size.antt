@@ -8,7 +8,7 @@ use Rattle.polygon.proofs.TreeTheorem.{tree-of}
 use Rattle.codec.specs.Answer.{written}
 use Rattle.sheet.specs.Sheet.{Reading, refused, held, readSheet}
 use Rattle.sheet.proofs.Size.{read-counted, written-size}
-use Rattle.plan.proofs.Answers.{held-triangulated}
+use Rattle.sheet.proofs.Valid.{read-triangulated}
 use Rattle.umbrella.specs.Best.{planOf}
 use Rattle.chart.specs.Chart.{chartOf}
 use Rattle.chart.specs.Bytes.{bytesOf}
@@ -22,4 +22,4 @@ drawn-size s out = go (readSheet s) refl
   where
     go : (r : Reading) → readSheet s ≡ r → written (charted (readSheet s)) out .size ≤ 20465
     go (refused k) e = rw e (omega arith)
-    go (held p) e = rw e (omega (arith, written-size (bytesOf (chartOf p)) out, bytes-size (chartOf p) .1, chart-size (planOf p) .0, chart-strokes (planOf p), read-counted s p e .0, tree-of (p .n) (p .ds) (held-triangulated s p e) .size))
+    go (held p) e = rw e (omega (arith, written-size (bytesOf (chartOf p)) out, bytes-size (chartOf p) .1, chart-size (planOf p) .0, chart-strokes (planOf p), read-counted s p e .0, tree-of (p .n) (p .ds) (read-triangulated s p e) .size))

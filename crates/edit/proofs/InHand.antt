@@ -1,12 +1,11 @@
 -- A part in the code's hands: what follows from a refusal of a rule, and from a rule that is taken.
-use mathlib.Core.Path.{_≡_, refl, ap, sym, _∙_}
+use mathlib.Core.Path.{_≡_, ap, _∙_}
 use mathlib.Core.List.{List}
-use Prim.Native.Nat.{ℕ, suc, _+_, _-_, _≤_, _<_}
+use Prim.Native.Nat.{ℕ, _-_, _≤_, _<_}
 use native.Mathlib.Omega.{arith}
 use lib.ListN.{length, take}
-use lib.Seq.{length-take-le}
 use Rattle.polygon.specs.Lists.{All, Sorted}
-use Rattle.polygon.specs.Polygon.{Edge, Ascending, Diagonal, Triangulated, Polygon}
+use Rattle.polygon.specs.Polygon.{Edge, Ascending, Diagonal, Polygon}
 use Rattle.polygon.specs.Order.{insert}
 use Rattle.codec.specs.Answer.{refusal, written, write}
 use Rattle.keys.specs.Keys.{keyOf, edgeOf, edgesOf}
@@ -14,19 +13,15 @@ use Rattle.keys.specs.Sort.{insertKey}
 use Rattle.keys.proofs.InOrder.{edge-of-key, insert-edges, ascends-sorted, edges-ascend}
 use Rattle.sheet.specs.declared.Head.{Head}
 use Rattle.sheet.specs.Sheet.{refused, held, readSheet, normalSheet, outcome}
-use Rattle.sheet.specs.Held.{polygonOf, Small, Fitting}
-use Rattle.sheet.proofs.Asks.{held-form}
+use Rattle.sheet.specs.Held.{polygonOf, Fitting}
 use Rattle.sheet.proofs.Found.{small-keys}
-use Rattle.sheet.proofs.Valid.{form-triangulates}
+use Rattle.sheet.proofs.Valid.{read-triangulated}
 use Rattle.edit.specs.Rules.{Edit, rule}
 use Rattle.edit.specs.Calls.{onHeld, edited}
 use Rattle.edit.specs.Part.{Part}
 use Rattle.edit.proofs.Rule.{Takes, given, rule-takes}
 
 -- a part that was read
-read-triangulated : (s : List ℕ) (p : Polygon) → readSheet s ≡ held p → Triangulated (p .n) (p .ds)
-read-triangulated s p e = let W = held-form s p e in rw (W .1) (form-triangulates (W .0))
-
 pub part-read : (s : List ℕ) (h : Head) (ks : List ℕ) → readSheet s ≡ held (polygonOf h ks) → Fitting h ks → 1021 ≤ length ks → Part h ks
 part-read s h ks e F l = record { fits = F; room = l; triangulated = read-triangulated s (polygonOf h ks) e }
 

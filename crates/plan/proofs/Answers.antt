@@ -1,18 +1,15 @@
 -- From the numbers and counts of a part, and from what a sheet holds, to what the operation answers.
--- Rests on Counted.antt, on the theorems of the crate umbrella and on the laws of reading of the crate sheet.
+-- Rests on Counted.antt and on the theorems of the crate umbrella.
 use mathlib.Core.Path.{_≡_, _∙_}
 use mathlib.Core.List.{List}
 use Prim.Native.Nat.{ℕ, _+_, _*_, _-_}
 use native.Mathlib.Omega.{arith}
 use lib.ListN.{take}
-use Rattle.polygon.specs.Polygon.{Polygon, Triangulated}
 use Rattle.polygon.specs.Tree.{Tree, treeOf}
 use Rattle.keys.specs.Keys.{edgesOf}
 use Rattle.sheet.specs.Sheet.{refused, held, readSheet}
 use Rattle.sheet.specs.Held.{polygonOf}
 use Rattle.sheet.specs.declared.Head.{Head}
-use Rattle.sheet.proofs.Asks.{held-form}
-use Rattle.sheet.proofs.Valid.{form-triangulates}
 use Rattle.umbrella.specs.Best.{best}
 use Rattle.umbrella.proofs.Theorems.{computed-has}
 use Rattle.plan.specs.declared.levels.Six.{Six}
@@ -29,10 +26,7 @@ use Rattle.plan.proofs.Counted.{counted-best}
 pub part-planned : (t : Tree) (d : ℕ) (s : Six) (x : Tally) → s ≡ six t → x ≡ counted Hung d t → plannedOf (Counts (s .ud) (x .umbrellas) (x .stems)) ≡ countsOf (best t)
 part-planned t d s x p q = let k = q ∙ counted-best t d in rw (p, k, ← computed-has t)
 
--- the part that a sheet holds
-pub held-triangulated : (s : List ℕ) (p : Polygon) → readSheet s ≡ held p → Triangulated (p .n) (p .ds)
-held-triangulated s p e = let W = held-form s p e in rw (W .1) (form-triangulates (W .0))
-
+-- what the sheet holds
 pub refused-planned : (s : List ℕ) (k : ℕ) → readSheet s ≡ refused k → plannedOf (Refused k) ≡ planned s
 unfolding planned answer
 refused-planned s k e = rw e

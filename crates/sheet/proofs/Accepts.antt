@@ -7,7 +7,7 @@ use Prim.Native.Nat.{ℕ, zero, suc, _+_, _*_, _-_, _<_}
 use native.Mathlib.Omega.{arith}
 use lib.ListN.{length, getD}
 use Rattle.polygon.specs.Lists.{Sub, All}
-use Rattle.polygon.specs.Polygon.{Edge, Polygon, Triangulated, Valid}
+use Rattle.polygon.specs.Polygon.{Edge, Polygon, Valid}
 use Rattle.polygon.proofs.Lists.{all-imp, all-of, all-mem}
 use Rattle.polygon.proofs.Sort.{sort-sub, sort-mem, sort-is}
 use Rattle.polygon.proofs.Reading.{same-set}
@@ -17,7 +17,7 @@ use Rattle.sheet.specs.Listing.{pairsOf, Lists}
 use Rattle.sheet.specs.Framed.{Framed}
 use Rattle.sheet.proofs.Asks.{edgesIn, partIn, Form, form-held, held-form}
 use Rattle.sheet.proofs.Fields.{more-stands, stands-more, length-is}
-use Rattle.sheet.proofs.Valid.{form-triangulates, read-valid}
+use Rattle.sheet.proofs.Valid.{read-triangulated, read-valid}
 
 -- the part number by its bit
 number-none : (b k : ℕ) → b ≡ 0 → partNumber b k ≡ none
@@ -86,13 +86,13 @@ module _ {s : List ℕ} {p : Polygon} (v : Valid p) (L : Lists s p) where
   pub lists-held : readSheet s ≡ held p
   lists-held = form-held lists-form ∙ ap held lists-part
 
--- what is read is triangulated, and is listed
-read-lists : (s : List ℕ) (p : Polygon) → readSheet s ≡ held p → Triangulated (p .n) (p .ds) × Lists s p
-read-lists s p e = let W = held-form s p e in rw (W .1) (form-triangulates (W .0), form-lists (W .0))
+-- what is read is listed
+read-lists : (s : List ℕ) (p : Polygon) → readSheet s ≡ held p → Lists s p
+read-lists s p e = let W = held-form s p e in rw (W .1) (form-lists (W .0))
 
 -- A sheet is accepted exactly if, in the published form, it lists the diagonals of a valid part, in any order, either corner first.
 pub accepts : (s : List ℕ) (p : Polygon) → All (λ b. b < 256) s → (readSheet s ≡ held p) ↔ (Valid p × Lists s p)
-accepts s p a = (λ e. (read-valid s p a e, read-lists s p e .1), λ h. lists-held (h .0) (h .1))
+accepts s p a = (λ e. (read-valid s p a e, read-lists s p e), λ h. lists-held (h .0) (h .1))
 
 -- Two accepted sheets with the same part number and the same set of pairs, each lower corner first, hold the same part
 -- (the corner counts are then the same too), and so have the same normal sheet.
@@ -100,8 +100,10 @@ module _ (s t : List ℕ) (p q : Polygon) (d : readSheet s ≡ held p) (e : read
     (f : Sub (pairsOf s (p .n)) (pairsOf t (q .n))) (g : Sub (pairsOf t (q .n)) (pairsOf s (p .n))) where
   pub same-part : p ≡ q
   same-part =
-      let (P, L) = read-lists s p d in
-      let (Q, M) = read-lists t q e in
+      let P = read-triangulated s p d in
+      let Q = read-triangulated t q e in
+      let L = read-lists s p d in
+      let M = read-lists t q e in
       let ds = same-set _ _ _ _ P Q (λ x m. M .listed-diagonals x (f x (L .diagonals-listed x m))) (λ x m. L .listed-diagonals x (g x (M .diagonals-listed x m))) in
       let n : p .n ≡ q .n = omega (arith, ap length ds, P .full, Q .full) in
       λ i. record { n = n i; ds = ds i; number = number i }

@@ -15,13 +15,16 @@ use Rattle.sheet.proofs.Bytes.{Byte, get32-below}
 use Rattle.sheet.proofs.Normal.{pairs-count}
 
 -- the pairs of an accepted sheet, in order, triangulate its corners
-pub form-triangulates : {s : List ℕ} → Form s → Triangulated (get16 s 1) (sort (edgesIn s))
+form-triangulates : {s : List ℕ} → Form s → Triangulated (get16 s 1) (sort (edgesIn s))
 form-triangulates {s} W = record {
   ascending = sort-ascends (edgesIn s) .1 (W .distinct);
   diagonals = sort-all (W .diagonals);
   none-cross = sort-all (all-imp (λ e a. sort-all a) (W .none-cross));
   full = omega (arith, sort-length (edgesIn s), pairs-count s 3 (get16 s 1 - 3), W .framed .least);
 }
+
+pub read-triangulated : (s : List ℕ) (p : Polygon) → readSheet s ≡ held p → Triangulated (p .n) (p .ds)
+read-triangulated s p e = let W = held-form s p e in rw (W .1) (form-triangulates (W .0))
 
 part-numbered : (b k : ℕ) → k < 2 ^ 32 → Numbered (partNumber b k)
 unfolding partNumber

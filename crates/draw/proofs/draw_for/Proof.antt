@@ -12,7 +12,7 @@ use Rattle.keys.specs.Keys.{edgesOf}
 use Rattle.sheet.specs.Sheet.{held, readSheet}
 use Rattle.sheet.specs.Held.{polygonOf, Fitting}
 use Rattle.sheet.proofs.Outcomes.{read-refused, read-held, held-fits}
-use Rattle.plan.proofs.Answers.{held-triangulated}
+use Rattle.sheet.proofs.Valid.{read-triangulated}
 use Rattle.umbrella.specs.Best.{best}
 use Rattle.chart.specs.Chart.{chart}
 use Rattle.chart.specs.Bytes.{bytesOf}
@@ -56,7 +56,7 @@ slice-aggregate-draw-part : tie.Need-slice-aggregate-draw-part
 slice-aggregate-draw-part c = sym (length-take-le (c .before .before .before .h .given .0 .0 .n - 3) (c .before .before .before .before .before .before .read-sheet .last .1 .0) (omega (arith, fits (c .before .before) .most, c .before .before .before .before .before .before .read-sheet .kept)))
 
 draw-part-requires : tie.Need-draw-part-requires
-draw-part-requires c κs = (held-triangulated (c .before .before .before .before .before .before .before .before .before .before .before .args .sheet .now) _ (part (c .before .before .before)), (omega (arith, fits (c .before .before .before) .least), omega (arith, fits (c .before .before .before) .most)))
+draw-part-requires c κs = (read-triangulated (c .before .before .before .before .before .before .before .before .before .before .before .args .sheet .now) _ (part (c .before .before .before)), (omega (arith, fits (c .before .before .before) .least), omega (arith, fits (c .before .before .before) .most)))
 
 -- the answer of draw_part, in its case w
 drew : (c : lts.After-draw-part (read-sheet-reads.Asked, read-sheet-reads.Learnt, draw-part-reads.Asked, draw-part-reads.Learnt) reads.Pre reads.Post) (w : Written) → c .draw-part .result ≡ w → answered w (c .draw-part .last .1 .1 .0) ≡ written (write (bytesOf (chart (best (treeOf (c .before .before .before .before .before .h .given .0 .0 .n) (edgesOf (take (c .before .before .before .before .before .h .given .0 .0 .n - 3) (c .before .before .before .before .before .before .before .before .read-sheet .last .1 .0)))))))) (c .before .before .before .before .before .before .before .before .before .before .before .before .args .out .now)

@@ -4,8 +4,9 @@ use Prim.Native.Nat.{_-_}
 use borrow.Author.Needs.{needs}
 use native.Mathlib.Omega.{arith}
 use lib.Seq.{length-take-le}
+use Rattle.sheet.proofs.Valid.{read-triangulated}
 use Rattle.sheet.proofs.Outcomes.{read-refused, read-held, held-fits}
-use Rattle.plan.proofs.Answers.{held-triangulated, refused-planned, held-planned}
+use Rattle.plan.proofs.Answers.{refused-planned, held-planned}
 use Rattle.plan.proofs.plan.Statement.{statement}
 use Rattle.plan.proofs.plan.Tie as tie
 
@@ -31,7 +32,7 @@ slice-aggregate-plan-part : tie.Need-slice-aggregate-plan-part
 slice-aggregate-plan-part c = sym (length-take-le (c .before .before .h .given .0 .0 .n - 3) (c .before .before .before .before .before .read-sheet .last .1 .0) (omega (arith, held-fits (c .before .before .before .before .before .read-sheet .result) _ _ (c .before .before .before .before .before .read-sheet .ensures .1) (c .before .before .h .given .1), c .before .before .before .before .before .read-sheet .kept .1 .0)))
 
 plan-part-requires : tie.Need-plan-part-requires
-plan-part-requires c κs = (held-triangulated (c .before .before .before .before .before .before .before .before .args .sheet .now) _ (read-held (c .before .before .before .before .before .before .before .before .args .sheet .now) (c .before .before .before .before .before .read-sheet .result) (c .before .before .before .before .before .read-sheet .last .1 .0) (c .before .before .h .given .0 .0) (c .before .before .before .before .before .read-sheet .ensures .0) (c .before .before .h .given .1)), held-fits (c .before .before .before .before .before .read-sheet .result) _ _ (c .before .before .before .before .before .read-sheet .ensures .1) (c .before .before .h .given .1) .most)
+plan-part-requires c κs = (read-triangulated (c .before .before .before .before .before .before .before .before .args .sheet .now) _ (read-held (c .before .before .before .before .before .before .before .before .args .sheet .now) (c .before .before .before .before .before .read-sheet .result) (c .before .before .before .before .before .read-sheet .last .1 .0) (c .before .before .h .given .0 .0) (c .before .before .before .before .before .read-sheet .ensures .0) (c .before .before .h .given .1)), held-fits (c .before .before .before .before .before .read-sheet .result) _ _ (c .before .before .before .before .before .read-sheet .ensures .1) (c .before .before .h .given .1) .most)
 
 returns : tie.Need-returns
 returns c = refused-planned (c .before .before .before .before .before .before .before .args .sheet .now) _ (read-refused (c .before .before .before .before .before .before .before .args .sheet .now) (c .before .before .before .before .read-sheet .result) (c .before .before .before .before .read-sheet .last .1 .0) _ (c .before .before .before .before .read-sheet .ensures .0) (c .before .k .given .1))
