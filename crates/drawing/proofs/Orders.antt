@@ -44,7 +44,6 @@ no-own true xs ys = sym (reverse-append xs ys)
 no-own false xs ys = refl
 
 pub only-hung : (p : Part) → isHung p ≡ true → p ≡ Hung
-unfolding isHung
 only-hung Hung h = refl
 only-hung LeftRim h = absurd (false≢true h)
 only-hung RightRim h = absurd (false≢true h)
@@ -53,7 +52,7 @@ only-hung FromRight h = absurd (false≢true h)
 
 -- the columns of a rim or a stem at a side and at a triangle
 pub side-columns : (p : Part) (d : ℕ) (t : Tree) (u v : ℕ) → isHung p ≡ false → t ≡ leaf → columns p d t u v ≡ (u — v) ∷ []
-unfolding isHung columns sideColumn
+unfolding columns sideColumn
 side-columns Hung d t u v h e = absurd (true≢false h)
 side-columns LeftRim d t u v h e = rw e
 side-columns RightRim d t u v h e = rw e
@@ -62,7 +61,7 @@ side-columns FromRight d t u v h e = rw e
 
 pub own-columns : (p : Part) (d : ℕ) (l r : Tree) {t : Tree} (u v c : ℕ) (s : Step) → isHung p ≡ false → t ≡ node l r → c ≡ u + span l → s ≡ stepOf p d l r
     → columns p d t u v ≡ around (fromRight p) (s .crossed) (u — v) (columns (s .left) d l u c) (columns (s .right) d r c v)
-unfolding isHung columns arranged under fromRight
+unfolding columns arranged under
 own-columns Hung d l r u v c s h e m q = absurd (true≢false h)
 own-columns LeftRim d l r u v c s h e m q = rw (e, m, q)
 own-columns RightRim d l r u v c s h e m q = rw (e, m, q)

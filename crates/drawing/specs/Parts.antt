@@ -13,14 +13,14 @@ use Rattle.drawing.specs.declared.steps.Part.the-variants.{Hung, LeftRim
 use Rattle.drawing.specs.declared.steps.Step.{Step}
 
 -- "If s < i, build from the right": the rim below c, and a stem that enters across it
-unfoldable pub fromRight : Part → Bool
+abbrev pub fromRight : Part → Bool
 fromRight Hung = false
 fromRight LeftRim = true
 fromRight RightRim = false
 fromRight FromLeft = false
 fromRight FromRight = true
 
-unfoldable pub isHung : Part → Bool
+abbrev pub isHung : Part → Bool
 isHung Hung = true
 isHung LeftRim = false
 isHung RightRim = false
