@@ -18,7 +18,8 @@ use Rattle.sheet.specs.Sheet.{refused}
 use Rattle.sheet.specs.Held.{polygonOf, numberOf, Fitting}
 use Rattle.sheet.proofs.Asks.{ask-yes, ask-no}
 use Rattle.edit.specs.Rules.{addEar, rule, up, both, entering, earAdded}
-use Rattle.edit.specs.Tables.{Below}
+use Rattle.edit.specs.declared.shift.Shift.the-variants.{Up}
+use Rattle.edit.specs.Tables.{AllMovable}
 use Rattle.edit.specs.Part.{Part}
 use Rattle.edit.proofs.Rule.{given}
 use Rattle.edit.proofs.Add.{moved-ascending, add-triangulated}
@@ -54,7 +55,7 @@ module _ (h : Head) (ks : List ℕ) (P : Part h ks) (i : ℕ) where
       small : h .n ≤ 1023
       small = omega (arith, P .fits .most, space)
 
-      pub can-rise : Below (h .n - 3) ks
+      pub can-rise : AllMovable (Up i) (h .n - 3) ks
       can-rise j k =
           let l : length (take (h .n - 3) ks) ≡ h .n - 3 = length-take-le (h .n - 3) ks (omega (arith, P .room, P .fits .most)) in
           let e : getD (edgesOf (take (h .n - 3) ks)) j (0 — 0) ≡ edgeOf (getD ks j 0) = List·getD-map edgeOf (take (h .n - 3) ks) j 0 ∙ ap edgeOf (getD-take (h .n - 3) ks j 0 k) in

@@ -18,6 +18,8 @@ use Rattle.sheet.specs.Held.{polygonOf, Small, Fitting}
 use Rattle.sheet.proofs.Asks.{ask-yes, ask-no}
 use Rattle.sheet.proofs.Found.{small-keys}
 use Rattle.edit.specs.Rules.{removeEar, rule, down, both, neighbours, Away, earRemoved}
+use Rattle.edit.specs.declared.shift.Shift.the-variants.{Down}
+use Rattle.edit.specs.Tables.{AllMovable}
 use Rattle.edit.specs.Part.{Part}
 use Rattle.edit.proofs.Rule.{given}
 use Rattle.edit.proofs.Remove.{remove-triangulated}
@@ -61,8 +63,11 @@ module _ (h : Head) (ks : List ℕ) (P : Part h ks) (c : ℕ) where
         out-edges : edgesOf (take (h .n - 3 - 1) out) ≡ remove (neighbours (h .n) c) (edgesOf (take (h .n - 3) ks))
         out-edges = rw (← count) (gone .0)
 
-        pub can-fall : (h .n - 3 - 1 ≤ length out) × Small (h .n - 3 - 1) out
-        can-fall = (omega (arith, P .fits .most), small-keys (h .n) (h .n - 3 - 1) out (P .fits .most) (omega (arith, P .fits .most)) (rw out-edges (remove-all (neighbours (h .n) c) (P .triangulated .diagonals))))
+        out-small : Small (h .n - 3 - 1) out
+        out-small = small-keys (h .n) (h .n - 3 - 1) out (P .fits .most) (omega (arith, P .fits .most)) (rw out-edges (remove-all (neighbours (h .n) c) (P .triangulated .diagonals)))
+
+        pub can-fall : (h .n - 3 - 1 ≤ length out) × AllMovable (Down c) (h .n - 3 - 1) out
+        can-fall = (omega (arith, P .fits .most), λ j k. omega (arith, out-small j k))
 
         module _ (after : List ℕ) (S : edgesOf (take (h .n - 3 - 1) after) ≡ map (both (down c)) (edgesOf (take (h .n - 3 - 1) out))) (long : 1021 ≤ length after) where
           edges : edgesOf (take (h .n - 1 - 3) after) ≡ earRemoved (h .n) c (edgesOf (take (h .n - 3) ks))

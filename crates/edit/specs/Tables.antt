@@ -5,10 +5,22 @@ use mathlib.Core.List.{List}
 use Prim.Native.Nat.{ℕ, _/_, _%_, _<_, _≤_}
 use lib.ListN.{getD}
 use Rattle.polygon.specs.Polygon.{Edge, Joined}
+use Rattle.edit.specs.declared.shift.Shift.{Shift}
+use Rattle.edit.specs.declared.shift.Shift.the-variants.{Up, Down}
+use Rattle.edit.specs.Rules.{up, down}
 
--- the corners of the first m keys can go up by one
-abbrev pub Below : ℕ → List ℕ → Type 0
-Below m ks = (j : ℕ) → j < m → (getD ks j 0 / 1024 < 1023) × (getD ks j 0 % 1024 < 1023)
+-- a corner renumbered; and that its number stays below 1,024
+abbrev pub moved : Shift → ℕ → ℕ
+moved (Up i) = up i
+moved (Down k) = down k
+
+abbrev pub Movable : Shift → ℕ → Type 0
+Movable (Up i) x = x < 1023
+Movable (Down k) x = x < 1024
+
+-- the corners of the first m keys can be renumbered
+abbrev pub AllMovable : Shift → ℕ → List ℕ → Type 0
+AllMovable s m ks = (j : ℕ) → j < m → Movable s (getD ks j 0 / 1024) × Movable s (getD ks j 0 % 1024)
 
 -- r is the other end of an edge with an end at c, or 1,024 if neither end is c
 abbrev pub OtherEnd : Edge → ℕ → ℕ → Type 0

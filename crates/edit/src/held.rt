@@ -16,8 +16,8 @@ use crate::near::high_neighbour;
 use crate::near::is_ear;
 use crate::near::low_neighbour;
 use crate::near::mark;
-use crate::shift::shift_down;
-use crate::shift::shift_up;
+use crate::shift::Shift;
+use crate::shift::renumber;
 use codec::Written;
 use keys::change::has;
 use keys::change::insert;
@@ -50,7 +50,7 @@ pub fn add_to(h: Head, keys: &mut [u32], side: usize, out: &mut [u8]) -> Written
         return Written::Refused(10);
     }
     let m = n - 3;
-    shift_up(keys, m, side);
+    renumber(keys, m, Shift::Up(side));
     insert(keys, m, entering_key(n, side));
     let more = Head {
         n: n + 1,
@@ -79,7 +79,7 @@ pub fn remove_from(h: Head, keys: &mut [u32], corner: usize, out: &mut [u8]) -> 
     let a = low_neighbour(n, corner);
     let b = high_neighbour(n, corner);
     remove(keys, m, key(a, b));
-    shift_down(keys, m - 1, corner);
+    renumber(keys, m - 1, Shift::Down(corner));
     let fewer = Head {
         n: n - 1,
         numbered: h.numbered,

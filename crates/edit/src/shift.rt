@@ -3,13 +3,18 @@ ghost use mathlib.Core.Path.{_≡_};
 ghost use mathlib.Core.List.{map};
 ghost use Prim.Native.Nat.{_<_, _≤_};
 ghost use lib.ListN.{length, take};
-ghost use Rattle.keys.specs.Keys.{edgeOf, edgesOf};
-ghost use Rattle.sheet.specs.Held.{Small};
+ghost use Rattle.keys.specs.Keys.{edgesOf};
 ghost use Rattle.edit.specs.Rules.{up, down, both};
-ghost use Rattle.edit.specs.Tables.{Below};
+ghost use Rattle.edit.specs.Tables.{moved, Movable, AllMovable};
 use keys::high;
 use keys::key;
 use keys::low;
+
+// For a corner added on a side, or for a corner taken off.
+pub enum Shift {
+    Up(usize),
+    Down(usize),
+}
 
 // "Corners above i go up by one."
 fn up(i: usize, x: usize) -> usize
@@ -27,29 +32,26 @@ fn down(k: usize, x: usize) -> usize
     if x > k { x - 1 } else { x }
 }
 
-// Renumbers the first m keys for a corner added on side i.
-pub fn shift_up(keys: &mut [u32], m: usize, i: usize)
-    requires { ⌜ (m ≤ length (now keys)) × Below m (now keys) ⌝ }
-    ensures { λ _. ⌜ edgesOf (take m (now (keys .exit))) ≡ map (both (up i)) (edgesOf (take m (now (keys .entry)))) ⌝ }
+// A corner renumbered.
+fn moved(shift: Shift, x: usize) -> usize
+    requires { ⌜ Movable shift x ⌝ }
+    ensures { λ r. ⌜ (r ≡ moved shift x) × (r < 1024) ⌝ }
 {
-    let mut j = 0;
-    while j < m {
-        let a = up(i, low(keys[j]));
-        let b = up(i, high(keys[j]));
-        keys[j] = key(a, b);
-        j += 1;
+    match shift {
+        Shift::Up(i) => up(i, x),
+        Shift::Down(k) => down(k, x),
     }
 }
 
-// Renumbers the first m keys for a corner k taken off.
-pub fn shift_down(keys: &mut [u32], m: usize, k: usize)
-    requires { ⌜ (m ≤ length (now keys)) × Small m (now keys) ⌝ }
-    ensures { λ _. ⌜ edgesOf (take m (now (keys .exit))) ≡ map (both (down k)) (edgesOf (take m (now (keys .entry)))) ⌝ }
+// Renumbers the corners of the first m keys.
+pub fn renumber(keys: &mut [u32], m: usize, shift: Shift)
+    requires { ⌜ (m ≤ length (now keys)) × AllMovable shift m (now keys) ⌝ }
+    ensures { λ _. ⌜ edgesOf (take m (now (keys .exit))) ≡ map (both (moved shift)) (edgesOf (take m (now (keys .entry)))) ⌝ }
 {
     let mut j = 0;
     while j < m {
-        let a = down(k, low(keys[j]));
-        let b = down(k, high(keys[j]));
+        let a = moved(shift, low(keys[j]));
+        let b = moved(shift, high(keys[j]));
         keys[j] = key(a, b);
         j += 1;
     }
