@@ -10,10 +10,11 @@ use Rattle.codec.specs.Numbers.{get16}
 use Rattle.keys.proofs.Crosses.{all-at, at-all}
 use Rattle.chart.specs.Chart.{Stroke, upright, level, strokeEdge}
 use Rattle.chart_reader.specs.declared.Ends.{Ends}
+use Rattle.chart_reader.specs.declared.strokes.TwoBars.{TwoBars}
 use Rattle.chart_reader.specs.Cells.{cell}
 use Rattle.chart_reader.specs.Decode.{countIn, barAt, strokeSize, shaped, edgeAt, strokeAt, places, behind, strokePlaces, chartIn}
 use Rattle.chart_reader.specs.Rules.{Named, Joins, ends, Free}
-use Rattle.chart_reader.specs.Held.{Bars, Placed, Spans, StrokeIn, EndsOf}
+use Rattle.chart_reader.specs.Held.{Bars, Placed, Spans, StrokeIn, BarsOf, EndsOf}
 use Rattle.chart_reader.proofs.Accepts.{places-count}
 use Rattle.chart_reader.proofs.Encoded.{behind-up}
 
@@ -69,34 +70,32 @@ module _ (s : List ℕ) (n : ℕ) (at : List ℕ) (P : Placed s n at) (k : ℕ) 
       let q = rw (edge-at s (getD at k 0)) at (strokes-at s n at P N k h) in
       record { bit = place-bit; room = place-room; low = omega (arith, P .count); high = omega (arith, P .count) }
 
--- whether a stroke's bars are joined: its corners a and b, the rows of their bars, and its column
-module _ (s : List ℕ) (at a b ra rb : ℕ) (ea : a ≡ get16 s (at + 1)) (eb : b ≡ get16 s (at + 3)) (fa : ra ≡ get16 s (6 + 6 * a)) (fb : rb ≡ get16 s (6 + 6 * b)) where
+-- whether a stroke's bars t are joined, and the two cells that it runs between; j is its column
+module _ {s : List ℕ} {at : ℕ} {t : TwoBars} (B : BarsOf s at t) where
   module _ (z : getD s at 0 ≡ 0) where
-    pub level-joins : ra ≡ rb → Joins (chartIn s) (strokeAt s at)
-    level-joins e = rw (level-at s at z, ← ea, ← eb, ← fa, ← fb) e
+    pub level-joins : t .«row_a» ≡ t .«row_b» → Joins (chartIn s) (strokeAt s at)
+    level-joins e = rw (level-at s at z, ← B .place-a, ← B .place-b, ← B .row-a, ← B .row-b) e
 
-    pub joins-level : Joins (chartIn s) (strokeAt s at) → ra ≡ rb
-    joins-level J = rw (level-at s at z, ← ea, ← eb, ← fa, ← fb) at J
+    pub joins-level : Joins (chartIn s) (strokeAt s at) → t .«row_a» ≡ t .«row_b»
+    joins-level J = rw (level-at s at z, ← B .place-a, ← B .place-b, ← B .row-a, ← B .row-b) at J
+
+    pub level-ends : (i j : ℕ) → i ≡ min (get16 s (t .a + 4)) (get16 s (t .b + 4)) → j ≡ max (get16 s (t .a + 2)) (get16 s (t .b + 2))
+        → i < 65536 → j < 65536 → EndsOf s at (record { first = cell (t .«row_a») i; last = cell (t .«row_b») j })
+    level-ends i j ei ej k l = record { same = rw (level-at s at z, ← B .place-a, ← B .place-b, ← B .row-a, ← B .row-b, ← ei, ← ej); first-small = (B .small-a, k); last-small = (B .small-b, l) }
 
   module _ (small : getD s at 0 < 2) (u : getD s at 0 ≢ 0) where
-    pub joins-rows : Joins (chartIn s) (strokeAt s at) → ra ≢ rb
-    joins-rows J = rw (upright-at s at small u, ← ea, ← eb, ← fa, ← fb) at J .2
+    pub joins-rows : Joins (chartIn s) (strokeAt s at) → t .«row_a» ≢ t .«row_b»
+    joins-rows J = rw (upright-at s at small u, ← B .place-a, ← B .place-b, ← B .row-a, ← B .row-b) at J .2
 
     module _ (j : ℕ) (ej : j ≡ get16 s (at + 5)) where
-      pub upright-joins : ra ≢ rb → Spans (barAt s (6 + 6 * a)) j → Spans (barAt s (6 + 6 * b)) j → Joins (chartIn s) (strokeAt s at)
-      upright-joins f x y = rw (upright-at s at small u, ← ea, ← eb, ← fa, ← fb, ← ej) (x, y, f)
+      pub upright-joins : t .«row_a» ≢ t .«row_b» → Spans (barAt s (t .a)) j → Spans (barAt s (t .b)) j → Joins (chartIn s) (strokeAt s at)
+      upright-joins f x y = rw (upright-at s at small u, ← B .place-a, ← B .place-b, ← B .row-a, ← B .row-b, ← ej) (x, y, f)
 
-      pub joins-spans : Joins (chartIn s) (strokeAt s at) → Spans (barAt s (6 + 6 * a)) j × Spans (barAt s (6 + 6 * b)) j
-      joins-spans J = let (x, y, f) = rw (upright-at s at small u, ← ea, ← eb, ← ej) at J in (x, y)
+      pub joins-spans : Joins (chartIn s) (strokeAt s at) → Spans (barAt s (t .a)) j × Spans (barAt s (t .b)) j
+      joins-spans J = let (x, y, f) = rw (upright-at s at small u, ← B .place-a, ← B .place-b, ← ej) at J in (x, y)
 
-      -- the two cells of an upright
-      pub upright-ends : ra < 65536 → rb < 65536 → j < 65536 → EndsOf s at (record { first = cell ra j; last = cell rb j })
-      upright-ends p q r = record { same = rw (upright-at s at small u, ← ea, ← eb, ← fa, ← fb, ← ej); first-small = (p, r); last-small = (q, r) }
-
-  -- the two cells of a level stroke
-  pub level-ends : getD s at 0 ≡ 0 → (i j : ℕ) → i ≡ min (get16 s (6 + 6 * a + 4)) (get16 s (6 + 6 * b + 4)) → j ≡ max (get16 s (6 + 6 * a + 2)) (get16 s (6 + 6 * b + 2))
-      → ra < 65536 → rb < 65536 → i < 65536 → j < 65536 → EndsOf s at (record { first = cell ra i; last = cell rb j })
-  level-ends z i j ei ej p q k l = record { same = rw (level-at s at z, ← ea, ← eb, ← fa, ← fb, ← ei, ← ej); first-small = (p, k); last-small = (q, l) }
+      pub upright-ends : j < 65536 → EndsOf s at (record { first = cell (t .«row_a») j; last = cell (t .«row_b») j })
+      upright-ends r = record { same = rw (upright-at s at small u, ← B .place-a, ← B .place-b, ← B .row-a, ← B .row-b, ← ej); first-small = (B .small-a, r); last-small = (B .small-b, r) }
 
 -- the question about the two cells of a stroke
 module _ {s : List ℕ} {at : ℕ} {r : Ends} (E : EndsOf s at r) where

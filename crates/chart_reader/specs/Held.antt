@@ -6,9 +6,11 @@ use native.Mathlib.Decide.{decLt}
 use lib.ListN.{length, getD}
 use Rattle.polygon.specs.Lists.{All, choose}
 use Rattle.polygon.specs.Polygon.{Edge, Ascending}
+use Rattle.codec.specs.Numbers.{get16}
 use Rattle.chart.specs.Chart.{Bar, Stroke, upright, level, Chart}
 use Rattle.chart_reader.specs.declared.Cell.{Cell}
 use Rattle.chart_reader.specs.declared.Ends.{Ends}
+use Rattle.chart_reader.specs.declared.strokes.TwoBars.{TwoBars}
 use Rattle.chart_reader.specs.Cells.{bar, Has, Inside, Common}
 use Rattle.chart_reader.specs.Decode.{countIn, barAt, strokeSize, edgeAt, strokeAt, places, behind, strokePlaces, chartIn, Formed}
 use Rattle.chart_reader.specs.Rules.{ends}
@@ -50,6 +52,17 @@ pub record StrokeIn (s : List ℕ) (n : ℕ) (at : ℕ) : Type 0 where
   pub room : at + strokeSize (getD s at 0) ≤ length s
   pub low : edgeAt s at .0 < n
   pub high : edgeAt s at .1 < n
+
+-- the places of its corners' bars, and their rows
+pub record BarsOf (s : List ℕ) (at : ℕ) (r : TwoBars) : Type 0 where
+  pub place-a : r .a ≡ 6 + 6 * get16 s (at + 1)
+  pub place-b : r .b ≡ 6 + 6 * get16 s (at + 3)
+  pub row-a : r .«row_a» ≡ get16 s (r .a)
+  pub row-b : r .«row_b» ≡ get16 s (r .b)
+  pub room-a : r .a + 6 ≤ length s
+  pub room-b : r .b + 6 ≤ length s
+  pub small-a : r .«row_a» < 65536
+  pub small-b : r .«row_b» < 65536
 
 -- the two cells that it runs between
 pub record EndsOf (s : List ℕ) (at : ℕ) (r : Ends) : Type 0 where

@@ -7,7 +7,7 @@ ghost use Rattle.polygon.specs.Lists.{All};
 ghost use Rattle.keys.specs.Keys.{edgesOf};
 ghost use Rattle.chart_reader.specs.Decode.{barAt, strokeAt, chartIn};
 ghost use Rattle.chart_reader.specs.Rules.{Named, Joins, Fits, StrokeRule, edgesIn};
-ghost use Rattle.chart_reader.specs.Held.{Bars, Placed, StrokeIn, EndsOf, Spans};
+ghost use Rattle.chart_reader.specs.Held.{Bars, Placed, StrokeIn, BarsOf, EndsOf, Spans};
 use crate::Cell;
 use crate::Ends;
 use crate::question::bar_between;
@@ -50,15 +50,36 @@ fn spans(chart: &[u8], at: usize, j: usize) -> bool
     j <= get16(chart, at + 4)
 }
 
+// The bars of a stroke's two corners: their places and their rows.
+pub struct TwoBars {
+    pub a: usize,
+    pub b: usize,
+    pub row_a: usize,
+    pub row_b: usize,
+}
+
+fn two_bars(chart: &[u8], at: usize, n: usize) -> TwoBars
+    requires { ⌜ StrokeIn (now chart) n at × Bars (now chart) n ⌝ }
+    ensures { λ r. ⌜ BarsOf (now (chart .entry)) at r ⌝ }
+{
+    let a = 6 + 6 * get16(chart, at + 1);
+    let b = 6 + 6 * get16(chart, at + 3);
+    TwoBars {
+        a,
+        b,
+        row_a: get16(chart, a),
+        row_b: get16(chart, b),
+    }
+}
+
 // Whether a level stroke joins bars of one row, and an upright bars of different rows, both with a cell in its column.
 fn joins(chart: &[u8], at: usize, n: usize) -> bool
     requires { ⌜ StrokeIn (now chart) n at × Bars (now chart) n ⌝ }
     ensures { λ r. ⌜ (r ≡ true → Joins (chartIn (now (chart .entry))) (strokeAt (now (chart .entry)) at)) ⌝ }
     ensures { λ r. ⌜ (r ≡ false → Joins (chartIn (now (chart .entry))) (strokeAt (now (chart .entry)) at) → ⊥) ⌝ }
 {
-    let a = 6 + 6 * get16(chart, at + 1);
-    let b = 6 + 6 * get16(chart, at + 3);
-    let same = get16(chart, a) == get16(chart, b);
+    let t = two_bars(chart, at, n);
+    let same = t.row_a == t.row_b;
     if chart[at] == 0 {
         return same;
     }
@@ -66,10 +87,10 @@ fn joins(chart: &[u8], at: usize, n: usize) -> bool
         return false;
     }
     let j = get16(chart, at + 5);
-    if !spans(chart, a, j) {
+    if !spans(chart, t.a, j) {
         return false;
     }
-    spans(chart, b, j)
+    spans(chart, t.b, j)
 }
 
 fn lower(x: usize, y: usize) -> usize
@@ -89,30 +110,27 @@ pub fn stroke_ends(chart: &[u8], at: usize, n: usize) -> Ends
     requires { ⌜ StrokeIn (now chart) n at × Bars (now chart) n ⌝ }
     ensures { λ r. ⌜ EndsOf (now (chart .entry)) at r ⌝ }
 {
-    let a = 6 + 6 * get16(chart, at + 1);
-    let b = 6 + 6 * get16(chart, at + 3);
-    let first = get16(chart, a);
-    let last = get16(chart, b);
+    let t = two_bars(chart, at, n);
     if chart[at] == 0 {
-        let l = lower(get16(chart, a + 4), get16(chart, b + 4));
-        let r = higher(get16(chart, a + 2), get16(chart, b + 2));
+        let l = lower(get16(chart, t.a + 4), get16(chart, t.b + 4));
+        let r = higher(get16(chart, t.a + 2), get16(chart, t.b + 2));
         let p = Cell {
-            row: first,
+            row: t.row_a,
             column: l,
         };
         let q = Cell {
-            row: last,
+            row: t.row_b,
             column: r,
         };
         return Ends { first: p, last: q };
     }
     let j = get16(chart, at + 5);
     let p = Cell {
-        row: first,
+        row: t.row_a,
         column: j,
     };
     let q = Cell {
-        row: last,
+        row: t.row_b,
         column: j,
     };
     Ends { first: p, last: q }
