@@ -5,12 +5,6 @@ use native.Mathlib.Omega.{arith}
 use lib.Seq.{length-take-le}
 use Rattle.bend.proofs.main.Statement.{statement}
 use Rattle.bend.proofs.main.Tie as tie
-use Rattle.bend.proofs.main.Reads as reads
-use Rattle.bend.proofs.main.Lts as lts
-use Rattle.bend.proofs.print_line.Reads as print-line-reads
-use Rattle.bend.proofs.save.Reads as save-reads
-use Rattle.draw.proofs.draw.Reads as draw-reads
-use Rattle.io.proofs.read_full.Reads as read-full-reads
 
 slice-aggregate-read-full : tie.Need-slice-aggregate-read-full
 slice-aggregate-read-full c = search needs

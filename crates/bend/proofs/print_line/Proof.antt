@@ -6,10 +6,6 @@ use lib.Seq.{length-take-le}
 use Rattle.log_line.proofs.Putting.{put-length}
 use Rattle.bend.proofs.print_line.Statement.{statement}
 use Rattle.bend.proofs.print_line.Tie as tie
-use Rattle.bend.proofs.print_line.Reads as reads
-use Rattle.bend.proofs.print_line.Lts as lts
-use Rattle.draw.proofs.line.line.Reads as line-reads
-use Rattle.io.proofs.write_all.Reads as write-all-reads
 
 line-requires : tie.Need-line-requires
 line-requires c κs = search needs

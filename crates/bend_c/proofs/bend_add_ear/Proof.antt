@@ -9,10 +9,6 @@ use Rattle.edit.specs.Rules.{addEar}
 use Rattle.edit.proofs.Size.{edited-size}
 use Rattle.bend_c.proofs.bend_add_ear.Statement.{statement}
 use Rattle.bend_c.proofs.bend_add_ear.Tie as tie
-use Rattle.bend_c.proofs.bend_add_ear.Reads as reads
-use Rattle.bend_c.proofs.bend_add_ear.Lts as lts
-use Rattle.bend_c.proofs.pack.Reads as pack-reads
-use Rattle.edit.proofs.add_ear.Reads as add-ear-reads
 
 add-ear-requires : tie.Need-add-ear-requires
 add-ear-requires c κs = search needs

@@ -7,10 +7,6 @@ use Rattle.codec.proofs.Answers.{packable, bytes-left}
 use Rattle.draw.proofs.Size.{drawn-size}
 use Rattle.bend_c.proofs.bend_draw.Statement.{statement}
 use Rattle.bend_c.proofs.bend_draw.Tie as tie
-use Rattle.bend_c.proofs.bend_draw.Reads as reads
-use Rattle.bend_c.proofs.bend_draw.Lts as lts
-use Rattle.bend_c.proofs.pack.Reads as pack-reads
-use Rattle.draw.proofs.draw.Reads as draw-reads
 
 draw-requires : tie.Need-draw-requires
 draw-requires c κs = search needs

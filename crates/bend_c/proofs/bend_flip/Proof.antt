@@ -9,10 +9,6 @@ use Rattle.edit.specs.Rules.{flip}
 use Rattle.edit.proofs.Size.{edited-size}
 use Rattle.bend_c.proofs.bend_flip.Statement.{statement}
 use Rattle.bend_c.proofs.bend_flip.Tie as tie
-use Rattle.bend_c.proofs.bend_flip.Reads as reads
-use Rattle.bend_c.proofs.bend_flip.Lts as lts
-use Rattle.bend_c.proofs.pack.Reads as pack-reads
-use Rattle.edit.proofs.flip.Reads as flip-reads
 
 flip-requires : tie.Need-flip-requires
 flip-requires c κs = search needs

@@ -7,10 +7,6 @@ use Rattle.codec.proofs.Answers.{packable, bytes-left}
 use Rattle.sheet.proofs.Size.{ordered-size}
 use Rattle.bend_c.proofs.bend_normalize.Statement.{statement}
 use Rattle.bend_c.proofs.bend_normalize.Tie as tie
-use Rattle.bend_c.proofs.bend_normalize.Reads as reads
-use Rattle.bend_c.proofs.bend_normalize.Lts as lts
-use Rattle.bend_c.proofs.pack.Reads as pack-reads
-use Rattle.sheet.proofs.normalize.Reads as normalize-reads
 
 normalize-requires : tie.Need-normalize-requires
 normalize-requires c κs = search needs

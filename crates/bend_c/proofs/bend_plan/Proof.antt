@@ -4,10 +4,6 @@ use borrow.Author.Needs.{needs}
 use Rattle.plan.specs.Answer.{packedPlan}
 use Rattle.bend_c.proofs.bend_plan.Statement.{statement}
 use Rattle.bend_c.proofs.bend_plan.Tie as tie
-use Rattle.bend_c.proofs.bend_plan.Reads as reads
-use Rattle.bend_c.proofs.bend_plan.Lts as lts
-use Rattle.bend_c.proofs.pack_plan.Reads as pack-plan-reads
-use Rattle.plan.proofs.plan.Reads as plan-reads
 
 plan-requires : tie.Need-plan-requires
 plan-requires c κs = search needs

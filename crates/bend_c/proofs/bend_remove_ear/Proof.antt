@@ -9,10 +9,6 @@ use Rattle.edit.specs.Rules.{removeEar}
 use Rattle.edit.proofs.Size.{edited-size}
 use Rattle.bend_c.proofs.bend_remove_ear.Statement.{statement}
 use Rattle.bend_c.proofs.bend_remove_ear.Tie as tie
-use Rattle.bend_c.proofs.bend_remove_ear.Reads as reads
-use Rattle.bend_c.proofs.bend_remove_ear.Lts as lts
-use Rattle.bend_c.proofs.pack.Reads as pack-reads
-use Rattle.edit.proofs.remove_ear.Reads as remove-ear-reads
 
 remove-ear-requires : tie.Need-remove-ear-requires
 remove-ear-requires c κs = search needs

@@ -4,8 +4,6 @@ use native.Mathlib.Omega.{arith}
 use Rattle.codec.proofs.Answers.{packed-bytes, packed-refused, packed-fits}
 use Rattle.bend_c.proofs.pack.Statement.{statement}
 use Rattle.bend_c.proofs.pack.Tie as tie
-use Rattle.bend_c.proofs.pack.Reads as reads
-use Rattle.bend_c.proofs.pack.Lts as lts
 
 enum-known-w : tie.Need-enum-known-w
 enum-known-w c = search needs

@@ -3,8 +3,6 @@ use borrow.Author.Needs.{needs}
 use Rattle.plan.proofs.Answers.{packed-counts, packed-refused}
 use Rattle.bend_c.proofs.pack_plan.Statement.{statement}
 use Rattle.bend_c.proofs.pack_plan.Tie as tie
-use Rattle.bend_c.proofs.pack_plan.Reads as reads
-use Rattle.bend_c.proofs.pack_plan.Lts as lts
 
 enum-known-p : tie.Need-enum-known-p
 enum-known-p c = search needs

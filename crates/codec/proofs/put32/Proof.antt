@@ -7,9 +7,6 @@ use Rattle.codec.specs.Numbers.{bytes16}
 use Rattle.codec.proofs.Stores.{sets-append}
 use Rattle.codec.proofs.put32.Statement.{statement}
 use Rattle.codec.proofs.put32.Tie as tie
-use Rattle.codec.proofs.put32.Reads as reads
-use Rattle.codec.proofs.put32.Lts as lts
-use Rattle.codec.proofs.put16.Reads as put16-reads
 
 put16-requires : tie.Need-put16-requires
 put16-requires c κs = search needs

@@ -9,9 +9,6 @@ use Rattle.codec.specs.Numbers.{run16}
 use Rattle.codec.proofs.Numbers.{run16-next}
 use Rattle.codec.proofs.put_run16.Statement.{statement}
 use Rattle.codec.proofs.put_run16.Tie as tie
-use Rattle.codec.proofs.put_run16.Reads as reads
-use Rattle.codec.proofs.put_run16.Lts as lts
-use Rattle.codec.proofs.put16.Reads as put16-reads
 
 abbrev Inv-loop : tie.InvT-loop
 Inv-loop s₀ at xs m i₀ s i = (i ≤ m) × (s ≡ sets s₀ at (run16 (take i xs)))

@@ -7,10 +7,6 @@ use Rattle.edit.specs.Rules.{addEar}
 use Rattle.edit.proofs.InHand.{part-read, edited-refused, edited-held}
 use Rattle.edit.proofs.add_ear.Statement.{statement}
 use Rattle.edit.proofs.add_ear.Tie as tie
-use Rattle.edit.proofs.add_ear.Reads as reads
-use Rattle.edit.proofs.add_ear.Lts as lts
-use Rattle.edit.proofs.held.add_to.Reads as add-to-reads
-use Rattle.sheet.proofs.reader.read_sheet.Reads as read-sheet-reads
 
 slice-aggregate-read-sheet : tie.Need-slice-aggregate-read-sheet
 slice-aggregate-read-sheet c = search needs

@@ -7,10 +7,6 @@ use Rattle.edit.specs.Rules.{flip}
 use Rattle.edit.proofs.InHand.{part-read, edited-refused, edited-held}
 use Rattle.edit.proofs.flip.Statement.{statement}
 use Rattle.edit.proofs.flip.Tie as tie
-use Rattle.edit.proofs.flip.Reads as reads
-use Rattle.edit.proofs.flip.Lts as lts
-use Rattle.edit.proofs.held.flip_in.Reads as flip-in-reads
-use Rattle.sheet.proofs.reader.read_sheet.Reads as read-sheet-reads
 
 slice-aggregate-read-sheet : tie.Need-slice-aggregate-read-sheet
 slice-aggregate-read-sheet c = search needs

@@ -7,10 +7,6 @@ use Rattle.log_line.proofs.Digits.{digits-length}
 use Rattle.log_line.proofs.Putting.{put-then, put-length}
 use Rattle.log_line.proofs.put_field.Statement.{statement}
 use Rattle.log_line.proofs.put_field.Tie as tie
-use Rattle.log_line.proofs.put_field.Reads as reads
-use Rattle.log_line.proofs.put_field.Lts as lts
-use Rattle.log_line.proofs.put_digits.Reads as put-digits-reads
-use Rattle.log_line.proofs.put_word.Reads as put-word-reads
 
 put-word-requires : tie.Need-put-word-requires
 put-word-requires c κs = search needs

@@ -6,11 +6,6 @@ use Rattle.log_line.specs.Put.{factsOf}
 use Rattle.log_line.proofs.Putting.{put-then, line-put}
 use Rattle.log_line.proofs.put_line.Statement.{statement}
 use Rattle.log_line.proofs.put_line.Tie as tie
-use Rattle.log_line.proofs.put_line.Reads as reads
-use Rattle.log_line.proofs.put_line.Lts as lts
-use Rattle.log_line.proofs.put_field.Reads as put-field-reads
-use Rattle.log_line.proofs.put_number.Reads as put-number-reads
-use Rattle.log_line.proofs.put_word.Reads as put-word-reads
 
 slice-aggregate-put-word : tie.Need-slice-aggregate-put-word
 slice-aggregate-put-word c = search needs

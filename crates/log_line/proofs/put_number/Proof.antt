@@ -6,10 +6,6 @@ use Rattle.log_line.specs.Line.{decimal, numberWord}
 use Rattle.log_line.proofs.Digits.{digits-length}
 use Rattle.log_line.proofs.put_number.Statement.{statement}
 use Rattle.log_line.proofs.put_number.Tie as tie
-use Rattle.log_line.proofs.put_number.Reads as reads
-use Rattle.log_line.proofs.put_number.Lts as lts
-use Rattle.log_line.proofs.put_digits.Reads as put-digits-reads
-use Rattle.log_line.proofs.put_word.Reads as put-word-reads
 
 put-digits-requires : tie.Need-put-digits-requires
 put-digits-requires c κs = omega (arith, digits-length 20 (c .before .before .before .args .number))

@@ -5,10 +5,6 @@ use native.Mathlib.Omega.{arith}
 use Rattle.log_line.proofs.Putting.{put-then, refused-put}
 use Rattle.log_line.proofs.put_refused.Statement.{statement}
 use Rattle.log_line.proofs.put_refused.Tie as tie
-use Rattle.log_line.proofs.put_refused.Reads as reads
-use Rattle.log_line.proofs.put_refused.Lts as lts
-use Rattle.log_line.proofs.put_field.Reads as put-field-reads
-use Rattle.log_line.proofs.put_word.Reads as put-word-reads
 
 slice-aggregate-put-field : tie.Need-slice-aggregate-put-field
 slice-aggregate-put-field c = search needs

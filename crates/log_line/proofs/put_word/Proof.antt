@@ -7,8 +7,6 @@ use lib.Seq.{sets, length-sets, take-all}
 use Rattle.log_line.proofs.Putting.{word-next}
 use Rattle.log_line.proofs.put_word.Statement.{statement}
 use Rattle.log_line.proofs.put_word.Tie as tie
-use Rattle.log_line.proofs.put_word.Reads as reads
-use Rattle.log_line.proofs.put_word.Lts as lts
 
 abbrev Inv-loop : tie.InvT-loop
 Inv-loop out₀ at word i₀ out i = (i ≤ length word) × (length out ≡ length out₀) × (out ≡ sets out₀ at (take i word))

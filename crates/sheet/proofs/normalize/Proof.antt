@@ -5,10 +5,6 @@ use native.Mathlib.Omega.{arith}
 use Rattle.sheet.proofs.Outcomes.{read-refused, read-held, held-fits, ordered-refused, ordered-held}
 use Rattle.sheet.proofs.normalize.Statement.{statement}
 use Rattle.sheet.proofs.normalize.Tie as tie
-use Rattle.sheet.proofs.normalize.Reads as reads
-use Rattle.sheet.proofs.normalize.Lts as lts
-use Rattle.sheet.proofs.reader.read_sheet.Reads as read-sheet-reads
-use Rattle.sheet.proofs.writer.write_sheet.Reads as write-sheet-reads
 
 slice-aggregate-read-sheet : tie.Need-slice-aggregate-read-sheet
 slice-aggregate-read-sheet c = search needs

@@ -2,8 +2,6 @@
 use Rattle.drawing.specs.Lines.{aside}
 use Rattle.drawing.proofs.rows.aside.Statement.{statement}
 use Rattle.drawing.proofs.rows.aside.Tie as tie
-use Rattle.drawing.proofs.rows.aside.Reads as reads
-use Rattle.drawing.proofs.rows.aside.Lts as lts
 
 returns : tie.Need-returns
 unfolding aside

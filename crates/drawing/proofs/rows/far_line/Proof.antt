@@ -2,9 +2,6 @@
 use native.Mathlib.Omega.{arith}
 use Rattle.drawing.proofs.rows.far_line.Statement.{statement}
 use Rattle.drawing.proofs.rows.far_line.Tie as tie
-use Rattle.drawing.proofs.rows.far_line.Reads as reads
-use Rattle.drawing.proofs.rows.far_line.Lts as lts
-use Rattle.drawing.proofs.rows.row_at.Reads as row-at-reads
 
 mul-row-at : tie.Need-mul-row-at
 mul-row-at c = omega arith

@@ -3,11 +3,6 @@ use borrow.Author.Needs.{needs}
 use Rattle.drawing.specs.Lines.{linesAt}
 use Rattle.drawing.proofs.rows.lines_at.Statement.{statement}
 use Rattle.drawing.proofs.rows.lines_at.Tie as tie
-use Rattle.drawing.proofs.rows.lines_at.Reads as reads
-use Rattle.drawing.proofs.rows.lines_at.Lts as lts
-use Rattle.drawing.proofs.rows.aside.Reads as aside-reads
-use Rattle.drawing.proofs.rows.far_line.Reads as far-line-reads
-use Rattle.drawing.proofs.rows.near_line.Reads as near-line-reads
 
 enum-told : tie.Need-enum-told
 enum-told c = search needs

@@ -2,9 +2,6 @@
 use native.Mathlib.Omega.{arith}
 use Rattle.drawing.proofs.rows.near_line.Statement.{statement}
 use Rattle.drawing.proofs.rows.near_line.Tie as tie
-use Rattle.drawing.proofs.rows.near_line.Reads as reads
-use Rattle.drawing.proofs.rows.near_line.Lts as lts
-use Rattle.drawing.proofs.rows.row_at.Reads as row-at-reads
 
 row-at-requires : tie.Need-row-at-requires
 row-at-requires c κs = omega arith

@@ -2,8 +2,6 @@
 use native.Mathlib.Omega.{arith}
 use Rattle.drawing.proofs.rows.row_at.Statement.{statement}
 use Rattle.drawing.proofs.rows.row_at.Tie as tie
-use Rattle.drawing.proofs.rows.row_at.Reads as reads
-use Rattle.drawing.proofs.rows.row_at.Lts as lts
 
 add-result : tie.Need-add-result
 add-result c = omega arith

@@ -3,8 +3,6 @@ use borrow.Author.Needs.{needs}
 use Rattle.drawing.proofs.Cases.{differ-false}
 use Rattle.drawing.proofs.steps.differ.Statement.{statement}
 use Rattle.drawing.proofs.steps.differ.Tie as tie
-use Rattle.drawing.proofs.steps.differ.Reads as reads
-use Rattle.drawing.proofs.steps.differ.Lts as lts
 
 returns : tie.Need-returns
 returns c = search needs

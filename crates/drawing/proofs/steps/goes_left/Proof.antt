@@ -4,8 +4,6 @@ use native.Mathlib.Omega.{arith}
 use Rattle.drawing.proofs.Cases.{end-both, end-left, only-right, end-right, only-left, both-left, both-right}
 use Rattle.drawing.proofs.steps.goes_left.Statement.{statement}
 use Rattle.drawing.proofs.steps.goes_left.Tie as tie
-use Rattle.drawing.proofs.steps.goes_left.Reads as reads
-use Rattle.drawing.proofs.steps.goes_left.Lts as lts
 
 returns : tie.Need-returns
 returns c = sym (end-both (c .before .before .args .right) (c .before .before .args .d) (c .before .before .args .handle-l) (c .before .before .args .ud-l) (c .before .before .args .ud-r) (c .before .if1 .taken) (c .if2 .taken))

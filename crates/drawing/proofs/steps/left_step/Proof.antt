@@ -4,8 +4,6 @@ use native.Mathlib.Omega.{arith}
 use Rattle.drawing.proofs.Cases.{left-hung, left-entered}
 use Rattle.drawing.proofs.steps.left_step.Statement.{statement}
 use Rattle.drawing.proofs.steps.left_step.Tie as tie
-use Rattle.drawing.proofs.steps.left_step.Reads as reads
-use Rattle.drawing.proofs.steps.left_step.Lts as lts
 
 returns : tie.Need-returns
 returns c = sym (left-hung (c .before .args .d) (c .before .args .ud-r) (omega arith))

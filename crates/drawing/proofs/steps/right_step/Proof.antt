@@ -4,8 +4,6 @@ use native.Mathlib.Omega.{arith}
 use Rattle.drawing.proofs.Cases.{right-hung, right-entered}
 use Rattle.drawing.proofs.steps.right_step.Statement.{statement}
 use Rattle.drawing.proofs.steps.right_step.Tie as tie
-use Rattle.drawing.proofs.steps.right_step.Reads as reads
-use Rattle.drawing.proofs.steps.right_step.Lts as lts
 
 returns : tie.Need-returns
 returns c = sym (right-hung (c .before .args .d) (c .before .args .ud-l) (omega arith))

@@ -2,8 +2,6 @@
 use Rattle.drawing.specs.Parts.{stemStep}
 use Rattle.drawing.proofs.steps.stem_step.Statement.{statement}
 use Rattle.drawing.proofs.steps.stem_step.Tie as tie
-use Rattle.drawing.proofs.steps.stem_step.Reads as reads
-use Rattle.drawing.proofs.steps.stem_step.Lts as lts
 
 returns : tie.Need-returns
 unfolding stemStep

@@ -4,12 +4,6 @@ use borrow.Author.Needs.{needs}
 use Rattle.drawing.specs.Parts.{stepAt}
 use Rattle.drawing.proofs.steps.step_at.Statement.{statement}
 use Rattle.drawing.proofs.steps.step_at.Tie as tie
-use Rattle.drawing.proofs.steps.step_at.Reads as reads
-use Rattle.drawing.proofs.steps.step_at.Lts as lts
-use Rattle.drawing.proofs.steps.goes_left.Reads as goes-left-reads
-use Rattle.drawing.proofs.steps.left_step.Reads as left-step-reads
-use Rattle.drawing.proofs.steps.right_step.Reads as right-step-reads
-use Rattle.drawing.proofs.steps.stem_step.Reads as stem-step-reads
 
 enum-told : tie.Need-enum-told
 enum-told c = search needs

@@ -5,9 +5,6 @@ use Rattle.keys.specs.Keys.{keyOf}
 use Rattle.edit.proofs.Adding.{entering-root, entering-side}
 use Rattle.edit.proofs.held.entering_key.Statement.{statement}
 use Rattle.edit.proofs.held.entering_key.Tie as tie
-use Rattle.edit.proofs.held.entering_key.Reads as reads
-use Rattle.edit.proofs.held.entering_key.Lts as lts
-use Rattle.keys.proofs.key.Reads as key-reads
 
 add-if1 : tie.Need-add-if1
 add-if1 c = search needs

@@ -11,9 +11,6 @@ use Rattle.edit.proofs.InHand.{rule-refused}
 use Rattle.edit.proofs.Turning.{turn-outside}
 use Rattle.edit.proofs.held.flip_in.Statement.{statement}
 use Rattle.edit.proofs.held.flip_in.Tie as tie
-use Rattle.edit.proofs.held.flip_in.Reads as reads
-use Rattle.edit.proofs.held.flip_in.Lts as lts
-use Rattle.edit.proofs.held.turn.Reads as turn-reads
 
 returns : tie.Need-returns
 returns c = rule-refused (flip (c .before .before .before .args .a) (c .before .before .before .args .b)) (polygonOf (c .before .before .before .args .h) (c .before .before .before .args .keys .now)) (c .before .before .before .args .out .now) 9 (turn-outside (c .before .before .before .args .h) (c .before .before .before .args .keys .now) (c .before .before .before .pre) (c .before .before .before .args .a) (c .before .before .before .args .b) (λ t. omega arith))

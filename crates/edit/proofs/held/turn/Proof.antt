@@ -13,14 +13,6 @@ use Rattle.edit.proofs.InHand.{rule-refused, rule-written}
 use Rattle.edit.proofs.Turning.{turn-lacks, turn-takes, count, out-sorted, flipped-over, flipped-fits}
 use Rattle.edit.proofs.held.turn.Statement.{statement}
 use Rattle.edit.proofs.held.turn.Tie as tie
-use Rattle.edit.proofs.held.turn.Reads as reads
-use Rattle.edit.proofs.held.turn.Lts as lts
-use Rattle.edit.proofs.held.turned_key.Reads as turned-key-reads
-use Rattle.keys.proofs.change.has.Reads as has-reads
-use Rattle.keys.proofs.change.insert.Reads as insert-reads
-use Rattle.keys.proofs.change.remove.Reads as remove-reads
-use Rattle.keys.proofs.key.Reads as key-reads
-use Rattle.sheet.proofs.writer.write_sheet.Reads as write-sheet-reads
 
 sub-m : tie.Need-sub-m
 sub-m c = omega (arith, c .before .before .pre .0 .fits .least)

@@ -8,11 +8,6 @@ use Rattle.edit.specs.Tables.{Common}
 use Rattle.edit.proofs.Turning.{first-found, second-found, blank}
 use Rattle.edit.proofs.held.turned_key.Statement.{statement}
 use Rattle.edit.proofs.held.turned_key.Tie as tie
-use Rattle.edit.proofs.held.turned_key.Reads as reads
-use Rattle.edit.proofs.held.turned_key.Lts as lts
-use Rattle.edit.proofs.near.first_common.Reads as first-common-reads
-use Rattle.edit.proofs.near.mark.Reads as mark-reads
-use Rattle.keys.proofs.key.Reads as key-reads
 
 slice-aggregate-mark : tie.Need-slice-aggregate-mark
 slice-aggregate-mark c = search needs

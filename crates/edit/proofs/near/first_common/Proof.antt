@@ -7,8 +7,6 @@ use lib.ListN.{getD}
 use Rattle.edit.proofs.Marking.{between-more}
 use Rattle.edit.proofs.near.first_common.Statement.{statement}
 use Rattle.edit.proofs.near.first_common.Tie as tie
-use Rattle.edit.proofs.near.first_common.Reads as reads
-use Rattle.edit.proofs.near.first_common.Lts as lts
 
 abbrev Inv-loop : tie.InvT-loop
 Inv-loop p q from n x₀ x = (from ≤ x) × (x ≤ n) × ((y : ℕ) → from ≤ y → y < x → ¬ ((getD p y 0 ≡ 1) × (getD q y 0 ≡ 1)))

@@ -5,8 +5,6 @@ use Rattle.polygon.specs.Polygon.{Edge}
 use Rattle.edit.proofs.Marking.{neighbours-first, neighbours-last, neighbours-inside}
 use Rattle.edit.proofs.near.high_neighbour.Statement.{statement}
 use Rattle.edit.proofs.near.high_neighbour.Tie as tie
-use Rattle.edit.proofs.near.high_neighbour.Reads as reads
-use Rattle.edit.proofs.near.high_neighbour.Lts as lts
 
 sub-result : tie.Need-sub-result
 sub-result c = omega arith

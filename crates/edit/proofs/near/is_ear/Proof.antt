@@ -10,10 +10,6 @@ use Rattle.edit.specs.Rules.{Away}
 use Rattle.edit.proofs.Marking.{away-all, all-away}
 use Rattle.edit.proofs.near.is_ear.Statement.{statement}
 use Rattle.edit.proofs.near.is_ear.Tie as tie
-use Rattle.edit.proofs.near.is_ear.Reads as reads
-use Rattle.edit.proofs.near.is_ear.Lts as lts
-use Rattle.keys.proofs.high.Reads as high-reads
-use Rattle.keys.proofs.low.Reads as low-reads
 
 abbrev Inv-loop : tie.InvT-loop
 Inv-loop keys k j₀ j = (j ≤ length keys) × ((i : ℕ) → i < j → Away k (edgeOf (getD keys i 0)))

@@ -5,8 +5,6 @@ use Rattle.polygon.specs.Polygon.{Edge}
 use Rattle.edit.proofs.Marking.{neighbours-first, neighbours-last, neighbours-inside}
 use Rattle.edit.proofs.near.low_neighbour.Statement.{statement}
 use Rattle.edit.proofs.near.low_neighbour.Tie as tie
-use Rattle.edit.proofs.near.low_neighbour.Reads as reads
-use Rattle.edit.proofs.near.low_neighbour.Lts as lts
 
 returns : tie.Need-returns
 returns c = (ap (λ (e : Edge). e .0) (sym (neighbours-first (c .before .args .n) (c .before .args .k) (c .if1 .taken))), omega arith)

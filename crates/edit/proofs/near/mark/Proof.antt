@@ -9,11 +9,6 @@ use Rattle.edit.specs.Tables.{Near, OtherEnd}
 use Rattle.edit.proofs.Marking.{near-begin, near-next, edges-next, end-below}
 use Rattle.edit.proofs.near.mark.Statement.{statement}
 use Rattle.edit.proofs.near.mark.Tie as tie
-use Rattle.edit.proofs.near.mark.Reads as reads
-use Rattle.edit.proofs.near.mark.Lts as lts
-use Rattle.edit.proofs.near.high_neighbour.Reads as high-neighbour-reads
-use Rattle.edit.proofs.near.low_neighbour.Reads as low-neighbour-reads
-use Rattle.edit.proofs.near.other_end.Reads as other-end-reads
 
 abbrev Inv-loop : tie.InvT-loop
 Inv-loop keys n c near₀ a b j₀ near j = (j ≤ length keys) × (length near ≡ 1025) × Near n (edgesOf (take j keys)) c near

@@ -4,10 +4,6 @@ use mathlib.Core.Logic.{inl, inr}
 use borrow.Author.Needs.{needs}
 use Rattle.edit.proofs.near.other_end.Statement.{statement}
 use Rattle.edit.proofs.near.other_end.Tie as tie
-use Rattle.edit.proofs.near.other_end.Reads as reads
-use Rattle.edit.proofs.near.other_end.Lts as lts
-use Rattle.keys.proofs.high.Reads as high-reads
-use Rattle.keys.proofs.low.Reads as low-reads
 
 low-requires : tie.Need-low-requires
 low-requires c κs = search needs

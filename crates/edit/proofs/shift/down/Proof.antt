@@ -3,8 +3,6 @@ use native.Mathlib.Omega.{arith}
 use Rattle.edit.proofs.Shifting.{down-above, down-below}
 use Rattle.edit.proofs.shift.down.Statement.{statement}
 use Rattle.edit.proofs.shift.down.Tie as tie
-use Rattle.edit.proofs.shift.down.Reads as reads
-use Rattle.edit.proofs.shift.down.Lts as lts
 
 sub-result : tie.Need-sub-result
 sub-result c = omega arith

@@ -3,8 +3,6 @@ use native.Mathlib.Omega.{arith}
 use Rattle.edit.proofs.Shifting.{up-above, up-below}
 use Rattle.edit.proofs.shift.up.Statement.{statement}
 use Rattle.edit.proofs.shift.up.Tie as tie
-use Rattle.edit.proofs.shift.up.Reads as reads
-use Rattle.edit.proofs.shift.up.Lts as lts
 
 add-result : tie.Need-add-result
 add-result c = omega arith

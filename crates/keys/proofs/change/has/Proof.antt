@@ -8,8 +8,6 @@ use lib.ListN.{length, getD}
 use Rattle.keys.proofs.Removal.{mem-at, at-mem}
 use Rattle.keys.proofs.change.has.Statement.{statement}
 use Rattle.keys.proofs.change.has.Tie as tie
-use Rattle.keys.proofs.change.has.Reads as reads
-use Rattle.keys.proofs.change.has.Lts as lts
 
 abbrev Inv-loop : tie.InvT-loop
 Inv-loop keys k j₀ j = (j ≤ length keys) × ((i : ℕ) → i < j → getD keys i 0 ≡ k → ⊥)

@@ -7,8 +7,6 @@ use lib.ListN.{length, take, length-set}
 use Rattle.keys.proofs.Carry.{carry, Carrying, carry-begin, carry-less, carry-more, carry-end, carry-inserts}
 use Rattle.keys.proofs.change.insert.Statement.{statement}
 use Rattle.keys.proofs.change.insert.Tie as tie
-use Rattle.keys.proofs.change.insert.Reads as reads
-use Rattle.keys.proofs.change.insert.Lts as lts
 
 abbrev Inv-loop : tie.InvT-loop
 Inv-loop keys₀ m k x₀ j₀ keys x j = Carrying m (carry k (take m keys₀)) (length keys₀) keys x j

@@ -5,8 +5,6 @@ use native.Mathlib.Omega.{arith}
 use Rattle.keys.proofs.Removal.{Removing, removing-begin, removing-same, removing-other, removing-end}
 use Rattle.keys.proofs.change.remove.Statement.{statement}
 use Rattle.keys.proofs.change.remove.Tie as tie
-use Rattle.keys.proofs.change.remove.Reads as reads
-use Rattle.keys.proofs.change.remove.Lts as lts
 
 abbrev Inv-loop : tie.InvT-loop
 Inv-loop keys₀ m k left₀ j₀ keys left j = Removing k m keys₀ keys left j

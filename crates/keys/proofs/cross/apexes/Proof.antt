@@ -7,11 +7,6 @@ use lib.ListN.{length}
 use Rattle.keys.proofs.Apexes.{Scanned, tops-begin, scanned-next, scanned-end, diagonal-at}
 use Rattle.keys.proofs.cross.apexes.Statement.{statement}
 use Rattle.keys.proofs.cross.apexes.Tie as tie
-use Rattle.keys.proofs.cross.apexes.Reads as reads
-use Rattle.keys.proofs.cross.apexes.Lts as lts
-use Rattle.keys.proofs.cross.begin.Reads as begin-reads
-use Rattle.keys.proofs.high.Reads as high-reads
-use Rattle.keys.proofs.low.Reads as low-reads
 
 abbrev Inv-loop : tie.InvT-loop
 Inv-loop keys n top₀ apex₀ j₀ top apex j = Scanned n keys (length apex₀) top apex j

@@ -8,8 +8,6 @@ use lib.ListN.{length, getD, length-set}
 use Rattle.keys.proofs.Tables.{table-next}
 use Rattle.keys.proofs.cross.begin.Statement.{statement}
 use Rattle.keys.proofs.cross.begin.Tie as tie
-use Rattle.keys.proofs.cross.begin.Reads as reads
-use Rattle.keys.proofs.cross.begin.Lts as lts
 
 abbrev Inv-loop : tie.InvT-loop
 Inv-loop top₀ c₀ top c = (c ≤ 1024) × (length top ≡ 1024) × ((i : ℕ) → i < c → getD top i 0 ≡ suc i)

@@ -8,10 +8,6 @@ use lib.ListN.{length}
 use Rattle.keys.proofs.Crosses.{apex-below, reaches-free, fails-cross}
 use Rattle.keys.proofs.cross.crosses.Statement.{statement}
 use Rattle.keys.proofs.cross.crosses.Tie as tie
-use Rattle.keys.proofs.cross.crosses.Reads as reads
-use Rattle.keys.proofs.cross.crosses.Lts as lts
-use Rattle.keys.proofs.cross.apexes.Reads as apexes-reads
-use Rattle.keys.proofs.cross.reaches.Reads as reaches-reads
 
 slice-aggregate-apexes : tie.Need-slice-aggregate-apexes
 slice-aggregate-apexes c = search needs

@@ -8,9 +8,6 @@ use native.Mathlib.Omega.{arith}
 use lib.ListN.{length, getD}
 use Rattle.keys.proofs.cross.reaches.Statement.{statement}
 use Rattle.keys.proofs.cross.reaches.Tie as tie
-use Rattle.keys.proofs.cross.reaches.Reads as reads
-use Rattle.keys.proofs.cross.reaches.Lts as lts
-use Rattle.keys.proofs.high.Reads as high-reads
 
 abbrev Inv-loop : tie.InvT-loop
 Inv-loop keys top apex j₀ j = (j ≤ length keys) × ((i : ℕ) → i < j → getD top (getD apex i 0) 0 ≡ getD keys i 0 % 1024)

@@ -4,8 +4,6 @@ use borrow.Author.Tests.{eqb-true, eqb-false}
 use Rattle.sheet.proofs.Fields.{more-yes, more-no}
 use Rattle.sheet.proofs.reader.agrees.Statement.{statement}
 use Rattle.sheet.proofs.reader.agrees.Tie as tie
-use Rattle.sheet.proofs.reader.agrees.Reads as reads
-use Rattle.sheet.proofs.reader.agrees.Lts as lts
 
 returns : tie.Need-returns
 returns c = (λ h. eqb-true _ _ h ∙ sym (more-yes (c .before .args .n) (c .if1 .taken)), λ h e. eqb-false _ _ h (e ∙ more-yes (c .before .args .n) (c .if1 .taken)))

@@ -4,8 +4,6 @@ use native.Mathlib.Omega.{arith}
 use Rattle.sheet.proofs.Fields.{fields}
 use Rattle.sheet.proofs.reader.behind.Statement.{statement}
 use Rattle.sheet.proofs.reader.behind.Tie as tie
-use Rattle.sheet.proofs.reader.behind.Reads as reads
-use Rattle.sheet.proofs.reader.behind.Lts as lts
 
 cast-result : tie.Need-cast-result
 cast-result c = omega (arith, fields (c .args .map) (c .pre .0))

@@ -3,10 +3,6 @@ use borrow.Author.Needs.{needs}
 use Rattle.sheet.proofs.Pairs.{lower-below, lower-above}
 use Rattle.sheet.proofs.reader.pair_key.Statement.{statement}
 use Rattle.sheet.proofs.reader.pair_key.Tie as tie
-use Rattle.sheet.proofs.reader.pair_key.Reads as reads
-use Rattle.sheet.proofs.reader.pair_key.Lts as lts
-use Rattle.codec.proofs.get16.Reads as get16-reads
-use Rattle.sheet.proofs.reader.edge_key.Reads as edge-key-reads
 
 get16-requires : tie.Need-get16-requires
 get16-requires c κs = search needs

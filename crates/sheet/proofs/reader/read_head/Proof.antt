@@ -6,12 +6,6 @@ use Rattle.sheet.proofs.Asks.{refused-1a, refused-1b, refused-1c, refus
 use Rattle.sheet.proofs.Frame.{disagrees, inexact, numbered, unnumbered}
 use Rattle.sheet.proofs.reader.read_head.Statement.{statement}
 use Rattle.sheet.proofs.reader.read_head.Tie as tie
-use Rattle.sheet.proofs.reader.read_head.Reads as reads
-use Rattle.sheet.proofs.reader.read_head.Lts as lts
-use Rattle.codec.proofs.get16.Reads as get16-reads
-use Rattle.codec.proofs.get32.Reads as get32-reads
-use Rattle.sheet.proofs.reader.agrees.Reads as agrees-reads
-use Rattle.sheet.proofs.reader.behind.Reads as behind-reads
 
 returns : tie.Need-returns
 returns c = refused-1a (c .before .before .args .sheet .now) (omega arith)

@@ -9,9 +9,6 @@ use Rattle.polygon.proofs.Lists.{all-mem}
 use Rattle.sheet.proofs.Pairs.{Listed, listed-none, listed-next, pairs-at}
 use Rattle.sheet.proofs.reader.read_pairs.Statement.{statement}
 use Rattle.sheet.proofs.reader.read_pairs.Tie as tie
-use Rattle.sheet.proofs.reader.read_pairs.Reads as reads
-use Rattle.sheet.proofs.reader.read_pairs.Lts as lts
-use Rattle.sheet.proofs.reader.pair_key.Reads as pair-key-reads
 
 abbrev Inv-loop : tie.InvT-loop
 Inv-loop sheet n keys₀ m i₀ keys i = (m ≡ n - 3) × Listed sheet n (length keys₀) keys i

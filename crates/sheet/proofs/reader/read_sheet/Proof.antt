@@ -9,12 +9,6 @@ use lib.Seq.{length-take-le}
 use Rattle.sheet.proofs.Found.{says-refused, says-held, room, no-diagonals, first-count, repeated, in-order, crossing, holds, fitting}
 use Rattle.sheet.proofs.reader.read_sheet.Statement.{statement}
 use Rattle.sheet.proofs.reader.read_sheet.Tie as tie
-use Rattle.sheet.proofs.reader.read_sheet.Reads as reads
-use Rattle.sheet.proofs.reader.read_sheet.Lts as lts
-use Rattle.keys.proofs.cross.crosses.Reads as crosses-reads
-use Rattle.keys.proofs.sort.order.Reads as order-reads
-use Rattle.sheet.proofs.reader.read_head.Reads as read-head-reads
-use Rattle.sheet.proofs.reader.read_pairs.Reads as read-pairs-reads
 
 read-head-requires : tie.Need-read-head-requires
 read-head-requires c κs = search needs

@@ -3,8 +3,6 @@ use Rattle.sheet.specs.Sheet.{numberBit}
 use Rattle.sheet.proofs.Fields.{more-yes, more-no}
 use Rattle.sheet.proofs.writer.map_byte.Statement.{statement}
 use Rattle.sheet.proofs.writer.map_byte.Tie as tie
-use Rattle.sheet.proofs.writer.map_byte.Reads as reads
-use Rattle.sheet.proofs.writer.map_byte.Lts as lts
 
 returns : tie.Need-returns
 unfolding numberBit

@@ -3,8 +3,6 @@ use native.Mathlib.Omega.{arith}
 use Rattle.sheet.specs.Sheet.{numberBytes}
 use Rattle.sheet.proofs.writer.number_size.Statement.{statement}
 use Rattle.sheet.proofs.writer.number_size.Tie as tie
-use Rattle.sheet.proofs.writer.number_size.Reads as reads
-use Rattle.sheet.proofs.writer.number_size.Lts as lts
 
 returns : tie.Need-returns
 unfolding numberBytes

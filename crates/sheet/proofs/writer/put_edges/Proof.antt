@@ -10,11 +10,6 @@ use Rattle.sheet.specs.Sheet.{pairBytes}
 use Rattle.sheet.proofs.Writing.{edges-next}
 use Rattle.sheet.proofs.writer.put_edges.Statement.{statement}
 use Rattle.sheet.proofs.writer.put_edges.Tie as tie
-use Rattle.sheet.proofs.writer.put_edges.Reads as reads
-use Rattle.sheet.proofs.writer.put_edges.Lts as lts
-use Rattle.codec.proofs.put16.Reads as put16-reads
-use Rattle.keys.proofs.high.Reads as high-reads
-use Rattle.keys.proofs.low.Reads as low-reads
 
 abbrev Inv-loop : tie.InvT-loop
 Inv-loop out₀ at keys i₀ out i = (i ≤ length keys) × (length out ≡ length out₀) × (out ≡ sets out₀ at (pairBytes (edgesOf (take i keys))))

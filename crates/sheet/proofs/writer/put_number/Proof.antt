@@ -8,9 +8,6 @@ use Rattle.sheet.specs.Sheet.{numberBytes}
 use Rattle.sheet.specs.Held.{numberOf}
 use Rattle.sheet.proofs.writer.put_number.Statement.{statement}
 use Rattle.sheet.proofs.writer.put_number.Tie as tie
-use Rattle.sheet.proofs.writer.put_number.Reads as reads
-use Rattle.sheet.proofs.writer.put_number.Lts as lts
-use Rattle.codec.proofs.put32.Reads as put32-reads
 
 put32-requires : tie.Need-put32-requires
 unfolding numberBytes

@@ -9,13 +9,6 @@ use Rattle.sheet.specs.Sheet.{mapByte}
 use Rattle.sheet.proofs.Writing.{small-front, too-short, finished}
 use Rattle.sheet.proofs.writer.write_sheet.Statement.{statement}
 use Rattle.sheet.proofs.writer.write_sheet.Tie as tie
-use Rattle.sheet.proofs.writer.write_sheet.Reads as reads
-use Rattle.sheet.proofs.writer.write_sheet.Lts as lts
-use Rattle.codec.proofs.put16.Reads as put16-reads
-use Rattle.sheet.proofs.writer.map_byte.Reads as map-byte-reads
-use Rattle.sheet.proofs.writer.number_size.Reads as number-size-reads
-use Rattle.sheet.proofs.writer.put_edges.Reads as put-edges-reads
-use Rattle.sheet.proofs.writer.put_number.Reads as put-number-reads
 
 sub-m : tie.Need-sub-m
 sub-m c = search needs
