@@ -14,7 +14,11 @@ add-ear-requires : tie.Need-add-ear-requires
 add-ear-requires c κs = search needs
 
 pack-requires : tie.Need-pack-requires
-pack-requires c κs = packable (c .before .before .add-ear .result) (c .before .before .add-ear .last .1 .1 .0) (rw (c .before .before .add-ear .ensures) (omega (arith, edited-size (addEar (c .before .before .before .before .before .before .args .side)) (c .before .before .before .before .before .before .args .sheet .now) (c .before .before .before .before .before .before .args .out .now) (all-at 0 (c .before .before .before .before .before .before .args .sheet .now) (λ i h. omega (arith, c .before .before .before .before .before .shared-slice-known .given i))))))
+pack-requires c κs =
+    let at-add-ear = c .before .before in
+    let at-shared-slice-known = at-add-ear .before .before .before in
+    let start = at-shared-slice-known .before in
+    packable (at-add-ear .add-ear .result) (at-add-ear .add-ear .last .1 .1 .0) (rw (at-add-ear .add-ear .ensures) (omega (arith, edited-size (addEar (start .args .side)) (start .args .sheet .now) (start .args .out .now) (all-at 0 (start .args .sheet .now) (λ i h. omega (arith, at-shared-slice-known .shared-slice-known .given i))))))
 
 same-length : tie.Need-same-length
 same-length c = search needs

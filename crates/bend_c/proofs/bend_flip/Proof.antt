@@ -14,7 +14,11 @@ flip-requires : tie.Need-flip-requires
 flip-requires c κs = search needs
 
 pack-requires : tie.Need-pack-requires
-pack-requires c κs = packable (c .before .before .flip .result) (c .before .before .flip .last .1 .1 .1 .0) (rw (c .before .before .flip .ensures) (omega (arith, edited-size (flip (c .before .before .before .before .before .before .args .a) (c .before .before .before .before .before .before .args .b)) (c .before .before .before .before .before .before .args .sheet .now) (c .before .before .before .before .before .before .args .out .now) (all-at 0 (c .before .before .before .before .before .before .args .sheet .now) (λ i h. omega (arith, c .before .before .before .before .before .shared-slice-known .given i))))))
+pack-requires c κs =
+    let at-flip = c .before .before in
+    let at-shared-slice-known = at-flip .before .before .before in
+    let start = at-shared-slice-known .before in
+    packable (at-flip .flip .result) (at-flip .flip .last .1 .1 .1 .0) (rw (at-flip .flip .ensures) (omega (arith, edited-size (flip (start .args .a) (start .args .b)) (start .args .sheet .now) (start .args .out .now) (all-at 0 (start .args .sheet .now) (λ i h. omega (arith, at-shared-slice-known .shared-slice-known .given i))))))
 
 same-length : tie.Need-same-length
 same-length c = search needs

@@ -14,7 +14,11 @@ remove-ear-requires : tie.Need-remove-ear-requires
 remove-ear-requires c κs = search needs
 
 pack-requires : tie.Need-pack-requires
-pack-requires c κs = packable (c .before .before .remove-ear .result) (c .before .before .remove-ear .last .1 .1 .0) (rw (c .before .before .remove-ear .ensures) (omega (arith, edited-size (removeEar (c .before .before .before .before .before .before .args .corner)) (c .before .before .before .before .before .before .args .sheet .now) (c .before .before .before .before .before .before .args .out .now) (all-at 0 (c .before .before .before .before .before .before .args .sheet .now) (λ i h. omega (arith, c .before .before .before .before .before .shared-slice-known .given i))))))
+pack-requires c κs =
+    let at-remove-ear = c .before .before in
+    let at-shared-slice-known = at-remove-ear .before .before .before in
+    let start = at-shared-slice-known .before in
+    packable (at-remove-ear .remove-ear .result) (at-remove-ear .remove-ear .last .1 .1 .0) (rw (at-remove-ear .remove-ear .ensures) (omega (arith, edited-size (removeEar (start .args .corner)) (start .args .sheet .now) (start .args .out .now) (all-at 0 (start .args .sheet .now) (λ i h. omega (arith, at-shared-slice-known .shared-slice-known .given i))))))
 
 same-length : tie.Need-same-length
 same-length c = search needs

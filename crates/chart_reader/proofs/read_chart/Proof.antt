@@ -35,7 +35,11 @@ same-length c = search needs
 
 returns-2 : tie.Need-returns-2
 unfolding chartRead
-returns-2 c = c .before .before .write-sheet .ensures ∙ read-held (c .before .before .before .before .before .before .before .before .before .read-part .result) (c .before .before .before .before .before .before .before .before .before .read-part .last .1 .0) (c .before .before .before .before .before .before .before .before .before .before .before .before .before .args .out .now) (c .before .before .before .before .before .before .h .given .0 .0) _ (c .before .before .before .before .before .before .before .before .before .read-part .ensures .0) (c .before .before .before .before .before .before .h .given .1)
+returns-2 c =
+    let at-h = c .before .before .before .before .before .before in
+    let at-read-part = at-h .before .before .before in
+    let start = at-read-part .before .before .before .before in
+    c .before .before .write-sheet .ensures ∙ read-held (at-read-part .read-part .result) (at-read-part .read-part .last .1 .0) (start .args .out .now) (at-h .h .given .0 .0) _ (at-read-part .read-part .ensures .0) (at-h .h .given .1)
 
 pub read-chart-spec : {M : Type 1} → statement M
 read-chart-spec = tie.close (tie.spec slice-aggregate-read-part read-part-requires enum-known-k enum-known-h slice-aggregate-write-sheet write-sheet-requires returns same-length returns-2)

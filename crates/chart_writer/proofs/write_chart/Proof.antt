@@ -37,13 +37,19 @@ slice-aggregate-write-layout : tie.Need-slice-aggregate-write-layout
 slice-aggregate-write-layout c = front-count (2 * c .before .before .before .before .before .before .before .before .args .n - 3) (c .before .before .list-edges .last .1 .1 .0) (replicate 2045 0) (c .before .before .list-edges .kept .1 .1 .0) (omega (arith, c .before .before .before .before .before .before .before .before .pre .0 .full, c .before .before .before .before .before .before .before .before .pre .1 .1 .0))
 
 write-layout-requires : tie.Need-write-layout-requires
-write-layout-requires c κs = rw (front (2 * c .before .before .before .before .before .before .before .before .before .args .n - 3) (c .before .before .before .list-edges .last .1 .1 .0) (replicate 2045 0) (c .before .before .before .list-edges .kept .1 .1 .0) (omega (arith, c .before .before .before .before .before .before .before .before .before .pre .0 .full, c .before .before .before .before .before .before .before .before .before .pre .1 .1 .0))) (listed-rising (c .before .before .before .before .before .before .before .before .before .args .n) (c .before .before .before .before .before .before .before .before .before .args .keys .now) (c .before .before .before .before .before .before .before .before .before .pre .0) (c .before .before .before .before .before .before .before .before .before .pre .1 .1 .0) (c .before .before .before .list-edges .last .1 .1 .0) (c .before .before .before .list-edges .ensures), (listed-keyed (c .before .before .before .before .before .before .before .before .before .args .n) (c .before .before .before .before .before .before .before .before .before .args .keys .now) (c .before .before .before .before .before .before .before .before .before .pre .0) (c .before .before .before .before .before .before .before .before .before .pre .1 .1 .0) (c .before .before .before .list-edges .last .1 .1 .0) (c .before .before .before .list-edges .ensures), (listed-drawn (c .before .before .before .before .before .before .before .before .before .args .n) (c .before .before .before .before .before .before .before .before .before .args .keys .now) (c .before .before .before .before .before .before .before .before .before .pre .0) (c .before .before .before .before .before .before .before .before .before .pre .1 .1 .0) (c .before .before .before .list-edges .last .1 .1 .0) (c .before .before .before .list-edges .ensures) (c .before .before .before .before .before .before .before .before .before .args .cols .now) (c .before .before .before .before .before .before .before .before .before .pre .1 .0), (omega (arith, c .before .before .before .before .before .before .before .before .before .pre .0 .full), c .before .before .before .before .before .before .before .before .before .pre .1 .1 .0, omega (arith, c .before .before .before .list-edges .kept .1 .1 .0, length-take-le {A = ℕ} (2 * c .before .before .before .before .before .before .before .before .before .args .n - 3) (replicate 2045 0) (omega (arith, c .before .before .before .before .before .before .before .before .before .pre .0 .full, c .before .before .before .before .before .before .before .before .before .pre .1 .1 .0))), c .before .before .before .before .before .before .before .before .before .pre .1 .1 .1, c .before .before .before .before .before .before .before .before .before .pre .1 .1 .2, c .before .before .before .before .before .before .before .before .before .pre .1 .1 .3, c .before .before .before .before .before .before .before .before .before .pre .1 .1 .4))))
+write-layout-requires c κs =
+    let at-list-edges = c .before .before .before in
+    let start = at-list-edges .before .before .before .before .before .before in
+    rw (front (2 * start .args .n - 3) (at-list-edges .list-edges .last .1 .1 .0) (replicate 2045 0) (at-list-edges .list-edges .kept .1 .1 .0) (omega (arith, start .pre .0 .full, start .pre .1 .1 .0))) (listed-rising (start .args .n) (start .args .keys .now) (start .pre .0) (start .pre .1 .1 .0) (at-list-edges .list-edges .last .1 .1 .0) (at-list-edges .list-edges .ensures), (listed-keyed (start .args .n) (start .args .keys .now) (start .pre .0) (start .pre .1 .1 .0) (at-list-edges .list-edges .last .1 .1 .0) (at-list-edges .list-edges .ensures), (listed-drawn (start .args .n) (start .args .keys .now) (start .pre .0) (start .pre .1 .1 .0) (at-list-edges .list-edges .last .1 .1 .0) (at-list-edges .list-edges .ensures) (start .args .cols .now) (start .pre .1 .0), (omega (arith, start .pre .0 .full), start .pre .1 .1 .0, omega (arith, at-list-edges .list-edges .kept .1 .1 .0, length-take-le {A = ℕ} (2 * start .args .n - 3) (replicate 2045 0) (omega (arith, start .pre .0 .full, start .pre .1 .1 .0))), start .pre .1 .1 .1, start .pre .1 .1 .2, start .pre .1 .1 .3, start .pre .1 .1 .4))))
 
 same-length : tie.Need-same-length
 same-length c = search needs
 
 returns : tie.Need-returns
-returns c = λ rs R. c .before .before .write-layout .ensures rs R ∙ ap (λ (es : List Edge). written (write (bytesOf (layout (c .before .before .before .before .before .before .before .before .before .before .before .before .args .n - 1) (c .before .before .before .before .before .before .before .before .before .before .before .before .args .levels) rs (edgesOf (c .before .before .before .before .before .before .before .before .before .before .before .before .args .cols .now)) es))) (c .before .before .before .before .before .before .before .before .before .before .before .before .args .out .now)) (ap edgesOf (front (2 * c .before .before .before .before .before .before .before .before .before .before .before .before .args .n - 3) (c .before .before .before .before .before .before .list-edges .last .1 .1 .0) (replicate 2045 0) (c .before .before .before .before .before .before .list-edges .kept .1 .1 .0) (omega (arith, c .before .before .before .before .before .before .before .before .before .before .before .before .pre .0 .full, c .before .before .before .before .before .before .before .before .before .before .before .before .pre .1 .1 .0))) ∙ c .before .before .before .before .before .before .list-edges .ensures)
+returns c =
+    let at-list-edges = c .before .before .before .before .before .before in
+    let start = at-list-edges .before .before .before .before .before .before in
+    λ rs R. c .before .before .write-layout .ensures rs R ∙ ap (λ (es : List Edge). written (write (bytesOf (layout (start .args .n - 1) (start .args .levels) rs (edgesOf (start .args .cols .now)) es))) (start .args .out .now)) (ap edgesOf (front (2 * start .args .n - 3) (at-list-edges .list-edges .last .1 .1 .0) (replicate 2045 0) (at-list-edges .list-edges .kept .1 .1 .0) (omega (arith, start .pre .0 .full, start .pre .1 .1 .0))) ∙ at-list-edges .list-edges .ensures)
 
 pub write-chart-spec : {M : Type 1} → statement M
 write-chart-spec = tie.close (tie.spec mul-m sub-m array-borrow-prefix-listed slice-aggregate-list-edges list-edges-requires array-share-prefix-listed slice-aggregate-write-layout write-layout-requires same-length returns)

@@ -31,7 +31,10 @@ add-size-2 : tie.Need-add-size-2
 add-size-2 c = search needs
 
 returns : tie.Need-returns
-returns c = λ rs R. chart-short (c .before .before .before .before .before .before .before .before .before .before .args .n) (c .before .before .before .before .before .before .before .before .before .before .args .levels) rs (c .before .before .before .before .before .before .before .before .before .before .args .listed .now) (c .before .before .before .before .before .before .before .before .before .before .args .cols .now) (c .before .before .before .before .find-columns .last .1 .1 .0) (c .before .before .before .before .before .before .before .before .before .before .args .out .now) (c .before .before .before .before .before .before .before .before .before .before .pre .1 .1 .1 .0) (omega (arith, c .before .before .before .before .before .before .before .before .before .before .pre .1 .1 .1 .6)) (c .before .before .before .before .find-columns .ensures) (c .before .strokes-size .result) (c .before .strokes-size .ensures .0 (c .before .before .before .before .before .before .before .before .before .before .args .listed .now)) (c .if1 .taken)
+returns c =
+    let at-find-columns = c .before .before .before .before in
+    let start = at-find-columns .before .before .before .before .before .before in
+    λ rs R. chart-short (start .args .n) (start .args .levels) rs (start .args .listed .now) (start .args .cols .now) (at-find-columns .find-columns .last .1 .1 .0) (start .args .out .now) (start .pre .1 .1 .1 .0) (omega (arith, start .pre .1 .1 .1 .6)) (at-find-columns .find-columns .ensures) (c .before .strokes-size .result) (c .before .strokes-size .ensures .0 (start .args .listed .now)) (c .if1 .taken)
 
 cast-left : tie.Need-cast-left
 cast-left c = search needs
@@ -43,7 +46,9 @@ slice-aggregate-spans-2 : tie.Need-slice-aggregate-spans-2
 slice-aggregate-spans-2 c = search needs
 
 spans-requires : tie.Need-spans-requires
-spans-requires c κs = (keyed-columns (c .before .before .before .before .before .before .before .before .before .before .before .before .args .listed .now) (c .before .before .before .before .before .before .before .before .before .before .before .before .args .cols .now) (c .before .before .before .before .before .before .before .before .before .before .before .before .pre .1 .0) (c .before .before .before .before .before .before .before .before .before .before .before .before .pre .1 .1 .0), ((c .before .before .before .before .before .before .before .before .before .before .before .before .pre .1 .1 .1 .0, c .before .before .before .before .before .before .before .before .before .before .before .before .pre .1 .1 .1 .1, c .before .before .before .before .before .before .before .before .before .before .before .before .pre .1 .1 .1 .5, omega arith), ((length-replicate 1024 (length (c .before .before .before .before .before .before .before .before .before .before .before .before .args .cols .now)), λ x h. getD-replicate 1024 x (length (c .before .before .before .before .before .before .before .before .before .before .before .before .args .cols .now)) 0 h), (length-replicate {A = ℕ} 1024 0, λ x h. getD-replicate 1024 x 0 0 h))))
+spans-requires c κs =
+    let start = c .before .before .before .before .before .before .before .before .before .before .before .before in
+    (keyed-columns (start .args .listed .now) (start .args .cols .now) (start .pre .1 .0) (start .pre .1 .1 .0), ((start .pre .1 .1 .1 .0, start .pre .1 .1 .1 .1, start .pre .1 .1 .1 .5, omega arith), ((length-replicate 1024 (length (start .args .cols .now)), λ x h. getD-replicate 1024 x (length (start .args .cols .now)) 0 h), (length-replicate {A = ℕ} 1024 0, λ x h. getD-replicate 1024 x 0 0 h))))
 
 mul-put16 : tie.Need-mul-put16
 mul-put16 c = search needs
@@ -67,7 +72,13 @@ slice-aggregate-put-bars-2 : tie.Need-slice-aggregate-put-bars-2
 slice-aggregate-put-bars-2 c = search needs
 
 put-bars-requires : tie.Need-put-bars-requires
-put-bars-requires c κs = (c .before .before .before .before .before .before .before .before .before .before .before .before .before .before .before .before .before .before .before .before .before .before .before .before .before .before .before .before .before .before .pre .1 .1 .1 .4, omega (arith, c .before .before .before .before .before .before .before .before .before .before .before .before .before .before .before .before .before .spans .kept .1 .1 .0, c .before .before .before .before .before .before .before .before .before .before .before .before .before .before .before .before .before .before .before .before .before .before .before .before .before .before .before .before .before .before .pre .1 .1 .1 .1), omega (arith, c .before .before .before .before .before .before .before .before .before .before .before .before .before .before .before .before .before .spans .kept .1 .1 .1 .0, c .before .before .before .before .before .before .before .before .before .before .before .before .before .before .before .before .before .before .before .before .before .before .before .before .before .before .before .before .before .before .pre .1 .1 .1 .1), omega (arith, c .before .before .before .before .before .before .before .before .before .before .before .before .before .put16 .kept .0, c .before .before .before .before .before .before .before .before .before .put162 .kept .0, c .before .before .before .before .before .put163 .kept .0))
+put-bars-requires c κs =
+    let at-put163 = c .before .before .before .before .before in
+    let at-put162 = at-put163 .before .before .before .before in
+    let at-put16 = at-put162 .before .before .before .before in
+    let at-spans = at-put16 .before .before .before .before in
+    let start = at-spans .before .before .before .before .before .before .before .before .before .before .before .before .before in
+    (start .pre .1 .1 .1 .4, omega (arith, at-spans .spans .kept .1 .1 .0, start .pre .1 .1 .1 .1), omega (arith, at-spans .spans .kept .1 .1 .1 .0, start .pre .1 .1 .1 .1), omega (arith, at-put16 .put16 .kept .0, at-put162 .put162 .kept .0, at-put163 .put163 .kept .0))
 
 mul-put-strokes : tie.Need-mul-put-strokes
 mul-put-strokes c = omega (arith, c .before .before .before .before .before .before .before .before .before .before .before .before .before .before .before .before .before .before .before .before .before .before .before .before .before .before .before .before .before .before .before .before .before .before .pre .1 .1 .1 .1)
@@ -79,13 +90,32 @@ slice-aggregate-put-strokes : tie.Need-slice-aggregate-put-strokes
 slice-aggregate-put-strokes c = search needs
 
 put-strokes-requires : tie.Need-put-strokes-requires
-put-strokes-requires c κs = (c .before .before .before .before .before .before .before .before .before .before .before .before .before .before .before .before .before .before .before .before .before .before .before .before .before .before .before .before .before .before .before .before .before .before .before .pre .1 .0, (omega (arith, c .before .before .before .before .before .before .before .before .before .before .before .before .before .before .before .before .before .before .before .before .before .before .before .before .before .before .before .before .before .find-columns .kept .1 .1 .0, c .before .before .before .before .before .before .before .before .before .before .before .before .before .before .before .before .before .before .before .before .before .before .before .before .before .before .before .before .before .before .before .before .before .before .before .pre .1 .1 .1 .2), omega (arith, c .before .before .before .before .before .before .before .before .before .before .before .before .before .before .before .before .before .before .put16 .kept .0, c .before .before .before .before .before .before .before .before .before .before .before .before .before .before .put162 .kept .0, c .before .before .before .before .before .before .before .before .before .before .put163 .kept .0, c .before .before .before .before .put-bars .kept .0, c .before .before .before .before .before .before .before .before .before .before .before .before .before .before .before .before .before .before .before .before .before .before .before .before .before .before .strokes-size .ensures .0 (c .before .before .before .before .before .before .before .before .before .before .before .before .before .before .before .before .before .before .before .before .before .before .before .before .before .before .before .before .before .before .before .before .before .before .before .args .listed .now))))
+put-strokes-requires c κs =
+    let at-put-bars = c .before .before .before .before in
+    let at-put163 = at-put-bars .before .before .before .before .before .before in
+    let at-put162 = at-put163 .before .before .before .before in
+    let at-put16 = at-put162 .before .before .before .before in
+    let at-if1 = at-put16 .before .before .before .before .before .before .before in
+    let at-strokes-size = at-if1 .before in
+    let at-find-columns = at-strokes-size .before .before .before in
+    let start = at-find-columns .before .before .before .before .before .before in
+    (start .pre .1 .0, (omega (arith, at-find-columns .find-columns .kept .1 .1 .0, start .pre .1 .1 .1 .2), omega (arith, at-put16 .put16 .kept .0, at-put162 .put162 .kept .0, at-put163 .put163 .kept .0, at-put-bars .put-bars .kept .0, at-if1 .if1 .left, at-strokes-size .strokes-size .ensures .0 (start .args .listed .now))))
 
 same-length : tie.Need-same-length
 same-length c = search needs
 
 returns-2 : tie.Need-returns-2
-returns-2 c = λ rs R. chart-written (c .before .before .before .before .before .before .before .before .before .before .before .before .before .before .before .before .before .before .before .before .before .before .before .before .before .before .before .before .before .before .before .before .before .before .before .before .before .before .args .n) (c .before .before .before .before .before .before .before .before .before .before .before .before .before .before .before .before .before .before .before .before .before .before .before .before .before .before .before .before .before .before .before .before .before .before .before .before .before .before .args .levels) rs (c .before .before .before .before .before .before .before .before .before .before .before .before .before .before .before .before .before .before .before .before .before .before .before .before .before .before .before .before .before .before .before .before .before .before .before .before .before .before .args .listed .now) (c .before .before .before .before .before .before .before .before .before .before .before .before .before .before .before .before .before .before .before .before .before .before .before .before .before .before .before .before .before .before .before .before .before .before .before .before .before .before .args .cols .now) (c .before .before .before .before .before .before .before .before .before .before .before .before .before .before .before .before .before .before .before .before .before .before .before .before .before .before .before .before .before .before .before .before .find-columns .last .1 .1 .0) (c .before .before .before .before .before .before .before .before .before .before .before .before .before .before .before .before .before .before .before .before .before .before .before .before .before .before .before .before .before .before .before .before .before .before .before .before .before .before .args .out .now) (c .before .before .before .before .before .before .before .before .before .before .before .before .before .before .before .before .before .before .before .before .before .before .before .before .before .before .before .before .before .before .before .before .before .before .before .before .before .before .pre .1 .1 .1 .0) (omega (arith, c .before .before .before .before .before .before .before .before .before .before .before .before .before .before .before .before .before .before .before .before .before .before .before .before .before .before .before .before .before .before .before .before .before .before .before .before .before .before .pre .1 .1 .1 .6)) (c .before .before .before .before .before .before .before .before .before .before .before .before .before .before .before .before .before .before .before .before .before .before .before .before .before .before .before .before .before .before .before .before .find-columns .ensures) (c .before .before .before .before .before .before .before .before .before .before .before .before .before .before .before .before .before .before .before .before .before .before .before .before .before .before .before .before .before .strokes-size .result) (c .before .before .before .before .before .before .before .before .before .before .before .before .before .before .before .before .before .before .before .before .before .before .before .before .before .before .before .before .before .strokes-size .ensures .0 (c .before .before .before .before .before .before .before .before .before .before .before .before .before .before .before .before .before .before .before .before .before .before .before .before .before .before .before .before .before .before .before .before .before .before .before .before .before .before .args .listed .now)) (c .before .before .before .before .before .before .before .before .before .before .before .before .before .before .before .before .before .before .before .before .before .before .before .before .before .before .before .before .before .before .before .before .before .before .before .before .before .before .args .rows .now) (c .before .before .before .before .before .before .before .before .before .before .before .before .before .before .before .before .before .before .before .before .before .before .before .before .before .spans .last .1 .1 .0) (c .before .before .before .before .before .before .before .before .before .before .before .before .before .before .before .before .before .before .before .before .before .before .before .before .before .spans .last .1 .1 .1 .0) _ R (c .before .before .before .before .before .before .before .before .before .before .before .before .before .before .before .before .before .before .before .before .before .before .before .before .before .spans .ensures) (c .before .before .before .before .before .before .before .before .before .before .before .before .before .before .before .before .before .before .before .before .before .before .before .before .before .before .before .before .if1 .left) (c .before .before .put-strokes .ensures ∙ rw (c .before .before .before .before .before .before .before .put-bars .ensures, c .before .before .before .before .before .before .before .before .before .before .before .before .before .put163 .ensures, c .before .before .before .before .before .before .before .before .before .before .before .before .before .before .before .before .before .put162 .ensures, c .before .before .before .before .before .before .before .before .before .before .before .before .before .before .before .before .before .before .before .before .before .put16 .ensures))
+returns-2 c =
+    let at-put-bars = c .before .before .before .before .before .before .before in
+    let at-put163 = at-put-bars .before .before .before .before .before .before in
+    let at-put162 = at-put163 .before .before .before .before in
+    let at-put16 = at-put162 .before .before .before .before in
+    let at-spans = at-put16 .before .before .before .before in
+    let at-if1 = at-spans .before .before .before in
+    let at-strokes-size = at-if1 .before in
+    let at-find-columns = at-strokes-size .before .before .before in
+    let start = at-find-columns .before .before .before .before .before .before in
+    λ rs R. chart-written (start .args .n) (start .args .levels) rs (start .args .listed .now) (start .args .cols .now) (at-find-columns .find-columns .last .1 .1 .0) (start .args .out .now) (start .pre .1 .1 .1 .0) (omega (arith, start .pre .1 .1 .1 .6)) (at-find-columns .find-columns .ensures) (at-strokes-size .strokes-size .result) (at-strokes-size .strokes-size .ensures .0 (start .args .listed .now)) (start .args .rows .now) (at-spans .spans .last .1 .1 .0) (at-spans .spans .last .1 .1 .1 .0) _ R (at-spans .spans .ensures) (at-if1 .if1 .left) (c .before .before .put-strokes .ensures ∙ rw (at-put-bars .put-bars .ensures, at-put163 .put163 .ensures, at-put162 .put162 .ensures, at-put16 .put16 .ensures))
 
 pub write-layout-spec : {M : Type 1} → statement M
 write-layout-spec = tie.close (tie.spec slice-aggregate-find-columns find-columns-requires mul-size add-size slice-aggregate-strokes-size strokes-size-requires add-size-2 returns cast-left slice-aggregate-spans slice-aggregate-spans-2 spans-requires mul-put16 add-put16 put16-requires put16-requires-2 put16-requires-3 slice-aggregate-put-bars slice-aggregate-put-bars-2 put-bars-requires mul-put-strokes add-put-strokes slice-aggregate-put-strokes put-strokes-requires same-length returns-2)

@@ -21,7 +21,10 @@ same-length : tie.Need-same-length
 same-length c = search needs
 
 returns : tie.Need-returns
-returns c = c .before .before .put162 .ensures ∙ rw (c .before .before .before .before .before .before .put16 .ensures, sets-append (bytes16 (c .before .before .before .before .before .before .before .before .before .args .x / 65536)) (bytes16 (c .before .before .before .before .before .before .before .before .before .args .x % 65536)) (c .before .before .before .before .before .before .before .before .before .args .s .now) (c .before .before .before .before .before .before .before .before .before .args .at))
+returns c =
+    let at-put16 = c .before .before .before .before .before .before in
+    let start = at-put16 .before .before .before in
+    c .before .before .put162 .ensures ∙ rw (at-put16 .put16 .ensures, sets-append (bytes16 (start .args .x / 65536)) (bytes16 (start .args .x % 65536)) (start .args .s .now) (start .args .at))
 
 pub put32-spec : {M : Type 1} → statement M
 put32-spec = tie.close (tie.spec put16-requires add-put16 put16-requires-2 same-length returns)

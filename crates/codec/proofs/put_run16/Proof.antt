@@ -36,7 +36,11 @@ cast-put16 : tie.Need-cast-put16 Inv-loop μ-loop
 cast-put16 c = omega (arith, c .before .before .before .before .shared-slice-known .given (c .before .before .before .loop .i))
 
 put16-requires : tie.Need-put16-requires Inv-loop μ-loop
-put16-requires c κs = (omega (arith, ap length (c .before .before .before .loop .inv .1), length-sets (c .before .before .before .before .before .before .args .s .now) (c .before .before .before .before .before .before .args .at) (run16 (take (c .before .before .before .loop .i) (c .before .before .before .before .before .before .args .xs .now)))), omega (arith, c .before .before .before .before .shared-slice-known .given (c .before .before .before .loop .i)))
+put16-requires c κs =
+    let at-loop = c .before .before .before in
+    let at-shared-slice-known = at-loop .before in
+    let start = at-shared-slice-known .before .before in
+    (omega (arith, ap length (at-loop .loop .inv .1), length-sets (start .args .s .now) (start .args .at) (run16 (take (at-loop .loop .i) (start .args .xs .now)))), omega (arith, at-shared-slice-known .shared-slice-known .given (at-loop .loop .i)))
 
 add-i : tie.Need-add-i Inv-loop μ-loop
 add-i c = search needs
@@ -45,7 +49,10 @@ loop-less : tie.Need-loop-less Inv-loop μ-loop
 loop-less c = search needs
 
 loop-again : tie.Need-loop-again Inv-loop μ-loop
-loop-again c = (search needs, c .before .before .put16 .ensures ∙ rw (c .before .before .before .before .before .before .loop .inv .1) (run16-next (c .before .before .before .before .before .before .before .before .before .args .xs .now) (c .before .before .before .before .before .before .before .before .before .args .s .now) (c .before .before .before .before .before .before .before .before .before .args .at) (c .before .before .before .before .before .before .loop .i) (omega arith)))
+loop-again c =
+    let at-loop = c .before .before .before .before .before .before in
+    let start = at-loop .before .before .before in
+    (search needs, c .before .before .put16 .ensures ∙ rw (at-loop .loop .inv .1) (run16-next (start .args .xs .now) (start .args .s .now) (start .args .at) (at-loop .loop .i) (omega arith)))
 
 same-length : tie.Need-same-length Inv-loop μ-loop
 same-length c = rw (c .before .loop .inv .1) (length-sets (c .before .before .before .before .args .s .now) (c .before .before .before .before .args .at) (run16 (take (c .before .loop .i) (c .before .before .before .before .args .xs .now))))

@@ -24,16 +24,28 @@ slice-aggregate-add-to : tie.Need-slice-aggregate-add-to
 slice-aggregate-add-to c = search needs
 
 add-to-requires : tie.Need-add-to-requires
-add-to-requires c κs = part-read (c .before .before .before .before .before .before .before .before .before .before .args .sheet .now) (c .before .before .before .h .given .0 .0) (c .before .before .before .before .before .before .read-sheet .last .1 .0) (read-held (c .before .before .before .before .before .before .before .before .before .before .args .sheet .now) (c .before .before .before .before .before .before .read-sheet .result) (c .before .before .before .before .before .before .read-sheet .last .1 .0) (c .before .before .before .h .given .0 .0) (c .before .before .before .before .before .before .read-sheet .ensures .0) (c .before .before .before .h .given .1)) (held-fits (c .before .before .before .before .before .before .read-sheet .result) _ _ (c .before .before .before .before .before .before .read-sheet .ensures .1) (c .before .before .before .h .given .1)) (omega (arith, c .before .before .before .before .before .before .read-sheet .kept .1 .0))
+add-to-requires c κs =
+    let at-h = c .before .before .before in
+    let at-read-sheet = at-h .before .before .before in
+    let start = at-read-sheet .before .before .before .before in
+    part-read (start .args .sheet .now) (at-h .h .given .0 .0) (at-read-sheet .read-sheet .last .1 .0) (read-held (start .args .sheet .now) (at-read-sheet .read-sheet .result) (at-read-sheet .read-sheet .last .1 .0) (at-h .h .given .0 .0) (at-read-sheet .read-sheet .ensures .0) (at-h .h .given .1)) (held-fits (at-read-sheet .read-sheet .result) _ _ (at-read-sheet .read-sheet .ensures .1) (at-h .h .given .1)) (omega (arith, at-read-sheet .read-sheet .kept .1 .0))
 
 returns : tie.Need-returns
-returns c = edited-refused (addEar (c .before .before .before .before .before .before .before .before .args .side)) (c .before .before .before .before .before .before .before .before .args .sheet .now) (c .before .before .before .before .before .before .before .before .args .out .now) _ (read-refused (c .before .before .before .before .before .before .before .before .args .sheet .now) (c .before .before .before .before .read-sheet .result) (c .before .before .before .before .read-sheet .last .1 .0) _ (c .before .before .before .before .read-sheet .ensures .0) (c .before .k .given .1))
+returns c =
+    let at-read-sheet = c .before .before .before .before in
+    let start = at-read-sheet .before .before .before .before in
+    edited-refused (addEar (start .args .side)) (start .args .sheet .now) (start .args .out .now) _ (read-refused (start .args .sheet .now) (at-read-sheet .read-sheet .result) (at-read-sheet .read-sheet .last .1 .0) _ (at-read-sheet .read-sheet .ensures .0) (c .before .k .given .1))
 
 same-length : tie.Need-same-length
 same-length c = search needs
 
 returns-2 : tie.Need-returns-2
-returns-2 c = c .before .before .before .add-to .ensures ∙ edited-held (addEar (c .before .before .before .before .before .before .before .before .before .before .before .before .before .before .args .side)) (c .before .before .before .before .before .before .before .before .before .before .before .before .before .before .args .sheet .now) (c .before .before .before .before .before .before .before .before .before .before .before .before .before .before .args .out .now) _ (read-held (c .before .before .before .before .before .before .before .before .before .before .before .before .before .before .args .sheet .now) (c .before .before .before .before .before .before .before .before .before .before .read-sheet .result) (c .before .before .before .before .before .before .before .before .before .before .read-sheet .last .1 .0) (c .before .before .before .before .before .before .before .h .given .0 .0) (c .before .before .before .before .before .before .before .before .before .before .read-sheet .ensures .0) (c .before .before .before .before .before .before .before .h .given .1))
+returns-2 c =
+    let at-add-to = c .before .before .before in
+    let at-h = at-add-to .before .before .before .before in
+    let at-read-sheet = at-h .before .before .before in
+    let start = at-read-sheet .before .before .before .before in
+    at-add-to .add-to .ensures ∙ edited-held (addEar (start .args .side)) (start .args .sheet .now) (start .args .out .now) _ (read-held (start .args .sheet .now) (at-read-sheet .read-sheet .result) (at-read-sheet .read-sheet .last .1 .0) (at-h .h .given .0 .0) (at-read-sheet .read-sheet .ensures .0) (at-h .h .given .1))
 
 pub add-ear-spec : {M : Type 1} → statement M
 add-ear-spec = tie.close (tie.spec slice-aggregate-read-sheet read-sheet-requires enum-known-k enum-known-h slice-aggregate-add-to add-to-requires returns same-length returns-2)

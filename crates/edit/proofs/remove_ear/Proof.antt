@@ -24,16 +24,28 @@ slice-aggregate-remove-from : tie.Need-slice-aggregate-remove-from
 slice-aggregate-remove-from c = search needs
 
 remove-from-requires : tie.Need-remove-from-requires
-remove-from-requires c κs = part-read (c .before .before .before .before .before .before .before .before .before .before .args .sheet .now) (c .before .before .before .h .given .0 .0) (c .before .before .before .before .before .before .read-sheet .last .1 .0) (read-held (c .before .before .before .before .before .before .before .before .before .before .args .sheet .now) (c .before .before .before .before .before .before .read-sheet .result) (c .before .before .before .before .before .before .read-sheet .last .1 .0) (c .before .before .before .h .given .0 .0) (c .before .before .before .before .before .before .read-sheet .ensures .0) (c .before .before .before .h .given .1)) (held-fits (c .before .before .before .before .before .before .read-sheet .result) _ _ (c .before .before .before .before .before .before .read-sheet .ensures .1) (c .before .before .before .h .given .1)) (omega (arith, c .before .before .before .before .before .before .read-sheet .kept .1 .0))
+remove-from-requires c κs =
+    let at-h = c .before .before .before in
+    let at-read-sheet = at-h .before .before .before in
+    let start = at-read-sheet .before .before .before .before in
+    part-read (start .args .sheet .now) (at-h .h .given .0 .0) (at-read-sheet .read-sheet .last .1 .0) (read-held (start .args .sheet .now) (at-read-sheet .read-sheet .result) (at-read-sheet .read-sheet .last .1 .0) (at-h .h .given .0 .0) (at-read-sheet .read-sheet .ensures .0) (at-h .h .given .1)) (held-fits (at-read-sheet .read-sheet .result) _ _ (at-read-sheet .read-sheet .ensures .1) (at-h .h .given .1)) (omega (arith, at-read-sheet .read-sheet .kept .1 .0))
 
 returns : tie.Need-returns
-returns c = edited-refused (removeEar (c .before .before .before .before .before .before .before .before .args .corner)) (c .before .before .before .before .before .before .before .before .args .sheet .now) (c .before .before .before .before .before .before .before .before .args .out .now) _ (read-refused (c .before .before .before .before .before .before .before .before .args .sheet .now) (c .before .before .before .before .read-sheet .result) (c .before .before .before .before .read-sheet .last .1 .0) _ (c .before .before .before .before .read-sheet .ensures .0) (c .before .k .given .1))
+returns c =
+    let at-read-sheet = c .before .before .before .before in
+    let start = at-read-sheet .before .before .before .before in
+    edited-refused (removeEar (start .args .corner)) (start .args .sheet .now) (start .args .out .now) _ (read-refused (start .args .sheet .now) (at-read-sheet .read-sheet .result) (at-read-sheet .read-sheet .last .1 .0) _ (at-read-sheet .read-sheet .ensures .0) (c .before .k .given .1))
 
 same-length : tie.Need-same-length
 same-length c = search needs
 
 returns-2 : tie.Need-returns-2
-returns-2 c = c .before .before .before .remove-from .ensures ∙ edited-held (removeEar (c .before .before .before .before .before .before .before .before .before .before .before .before .before .before .args .corner)) (c .before .before .before .before .before .before .before .before .before .before .before .before .before .before .args .sheet .now) (c .before .before .before .before .before .before .before .before .before .before .before .before .before .before .args .out .now) _ (read-held (c .before .before .before .before .before .before .before .before .before .before .before .before .before .before .args .sheet .now) (c .before .before .before .before .before .before .before .before .before .before .read-sheet .result) (c .before .before .before .before .before .before .before .before .before .before .read-sheet .last .1 .0) (c .before .before .before .before .before .before .before .h .given .0 .0) (c .before .before .before .before .before .before .before .before .before .before .read-sheet .ensures .0) (c .before .before .before .before .before .before .before .h .given .1))
+returns-2 c =
+    let at-remove-from = c .before .before .before in
+    let at-h = at-remove-from .before .before .before .before in
+    let at-read-sheet = at-h .before .before .before in
+    let start = at-read-sheet .before .before .before .before in
+    at-remove-from .remove-from .ensures ∙ edited-held (removeEar (start .args .corner)) (start .args .sheet .now) (start .args .out .now) _ (read-held (start .args .sheet .now) (at-read-sheet .read-sheet .result) (at-read-sheet .read-sheet .last .1 .0) (at-h .h .given .0 .0) (at-read-sheet .read-sheet .ensures .0) (at-h .h .given .1))
 
 pub remove-ear-spec : {M : Type 1} → statement M
 remove-ear-spec = tie.close (tie.spec slice-aggregate-read-sheet read-sheet-requires enum-known-k enum-known-h slice-aggregate-remove-from remove-from-requires returns same-length returns-2)

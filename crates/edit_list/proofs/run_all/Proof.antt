@@ -17,7 +17,11 @@ loop-holds : tie.Need-loop-holds Inv-loop μ-loop
 loop-holds c = running-begin (c .before .before .before .before .before .args .first .now) (c .before .before .before .before .before .args .list .now) (c .before .before .before .before .before .args .front .now) (c .before .before .before .before .before .args .back .now) (c .before .before .before .before .before .args .numbers .now)
 
 step-requires : tie.Need-step-requires Inv-loop μ-loop
-step-requires c κs = (c .before .before .loop-test .taken, (c .before .before .before .loop .inv .sound .lies, edit-spacious (c .before .before .before .before .before .before .before .before .before .args .first .now) (c .before .before .before .before .before .before .before .before .before .args .list .now) (c .before .before .before .before .before .before .before .before .before .args .front .now) (c .before .before .before .before .before .before .before .before .before .args .back .now) (c .before .before .before .before .before .before .before .before .before .args .numbers .now) (c .before .before .before .before .before .before .before .before .before .pre .0) (deskOf (c .before .before .before .loop .place) (c .before .before .before .loop .size) (c .before .before .before .loop .front) (c .before .before .before .loop .back)) (c .before .before .before .loop .numbers) (c .before .before .before .loop .i) (c .before .before .before .loop .inv) (c .before .before .loop-test .taken)))
+step-requires c κs =
+    let at-loop-test = c .before .before in
+    let at-loop = at-loop-test .before in
+    let start = at-loop .before .before .before .before .before .before in
+    (at-loop-test .loop-test .taken, (at-loop .loop .inv .sound .lies, edit-spacious (start .args .first .now) (start .args .list .now) (start .args .front .now) (start .args .back .now) (start .args .numbers .now) (start .pre .0) (deskOf (at-loop .loop .place) (at-loop .loop .size) (at-loop .loop .front) (at-loop .loop .back)) (at-loop .loop .numbers) (at-loop .loop .i) (at-loop .loop .inv) (at-loop-test .loop-test .taken)))
 
 mul-put16 : tie.Need-mul-put16 Inv-loop μ-loop
 mul-put16 c = omega arith
@@ -32,7 +36,13 @@ loop-less : tie.Need-loop-less Inv-loop μ-loop
 loop-less c = omega arith
 
 loop-again : tie.Need-loop-again Inv-loop μ-loop
-loop-again c = running-next (c .before .before .before .before .before .before .before .before .before .before .before .before .before .before .before .before .before .before .args .first .now) (c .before .before .before .before .before .before .before .before .before .before .before .before .before .before .before .before .before .before .args .list .now) (c .before .before .before .before .before .before .before .before .before .before .before .before .before .before .before .before .before .before .args .front .now) (c .before .before .before .before .before .before .before .before .before .before .before .before .before .before .before .before .before .before .args .back .now) (c .before .before .before .before .before .before .before .before .before .before .before .before .before .before .before .before .before .before .args .numbers .now) (c .before .before .before .before .before .before .before .before .before .before .before .before .before .before .before .before .before .before .pre .0) (deskOf (c .before .before .before .before .before .before .before .before .before .before .before .before .loop .place) (c .before .before .before .before .before .before .before .before .before .before .before .before .loop .size) (c .before .before .before .before .before .before .before .before .before .before .before .before .loop .front) (c .before .before .before .before .before .before .before .before .before .before .before .before .loop .back)) (c .before .before .before .before .before .before .before .before .before .before .before .before .loop .numbers) (c .before .before .before .before .before .before .before .before .before .before .before .before .loop .i) (c .before .before .before .before .before .before .before .before .before .before .before .before .loop .inv) (c .before .before .before .before .before .before .before .before .before .before .before .loop-test .taken) (deskOf (c .before .before .before .before .before .before .before .before .step .result .place) (c .before .before .before .before .before .before .before .before .step .result .size) (c .before .before .before .before .before .before .before .before .step .last .1 .1 .1 .0) (c .before .before .before .before .before .before .before .before .step .last .1 .1 .1 .1 .0)) (c .before .before .before .before .before .before .before .before .step .result .number) (c .before .before .put16 .last .0) (c .before .before .before .before .before .before .before .before .step .ensures .desk-after) (c .before .before .before .before .before .before .before .before .step .ensures .number-given) (c .before .before .put16 .ensures)
+loop-again c =
+    let at-put16 = c .before .before in
+    let at-step = at-put16 .before .before .before .before .before .before in
+    let at-loop-test = at-step .before .before .before in
+    let at-loop = at-loop-test .before in
+    let start = at-loop .before .before .before .before .before .before in
+    running-next (start .args .first .now) (start .args .list .now) (start .args .front .now) (start .args .back .now) (start .args .numbers .now) (start .pre .0) (deskOf (at-loop .loop .place) (at-loop .loop .size) (at-loop .loop .front) (at-loop .loop .back)) (at-loop .loop .numbers) (at-loop .loop .i) (at-loop .loop .inv) (at-loop-test .loop-test .taken) (deskOf (at-step .step .result .place) (at-step .step .result .size) (at-step .step .last .1 .1 .1 .0) (at-step .step .last .1 .1 .1 .1 .0)) (at-step .step .result .number) (at-put16 .put16 .last .0) (at-step .step .ensures .desk-after) (at-step .step .ensures .number-given) (at-put16 .put16 .ensures)
 
 same-length : tie.Need-same-length Inv-loop μ-loop
 same-length c = c .before .loop .inv .sound .front-length
@@ -44,7 +54,9 @@ same-length-3 : tie.Need-same-length-3 Inv-loop μ-loop
 same-length-3 c = c .before .loop .inv .outs-length
 
 returns : tie.Need-returns Inv-loop μ-loop
-returns c = (running-desk (c .before .before .before .before .before .before .before .args .first .now) (c .before .before .before .before .before .before .before .args .list .now) (c .before .before .before .before .before .before .before .args .front .now) (c .before .before .before .before .before .before .before .args .back .now) (c .before .before .before .before .before .before .before .args .numbers .now) (c .before .loop .place) (c .before .loop .size) (c .before .loop .front) (c .before .loop .back) (c .before .loop .numbers) (c .before .loop .i) (c .before .loop .inv) (c .loop-test .left), running-outs (c .before .before .before .before .before .before .before .args .first .now) (c .before .before .before .before .before .before .before .args .list .now) (c .before .before .before .before .before .before .before .args .front .now) (c .before .before .before .before .before .before .before .args .back .now) (c .before .before .before .before .before .before .before .args .numbers .now) (c .before .loop .place) (c .before .loop .size) (c .before .loop .front) (c .before .loop .back) (c .before .loop .numbers) (c .before .loop .i) (c .before .loop .inv) (c .loop-test .left) (c .before .before .before .before .before .before .before .pre .1))
+returns c =
+    let start = c .before .before .before .before .before .before .before in
+    (running-desk (start .args .first .now) (start .args .list .now) (start .args .front .now) (start .args .back .now) (start .args .numbers .now) (c .before .loop .place) (c .before .loop .size) (c .before .loop .front) (c .before .loop .back) (c .before .loop .numbers) (c .before .loop .i) (c .before .loop .inv) (c .loop-test .left), running-outs (start .args .first .now) (start .args .list .now) (start .args .front .now) (start .args .back .now) (start .args .numbers .now) (c .before .loop .place) (c .before .loop .size) (c .before .loop .front) (c .before .loop .back) (c .before .loop .numbers) (c .before .loop .i) (c .before .loop .inv) (c .loop-test .left) (start .pre .1))
 
 pub run-all-spec : {M : Type 1} → statement M
 run-all-spec = tie.close (tie.spec Inv-loop μ-loop loop-holds step-requires mul-put16 put16-requires add-i loop-less loop-again same-length same-length-2 same-length-3 returns)

@@ -53,7 +53,15 @@ same-length-2 : tie.Need-same-length-2
 same-length-2 c = search needs
 
 returns : tie.Need-returns
-returns c = stepped-taken (c .before .before .before .before .before .before .before .before .before .before .before .before .before .before .before .before .before .before .before .before .args .first .now) (deskOf (c .before .before .before .before .before .before .before .before .before .before .before .before .before .before .before .before .before .before .before .before .args .place) (c .before .before .before .before .before .before .before .before .before .before .before .before .before .before .before .before .before .before .before .before .args .size) (c .before .before .before .before .before .before .before .before .before .before .before .before .before .before .before .before .before .before .before .before .args .front .now) (c .before .before .before .before .before .before .before .before .before .before .before .before .before .before .before .before .before .before .before .before .args .back .now)) (editAt (c .before .before .before .before .before .before .before .before .before .before .before .before .before .before .before .before .before .before .before .before .args .list .now) (c .before .before .before .before .before .before .before .before .before .before .before .before .before .before .before .before .before .before .before .before .args .i)) (c .before .before .before .before .before .before .before .before .lend .result) (c .before .before .before .before .before .before .before .before .lend .last .1 .0) (c .before .before .before .before .before .before .before .before .lend .last .1 .1 .0) (rw (edit-read (c .before .before .before .before .before .before .before .before .before .before .before .before .before .before .before .before .before .before .before .before .args .list .now) (c .before .before .before .before .before .before .before .before .before .before .before .before .before .before .before .before .before .before .before .before .args .i) (c .before .before .before .before .before .before .before .before .before .before .before .before .before .before .wide .result) (c .before .before .before .before .before .before .before .before .before .before .before .before .before .get32 .result) (c .before .before .before .before .before .before .before .before .before .before .before .before .get322 .result) (c .before .before .before .before .before .before .before .before .before .before .before .get323 .result) (c .before .before .before .before .before .before .before .before .before .before .before .before .before .before .wide .ensures .0) (c .before .before .before .before .before .before .before .before .before .before .before .before .before .get32 .ensures .0) (c .before .before .before .before .before .before .before .before .before .before .before .before .get322 .ensures .0) (c .before .before .before .before .before .before .before .before .before .before .before .get323 .ensures .0)) at (c .before .before .before .before .before .before .before .before .lend .ensures)) (record { place = c .before .other .result; size = c .size-of .result; number = c .before .before .before .number-of .result }) (c .before .before .before .number-of .ensures .1) (c .before .before .before .number-of .ensures .0) (c .before .before .if1 .taken) (c .before .other .ensures) (c .size-of .ensures)
+returns c =
+    let at-number-of = c .before .before .before in
+    let at-lend = at-number-of .before .before .before .before .before in
+    let at-get323 = at-lend .before .before .before in
+    let at-get322 = at-get323 .before in
+    let at-get32 = at-get322 .before in
+    let at-wide = at-get32 .before in
+    let start = at-wide .before .before .before .before .before .before in
+    stepped-taken (start .args .first .now) (deskOf (start .args .place) (start .args .size) (start .args .front .now) (start .args .back .now)) (editAt (start .args .list .now) (start .args .i)) (at-lend .lend .result) (at-lend .lend .last .1 .0) (at-lend .lend .last .1 .1 .0) (rw (edit-read (start .args .list .now) (start .args .i) (at-wide .wide .result) (at-get32 .get32 .result) (at-get322 .get322 .result) (at-get323 .get323 .result) (at-wide .wide .ensures .0) (at-get32 .get32 .ensures .0) (at-get322 .get322 .ensures .0) (at-get323 .get323 .ensures .0)) at (at-lend .lend .ensures)) (record { place = c .before .other .result; size = c .size-of .result; number = at-number-of .number-of .result }) (at-number-of .number-of .ensures .1) (at-number-of .number-of .ensures .0) (c .before .before .if1 .taken) (c .before .other .ensures) (c .size-of .ensures)
 
 same-length-3 : tie.Need-same-length-3
 same-length-3 c = search needs
@@ -62,7 +70,14 @@ same-length-4 : tie.Need-same-length-4
 same-length-4 c = search needs
 
 returns-2 : tie.Need-returns-2
-returns-2 c = stepped-refused (c .before .before .before .before .before .before .before .before .before .before .before .before .before .before .before .before .before .before .args .first .now) (deskOf (c .before .before .before .before .before .before .before .before .before .before .before .before .before .before .before .before .before .before .args .place) (c .before .before .before .before .before .before .before .before .before .before .before .before .before .before .before .before .before .before .args .size) (c .before .before .before .before .before .before .before .before .before .before .before .before .before .before .before .before .before .before .args .front .now) (c .before .before .before .before .before .before .before .before .before .before .before .before .before .before .before .before .before .before .args .back .now)) (editAt (c .before .before .before .before .before .before .before .before .before .before .before .before .before .before .before .before .before .before .args .list .now) (c .before .before .before .before .before .before .before .before .before .before .before .before .before .before .before .before .before .before .args .i)) (c .before .before .before .before .before .before .lend .result) (c .before .before .before .before .before .before .lend .last .1 .0) (c .before .before .before .before .before .before .lend .last .1 .1 .0) (rw (edit-read (c .before .before .before .before .before .before .before .before .before .before .before .before .before .before .before .before .before .before .args .list .now) (c .before .before .before .before .before .before .before .before .before .before .before .before .before .before .before .before .before .before .args .i) (c .before .before .before .before .before .before .before .before .before .before .before .before .wide .result) (c .before .before .before .before .before .before .before .before .before .before .before .get32 .result) (c .before .before .before .before .before .before .before .before .before .before .get322 .result) (c .before .before .before .before .before .before .before .before .before .get323 .result) (c .before .before .before .before .before .before .before .before .before .before .before .before .wide .ensures .0) (c .before .before .before .before .before .before .before .before .before .before .before .get32 .ensures .0) (c .before .before .before .before .before .before .before .before .before .before .get322 .ensures .0) (c .before .before .before .before .before .before .before .before .before .get323 .ensures .0)) at (c .before .before .before .before .before .before .lend .ensures)) (record { place = c .before .before .before .before .before .before .before .before .before .before .before .before .before .before .before .before .before .before .args .place; size = c .before .before .before .before .before .before .before .before .before .before .before .before .before .before .before .before .before .before .args .size; number = c .before .number-of .result }) (c .before .number-of .ensures .1) (c .before .number-of .ensures .0) (c .if1 .left) refl refl
+returns-2 c =
+    let at-lend = c .before .before .before .before .before .before in
+    let at-get323 = at-lend .before .before .before in
+    let at-get322 = at-get323 .before in
+    let at-get32 = at-get322 .before in
+    let at-wide = at-get32 .before in
+    let start = at-wide .before .before .before .before .before .before in
+    stepped-refused (start .args .first .now) (deskOf (start .args .place) (start .args .size) (start .args .front .now) (start .args .back .now)) (editAt (start .args .list .now) (start .args .i)) (at-lend .lend .result) (at-lend .lend .last .1 .0) (at-lend .lend .last .1 .1 .0) (rw (edit-read (start .args .list .now) (start .args .i) (at-wide .wide .result) (at-get32 .get32 .result) (at-get322 .get322 .result) (at-get323 .get323 .result) (at-wide .wide .ensures .0) (at-get32 .get32 .ensures .0) (at-get322 .get322 .ensures .0) (at-get323 .get323 .ensures .0)) at (at-lend .lend .ensures)) (record { place = start .args .place; size = start .args .size; number = c .before .number-of .result }) (c .before .number-of .ensures .1) (c .before .number-of .ensures .0) (c .if1 .left) refl refl
 
 pub step-spec : {M : Type 1} → statement M
 step-spec = tie.close (tie.spec mul-at shared-slice-read-wide wide-requires add-get32 get32-requires add-get32-2 get32-requires-2 add-get32-3 get32-requires-3 lend-requires number-of-requires other-requires size-of-requires same-length same-length-2 returns same-length-3 same-length-4 returns-2)

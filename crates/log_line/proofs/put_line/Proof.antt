@@ -26,43 +26,107 @@ slice-aggregate-put-field-2 : tie.Need-slice-aggregate-put-field-2
 slice-aggregate-put-field-2 c = search needs
 
 put-field-requires-2 : tie.Need-put-field-requires-2
-put-field-requires-2 c κs = omega (arith, c .before .before .before .before .before .before .before .before .before .before .before .before .before .put-word .ensures .end, c .before .before .before .before .before .before .before .before .before .before .before .before .before .put-word .kept .0, c .before .before .before .before .before .before .before .before .before .put-number .ensures .1, c .before .before .before .before .before .before .before .before .before .put-number .kept .0, c .before .before .before .before .put-field .ensures .1, c .before .before .before .before .put-field .kept .0, c .before .before .before .before .before .before .before .before .before .before .before .before .before .before .before .before .before .pre)
+put-field-requires-2 c κs =
+    let at-put-field = c .before .before .before .before in
+    let at-put-number = at-put-field .before .before .before .before .before in
+    let at-put-word = at-put-number .before .before .before .before in
+    let start = at-put-word .before .before .before .before in
+    omega (arith, at-put-word .put-word .ensures .end, at-put-word .put-word .kept .0, at-put-number .put-number .ensures .1, at-put-number .put-number .kept .0, at-put-field .put-field .ensures .1, at-put-field .put-field .kept .0, start .pre)
 
 slice-aggregate-put-field-3 : tie.Need-slice-aggregate-put-field-3
 slice-aggregate-put-field-3 c = search needs
 
 put-field-requires-3 : tie.Need-put-field-requires-3
-put-field-requires-3 c κs = omega (arith, c .before .before .before .before .before .before .before .before .before .before .before .before .before .before .before .before .before .before .put-word .ensures .end, c .before .before .before .before .before .before .before .before .before .before .before .before .before .before .before .before .before .before .put-word .kept .0, c .before .before .before .before .before .before .before .before .before .before .before .before .before .before .put-number .ensures .1, c .before .before .before .before .before .before .before .before .before .before .before .before .before .before .put-number .kept .0, c .before .before .before .before .before .before .before .before .before .put-field .ensures .1, c .before .before .before .before .before .before .before .before .before .put-field .kept .0, c .before .before .before .before .put-field2 .ensures .1, c .before .before .before .before .put-field2 .kept .0, c .before .before .before .before .before .before .before .before .before .before .before .before .before .before .before .before .before .before .before .before .before .before .pre)
+put-field-requires-3 c κs =
+    let at-put-field2 = c .before .before .before .before in
+    let at-put-field = at-put-field2 .before .before .before .before .before in
+    let at-put-number = at-put-field .before .before .before .before .before in
+    let at-put-word = at-put-number .before .before .before .before in
+    let start = at-put-word .before .before .before .before in
+    omega (arith, at-put-word .put-word .ensures .end, at-put-word .put-word .kept .0, at-put-number .put-number .ensures .1, at-put-number .put-number .kept .0, at-put-field .put-field .ensures .1, at-put-field .put-field .kept .0, at-put-field2 .put-field2 .ensures .1, at-put-field2 .put-field2 .kept .0, start .pre)
 
 slice-aggregate-put-field-4 : tie.Need-slice-aggregate-put-field-4
 slice-aggregate-put-field-4 c = search needs
 
 put-field-requires-4 : tie.Need-put-field-requires-4
-put-field-requires-4 c κs = omega (arith, c .before .before .before .before .before .before .before .before .before .before .before .before .before .before .before .before .before .before .before .before .before .before .before .put-word .ensures .end, c .before .before .before .before .before .before .before .before .before .before .before .before .before .before .before .before .before .before .before .before .before .before .before .put-word .kept .0, c .before .before .before .before .before .before .before .before .before .before .before .before .before .before .before .before .before .before .before .put-number .ensures .1, c .before .before .before .before .before .before .before .before .before .before .before .before .before .before .before .before .before .before .before .put-number .kept .0, c .before .before .before .before .before .before .before .before .before .before .before .before .before .before .put-field .ensures .1, c .before .before .before .before .before .before .before .before .before .before .before .before .before .before .put-field .kept .0, c .before .before .before .before .before .before .before .before .before .put-field2 .ensures .1, c .before .before .before .before .before .before .before .before .before .put-field2 .kept .0, c .before .before .before .before .put-field3 .ensures .1, c .before .before .before .before .put-field3 .kept .0, c .before .before .before .before .before .before .before .before .before .before .before .before .before .before .before .before .before .before .before .before .before .before .before .before .before .before .before .pre)
+put-field-requires-4 c κs =
+    let at-put-field3 = c .before .before .before .before in
+    let at-put-field2 = at-put-field3 .before .before .before .before .before in
+    let at-put-field = at-put-field2 .before .before .before .before .before in
+    let at-put-number = at-put-field .before .before .before .before .before in
+    let at-put-word = at-put-number .before .before .before .before in
+    let start = at-put-word .before .before .before .before in
+    omega (arith, at-put-word .put-word .ensures .end, at-put-word .put-word .kept .0, at-put-number .put-number .ensures .1, at-put-number .put-number .kept .0, at-put-field .put-field .ensures .1, at-put-field .put-field .kept .0, at-put-field2 .put-field2 .ensures .1, at-put-field2 .put-field2 .kept .0, at-put-field3 .put-field3 .ensures .1, at-put-field3 .put-field3 .kept .0, start .pre)
 
 slice-aggregate-put-field-5 : tie.Need-slice-aggregate-put-field-5
 slice-aggregate-put-field-5 c = search needs
 
 put-field-requires-5 : tie.Need-put-field-requires-5
-put-field-requires-5 c κs = omega (arith, c .before .before .before .before .before .before .before .before .before .before .before .before .before .before .before .before .before .before .before .before .before .before .before .before .before .before .before .before .put-word .ensures .end, c .before .before .before .before .before .before .before .before .before .before .before .before .before .before .before .before .before .before .before .before .before .before .before .before .before .before .before .before .put-word .kept .0, c .before .before .before .before .before .before .before .before .before .before .before .before .before .before .before .before .before .before .before .before .before .before .before .before .put-number .ensures .1, c .before .before .before .before .before .before .before .before .before .before .before .before .before .before .before .before .before .before .before .before .before .before .before .before .put-number .kept .0, c .before .before .before .before .before .before .before .before .before .before .before .before .before .before .before .before .before .before .before .put-field .ensures .1, c .before .before .before .before .before .before .before .before .before .before .before .before .before .before .before .before .before .before .before .put-field .kept .0, c .before .before .before .before .before .before .before .before .before .before .before .before .before .before .put-field2 .ensures .1, c .before .before .before .before .before .before .before .before .before .before .before .before .before .before .put-field2 .kept .0, c .before .before .before .before .before .before .before .before .before .put-field3 .ensures .1, c .before .before .before .before .before .before .before .before .before .put-field3 .kept .0, c .before .before .before .before .put-field4 .ensures .1, c .before .before .before .before .put-field4 .kept .0, c .before .before .before .before .before .before .before .before .before .before .before .before .before .before .before .before .before .before .before .before .before .before .before .before .before .before .before .before .before .before .before .before .pre)
+put-field-requires-5 c κs =
+    let at-put-field4 = c .before .before .before .before in
+    let at-put-field3 = at-put-field4 .before .before .before .before .before in
+    let at-put-field2 = at-put-field3 .before .before .before .before .before in
+    let at-put-field = at-put-field2 .before .before .before .before .before in
+    let at-put-number = at-put-field .before .before .before .before .before in
+    let at-put-word = at-put-number .before .before .before .before in
+    let start = at-put-word .before .before .before .before in
+    omega (arith, at-put-word .put-word .ensures .end, at-put-word .put-word .kept .0, at-put-number .put-number .ensures .1, at-put-number .put-number .kept .0, at-put-field .put-field .ensures .1, at-put-field .put-field .kept .0, at-put-field2 .put-field2 .ensures .1, at-put-field2 .put-field2 .kept .0, at-put-field3 .put-field3 .ensures .1, at-put-field3 .put-field3 .kept .0, at-put-field4 .put-field4 .ensures .1, at-put-field4 .put-field4 .kept .0, start .pre)
 
 slice-aggregate-put-field-6 : tie.Need-slice-aggregate-put-field-6
 slice-aggregate-put-field-6 c = search needs
 
 put-field-requires-6 : tie.Need-put-field-requires-6
-put-field-requires-6 c κs = omega (arith, c .before .before .before .before .before .before .before .before .before .before .before .before .before .before .before .before .before .before .before .before .before .before .before .before .before .before .before .before .before .before .before .before .before .put-word .ensures .end, c .before .before .before .before .before .before .before .before .before .before .before .before .before .before .before .before .before .before .before .before .before .before .before .before .before .before .before .before .before .before .before .before .before .put-word .kept .0, c .before .before .before .before .before .before .before .before .before .before .before .before .before .before .before .before .before .before .before .before .before .before .before .before .before .before .before .before .before .put-number .ensures .1, c .before .before .before .before .before .before .before .before .before .before .before .before .before .before .before .before .before .before .before .before .before .before .before .before .before .before .before .before .before .put-number .kept .0, c .before .before .before .before .before .before .before .before .before .before .before .before .before .before .before .before .before .before .before .before .before .before .before .before .put-field .ensures .1, c .before .before .before .before .before .before .before .before .before .before .before .before .before .before .before .before .before .before .before .before .before .before .before .before .put-field .kept .0, c .before .before .before .before .before .before .before .before .before .before .before .before .before .before .before .before .before .before .before .put-field2 .ensures .1, c .before .before .before .before .before .before .before .before .before .before .before .before .before .before .before .before .before .before .before .put-field2 .kept .0, c .before .before .before .before .before .before .before .before .before .before .before .before .before .before .put-field3 .ensures .1, c .before .before .before .before .before .before .before .before .before .before .before .before .before .before .put-field3 .kept .0, c .before .before .before .before .before .before .before .before .before .put-field4 .ensures .1, c .before .before .before .before .before .before .before .before .before .put-field4 .kept .0, c .before .before .before .before .put-field5 .ensures .1, c .before .before .before .before .put-field5 .kept .0, c .before .before .before .before .before .before .before .before .before .before .before .before .before .before .before .before .before .before .before .before .before .before .before .before .before .before .before .before .before .before .before .before .before .before .before .before .before .pre)
+put-field-requires-6 c κs =
+    let at-put-field5 = c .before .before .before .before in
+    let at-put-field4 = at-put-field5 .before .before .before .before .before in
+    let at-put-field3 = at-put-field4 .before .before .before .before .before in
+    let at-put-field2 = at-put-field3 .before .before .before .before .before in
+    let at-put-field = at-put-field2 .before .before .before .before .before in
+    let at-put-number = at-put-field .before .before .before .before .before in
+    let at-put-word = at-put-number .before .before .before .before in
+    let start = at-put-word .before .before .before .before in
+    omega (arith, at-put-word .put-word .ensures .end, at-put-word .put-word .kept .0, at-put-number .put-number .ensures .1, at-put-number .put-number .kept .0, at-put-field .put-field .ensures .1, at-put-field .put-field .kept .0, at-put-field2 .put-field2 .ensures .1, at-put-field2 .put-field2 .kept .0, at-put-field3 .put-field3 .ensures .1, at-put-field3 .put-field3 .kept .0, at-put-field4 .put-field4 .ensures .1, at-put-field4 .put-field4 .kept .0, at-put-field5 .put-field5 .ensures .1, at-put-field5 .put-field5 .kept .0, start .pre)
 
 slice-aggregate-put-word-2 : tie.Need-slice-aggregate-put-word-2
 slice-aggregate-put-word-2 c = search needs
 
 put-word-requires-2 : tie.Need-put-word-requires-2
-put-word-requires-2 c κs = omega (arith, c .before .before .before .before .before .before .before .before .before .before .before .before .before .before .before .before .before .before .before .before .before .before .before .before .before .before .before .before .before .before .before .before .before .before .before .before .before .before .put-word .ensures .end, c .before .before .before .before .before .before .before .before .before .before .before .before .before .before .before .before .before .before .before .before .before .before .before .before .before .before .before .before .before .before .before .before .before .before .before .before .before .before .put-word .kept .0, c .before .before .before .before .before .before .before .before .before .before .before .before .before .before .before .before .before .before .before .before .before .before .before .before .before .before .before .before .before .before .before .before .before .before .put-number .ensures .1, c .before .before .before .before .before .before .before .before .before .before .before .before .before .before .before .before .before .before .before .before .before .before .before .before .before .before .before .before .before .before .before .before .before .before .put-number .kept .0, c .before .before .before .before .before .before .before .before .before .before .before .before .before .before .before .before .before .before .before .before .before .before .before .before .before .before .before .before .before .put-field .ensures .1, c .before .before .before .before .before .before .before .before .before .before .before .before .before .before .before .before .before .before .before .before .before .before .before .before .before .before .before .before .before .put-field .kept .0, c .before .before .before .before .before .before .before .before .before .before .before .before .before .before .before .before .before .before .before .before .before .before .before .before .put-field2 .ensures .1, c .before .before .before .before .before .before .before .before .before .before .before .before .before .before .before .before .before .before .before .before .before .before .before .before .put-field2 .kept .0, c .before .before .before .before .before .before .before .before .before .before .before .before .before .before .before .before .before .before .before .put-field3 .ensures .1, c .before .before .before .before .before .before .before .before .before .before .before .before .before .before .before .before .before .before .before .put-field3 .kept .0, c .before .before .before .before .before .before .before .before .before .before .before .before .before .before .put-field4 .ensures .1, c .before .before .before .before .before .before .before .before .before .before .before .before .before .before .put-field4 .kept .0, c .before .before .before .before .before .before .before .before .before .put-field5 .ensures .1, c .before .before .before .before .before .before .before .before .before .put-field5 .kept .0, c .before .before .before .before .put-field6 .ensures .1, c .before .before .before .before .put-field6 .kept .0, c .before .before .before .before .before .before .before .before .before .before .before .before .before .before .before .before .before .before .before .before .before .before .before .before .before .before .before .before .before .before .before .before .before .before .before .before .before .before .before .before .before .before .pre)
+put-word-requires-2 c κs =
+    let at-put-field6 = c .before .before .before .before in
+    let at-put-field5 = at-put-field6 .before .before .before .before .before in
+    let at-put-field4 = at-put-field5 .before .before .before .before .before in
+    let at-put-field3 = at-put-field4 .before .before .before .before .before in
+    let at-put-field2 = at-put-field3 .before .before .before .before .before in
+    let at-put-field = at-put-field2 .before .before .before .before .before in
+    let at-put-number = at-put-field .before .before .before .before .before in
+    let at-put-word = at-put-number .before .before .before .before in
+    let start = at-put-word .before .before .before .before in
+    omega (arith, at-put-word .put-word .ensures .end, at-put-word .put-word .kept .0, at-put-number .put-number .ensures .1, at-put-number .put-number .kept .0, at-put-field .put-field .ensures .1, at-put-field .put-field .kept .0, at-put-field2 .put-field2 .ensures .1, at-put-field2 .put-field2 .kept .0, at-put-field3 .put-field3 .ensures .1, at-put-field3 .put-field3 .kept .0, at-put-field4 .put-field4 .ensures .1, at-put-field4 .put-field4 .kept .0, at-put-field5 .put-field5 .ensures .1, at-put-field5 .put-field5 .kept .0, at-put-field6 .put-field6 .ensures .1, at-put-field6 .put-field6 .kept .0, start .pre)
 
 same-length : tie.Need-same-length
-same-length c = omega (arith, c .before .before .put-word2 .kept .0, c .before .before .before .before .before .before .before .before .before .before .before .before .before .before .before .before .before .before .before .before .before .before .before .before .before .before .before .before .before .before .before .before .before .before .before .before .before .before .before .before .before .put-word .ensures .end, c .before .before .before .before .before .before .before .before .before .before .before .before .before .before .before .before .before .before .before .before .before .before .before .before .before .before .before .before .before .before .before .before .before .before .before .before .before .before .before .before .before .put-word .kept .0, c .before .before .before .before .before .before .before .before .before .before .before .before .before .before .before .before .before .before .before .before .before .before .before .before .before .before .before .before .before .before .before .before .before .before .before .before .before .put-number .ensures .1, c .before .before .before .before .before .before .before .before .before .before .before .before .before .before .before .before .before .before .before .before .before .before .before .before .before .before .before .before .before .before .before .before .before .before .before .before .before .put-number .kept .0, c .before .before .before .before .before .before .before .before .before .before .before .before .before .before .before .before .before .before .before .before .before .before .before .before .before .before .before .before .before .before .before .before .put-field .ensures .1, c .before .before .before .before .before .before .before .before .before .before .before .before .before .before .before .before .before .before .before .before .before .before .before .before .before .before .before .before .before .before .before .before .put-field .kept .0, c .before .before .before .before .before .before .before .before .before .before .before .before .before .before .before .before .before .before .before .before .before .before .before .before .before .before .before .put-field2 .ensures .1, c .before .before .before .before .before .before .before .before .before .before .before .before .before .before .before .before .before .before .before .before .before .before .before .before .before .before .before .put-field2 .kept .0, c .before .before .before .before .before .before .before .before .before .before .before .before .before .before .before .before .before .before .before .before .before .before .put-field3 .ensures .1, c .before .before .before .before .before .before .before .before .before .before .before .before .before .before .before .before .before .before .before .before .before .before .put-field3 .kept .0, c .before .before .before .before .before .before .before .before .before .before .before .before .before .before .before .before .before .put-field4 .ensures .1, c .before .before .before .before .before .before .before .before .before .before .before .before .before .before .before .before .before .put-field4 .kept .0, c .before .before .before .before .before .before .before .before .before .before .before .before .put-field5 .ensures .1, c .before .before .before .before .before .before .before .before .before .before .before .before .put-field5 .kept .0, c .before .before .before .before .before .before .before .put-field6 .ensures .1, c .before .before .before .before .before .before .before .put-field6 .kept .0)
+same-length c =
+    let at-put-field6 = c .before .before .before .before .before .before .before in
+    let at-put-field5 = at-put-field6 .before .before .before .before .before in
+    let at-put-field4 = at-put-field5 .before .before .before .before .before in
+    let at-put-field3 = at-put-field4 .before .before .before .before .before in
+    let at-put-field2 = at-put-field3 .before .before .before .before .before in
+    let at-put-field = at-put-field2 .before .before .before .before .before in
+    let at-put-number = at-put-field .before .before .before .before .before in
+    let at-put-word = at-put-number .before .before .before .before in
+    omega (arith, c .before .before .put-word2 .kept .0, at-put-word .put-word .ensures .end, at-put-word .put-word .kept .0, at-put-number .put-number .ensures .1, at-put-number .put-number .kept .0, at-put-field .put-field .ensures .1, at-put-field .put-field .kept .0, at-put-field2 .put-field2 .ensures .1, at-put-field2 .put-field2 .kept .0, at-put-field3 .put-field3 .ensures .1, at-put-field3 .put-field3 .kept .0, at-put-field4 .put-field4 .ensures .1, at-put-field4 .put-field4 .kept .0, at-put-field5 .put-field5 .ensures .1, at-put-field5 .put-field5 .kept .0, at-put-field6 .put-field6 .ensures .1, at-put-field6 .put-field6 .kept .0)
 
 returns : tie.Need-returns
-returns c = line-put (factsOf (c .before .before .before .before .before .before .before .before .before .before .before .before .before .before .before .before .before .before .before .before .before .before .before .before .before .before .before .before .before .before .before .before .before .before .before .before .before .before .before .before .before .before .before .before .before .args .f)) (put-then (c .before .before .before .before .before .before .before .before .before .before .before .before .before .before .before .before .before .before .before .before .before .before .before .before .before .before .before .before .before .before .before .before .before .before .before .before .before .before .before .before .before .put-word .ensures) (put-then (c .before .before .before .before .before .before .before .before .before .before .before .before .before .before .before .before .before .before .before .before .before .before .before .before .before .before .before .before .before .before .before .before .before .before .before .before .before .put-number .ensures .0) (put-then (c .before .before .before .before .before .before .before .before .before .before .before .before .before .before .before .before .before .before .before .before .before .before .before .before .before .before .before .before .before .before .before .before .put-field .ensures .0) (put-then (c .before .before .before .before .before .before .before .before .before .before .before .before .before .before .before .before .before .before .before .before .before .before .before .before .before .before .before .put-field2 .ensures .0) (put-then (c .before .before .before .before .before .before .before .before .before .before .before .before .before .before .before .before .before .before .before .before .before .before .put-field3 .ensures .0) (put-then (c .before .before .before .before .before .before .before .before .before .before .before .before .before .before .before .before .before .put-field4 .ensures .0) (put-then (c .before .before .before .before .before .before .before .before .before .before .before .before .put-field5 .ensures .0) (put-then (c .before .before .before .before .before .before .before .put-field6 .ensures .0) (c .before .before .put-word2 .ensures)))))))))
+returns c =
+    let at-put-field6 = c .before .before .before .before .before .before .before in
+    let at-put-field5 = at-put-field6 .before .before .before .before .before in
+    let at-put-field4 = at-put-field5 .before .before .before .before .before in
+    let at-put-field3 = at-put-field4 .before .before .before .before .before in
+    let at-put-field2 = at-put-field3 .before .before .before .before .before in
+    let at-put-field = at-put-field2 .before .before .before .before .before in
+    let at-put-number = at-put-field .before .before .before .before .before in
+    let at-put-word = at-put-number .before .before .before .before in
+    let start = at-put-word .before .before .before .before in
+    line-put (factsOf (start .args .f)) (put-then (at-put-word .put-word .ensures) (put-then (at-put-number .put-number .ensures .0) (put-then (at-put-field .put-field .ensures .0) (put-then (at-put-field2 .put-field2 .ensures .0) (put-then (at-put-field3 .put-field3 .ensures .0) (put-then (at-put-field4 .put-field4 .ensures .0) (put-then (at-put-field5 .put-field5 .ensures .0) (put-then (at-put-field6 .put-field6 .ensures .0) (c .before .before .put-word2 .ensures)))))))))
 
 pub put-line-spec : {M : Type 1} → statement M
 put-line-spec = tie.close (tie.spec slice-aggregate-put-word put-word-requires put-number-requires slice-aggregate-put-field put-field-requires slice-aggregate-put-field-2 put-field-requires-2 slice-aggregate-put-field-3 put-field-requires-3 slice-aggregate-put-field-4 put-field-requires-4 slice-aggregate-put-field-5 put-field-requires-5 slice-aggregate-put-field-6 put-field-requires-6 slice-aggregate-put-word-2 put-word-requires-2 same-length returns)

@@ -44,13 +44,26 @@ same-length : tie.Need-same-length
 same-length c = search needs
 
 returns-4 : tie.Need-returns-4
-returns-4 c = (λ h F. not-formed (c .before .before .before .before .before .before .before .before .before .before .before .args .chart .now) (c .before .before .before .before .before .before .before .get16 .result) (c .before .before .before .before .before .before .before .get16 .ensures .0) (c .before .before .before .before .before .before .before .before .before .before .before .args .at .now) (c .before .before .before .before .before .before .before .before .before .before .before .pre) (c .before .before .before .before .before .before .if2 .left) (c .before .before .before .before .before .if3 .left) (c .before .before .before .stroke-places .ensures .1 (not-true _ (c .if4 .taken))) F, λ f. absurd (f refl))
+returns-4 c =
+    let at-stroke-places = c .before .before .before in
+    let at-if3 = at-stroke-places .before .before in
+    let at-if2 = at-if3 .before in
+    let at-get16 = at-if2 .before in
+    let start = at-get16 .before .before .before .before in
+    (λ h F. not-formed (start .args .chart .now) (at-get16 .get16 .result) (at-get16 .get16 .ensures .0) (start .args .at .now) (start .pre) (at-if2 .if2 .left) (at-if3 .if3 .left) (at-stroke-places .stroke-places .ensures .1 (not-true _ (c .if4 .taken))) F, λ f. absurd (f refl))
 
 same-length-2 : tie.Need-same-length-2
 same-length-2 c = search needs
 
 returns-5 : tie.Need-returns-5
-returns-5 c = (λ h. absurd (omega arith), λ f. framed (c .before .before .before .before .before .before .before .before .before .before .before .args .chart .now) (c .before .before .before .before .before .before .before .get16 .result) (c .before .before .before .before .before .before .before .get16 .ensures .0) (c .before .before .before .before .before .before .before .before .before .before .before .args .at .now) (c .before .before .before .before .before .before .before .before .before .before .before .pre) (c .before .before .before .before .before .before .if2 .left) (c .before .before .before .before .before .if3 .left) (c .before .before .before .stroke-places .last .1 .1 .0) (c .before .before .before .before .before .before .before .before .if1 .left) (c .before .before .before .stroke-places .ensures .0 (not-false _ (c .if4 .left))) (c .before .before .before .stroke-places .kept .1 .1 .0))
+returns-5 c =
+    let at-stroke-places = c .before .before .before in
+    let at-if3 = at-stroke-places .before .before in
+    let at-if2 = at-if3 .before in
+    let at-get16 = at-if2 .before in
+    let at-if1 = at-get16 .before in
+    let start = at-if1 .before .before .before in
+    (λ h. absurd (omega arith), λ f. framed (start .args .chart .now) (at-get16 .get16 .result) (at-get16 .get16 .ensures .0) (start .args .at .now) (start .pre) (at-if2 .if2 .left) (at-if3 .if3 .left) (at-stroke-places .stroke-places .last .1 .1 .0) (at-if1 .if1 .left) (at-stroke-places .stroke-places .ensures .0 (not-false _ (c .if4 .left))) (at-stroke-places .stroke-places .kept .1 .1 .0))
 
 pub frame-spec : {M : Type 1} → statement M
 frame-spec = tie.close (tie.spec returns get16-requires returns-2 returns-3 mul-m sub-m mul-stroke-places add-stroke-places slice-relend-prefix-stroke-places slice-aggregate-stroke-places stroke-places-requires same-length returns-4 same-length-2 returns-5)

@@ -31,7 +31,10 @@ same-length-2 : tie.Need-same-length-2 Inv-loop μ-loop
 same-length-2 c = c .before .before .before .before .loop .inv .size
 
 returns-2 : tie.Need-returns-2 Inv-loop μ-loop
-returns-2 c = (λ h. absurd (false≢true h), λ h. other-bit (c .before .before .before .before .before .args .chart .now) (c .before .before .before .before .before .args .from) (length (c .before .before .before .before .before .args .at .now)) (c .before .before .before .before .loop .at) (c .before .before .before .before .loop .i) (c .before .before .before .before .loop .p) (c .before .before .before .before .loop .inv) (omega (arith, c .before .before .before .before .loop .inv .size)) (c .if2 .taken))
+returns-2 c =
+    let at-loop = c .before .before .before .before in
+    let start = at-loop .before in
+    (λ h. absurd (false≢true h), λ h. other-bit (start .args .chart .now) (start .args .from) (length (start .args .at .now)) (at-loop .loop .at) (at-loop .loop .i) (at-loop .loop .p) (at-loop .loop .inv) (omega (arith, at-loop .loop .inv .size)) (c .if2 .taken))
 
 mul-at : tie.Need-mul-at Inv-loop μ-loop
 mul-at c = omega (arith, c .before .before .before .before .loop .inv)
@@ -58,13 +61,18 @@ loop-less : tie.Need-loop-less Inv-loop μ-loop
 loop-less c = simp length-set (omega arith)
 
 loop-again : tie.Need-loop-again Inv-loop μ-loop
-loop-again c = placing-next (c .before .before .before .before .before .args .chart .now) (c .before .before .before .before .before .args .from) (length (c .before .before .before .before .before .args .at .now)) (c .before .before .before .before .loop .at) (c .before .before .before .before .loop .i) (c .before .before .before .before .loop .p) (c .before .before .before .before .loop .inv) (omega (arith, c .before .before .before .before .loop .inv .size)) (c .if2 .left) _ refl
+loop-again c =
+    let at-loop = c .before .before .before .before in
+    let start = at-loop .before in
+    placing-next (start .args .chart .now) (start .args .from) (length (start .args .at .now)) (at-loop .loop .at) (at-loop .loop .i) (at-loop .loop .p) (at-loop .loop .inv) (omega (arith, at-loop .loop .inv .size)) (c .if2 .left) _ refl
 
 same-length-3 : tie.Need-same-length-3 Inv-loop μ-loop
 same-length-3 c = c .before .loop .inv .size
 
 returns-3 : tie.Need-returns-3 Inv-loop μ-loop
-returns-3 c = (λ h. placed (c .before .before .args .chart .now) (c .before .before .args .from) (length (c .before .before .args .at .now)) (c .before .loop .at) (c .before .loop .i) (c .before .loop .p) (c .before .loop .inv) (omega (arith, c .before .loop .inv .size)) (eqb-true _ _ h), λ h. not-ending (c .before .before .args .chart .now) (c .before .before .args .from) (length (c .before .before .args .at .now)) (c .before .loop .at) (c .before .loop .i) (c .before .loop .p) (c .before .loop .inv) (omega (arith, c .before .loop .inv .size)) (eqb-false (c .before .loop .p) (length (c .before .before .args .chart .now)) h))
+returns-3 c =
+    let start = c .before .before in
+    (λ h. placed (start .args .chart .now) (start .args .from) (length (start .args .at .now)) (c .before .loop .at) (c .before .loop .i) (c .before .loop .p) (c .before .loop .inv) (omega (arith, c .before .loop .inv .size)) (eqb-true _ _ h), λ h. not-ending (start .args .chart .now) (start .args .from) (length (start .args .at .now)) (c .before .loop .at) (c .before .loop .i) (c .before .loop .p) (c .before .loop .inv) (omega (arith, c .before .loop .inv .size)) (eqb-false (c .before .loop .p) (length (start .args .chart .now)) h))
 
 pub stroke-places-spec : {M : Type 1} → statement M
 stroke-places-spec = tie.close (tie.spec Inv-loop μ-loop loop-holds same-length returns shared-slice-read-map same-length-2 returns-2 mul-at slice-write-at cast-p mul-p add-p add-p-2 add-i loop-less loop-again same-length-3 returns-3)

@@ -27,10 +27,16 @@ shared-slice-read-clear : tie.Need-shared-slice-read-clear Inv-loop μ-loop
 shared-slice-read-clear c = omega arith
 
 clear-requires : tie.Need-clear-requires Inv-loop μ-loop
-clear-requires c κs = (stroke-in (c .before .before .before .before .before .before .args .chart .now) (c .before .before .before .before .before .before .args .n) (c .before .before .before .before .before .before .args .at .now) (c .before .before .before .before .before .before .pre .0) (c .before .before .loop .i) (c .before .loop-test .taken) (c .before .before .before .before .before .before .pre .1), bars-room (c .before .before .before .before .before .before .args .chart .now) (c .before .before .before .before .before .before .args .n) (c .before .before .before .before .before .before .args .at .now) (c .before .before .before .before .before .before .pre .0), c .before .before .before .before .before .before .pre .2)
+clear-requires c κs =
+    let start = c .before .before .before .before .before .before in
+    (stroke-in (start .args .chart .now) (start .args .n) (start .args .at .now) (start .pre .0) (c .before .before .loop .i) (c .before .loop-test .taken) (start .pre .1), bars-room (start .args .chart .now) (start .args .n) (start .args .at .now) (start .pre .0), start .pre .2)
 
 returns : tie.Need-returns Inv-loop μ-loop
-returns c = (λ h. absurd (false≢true h), λ h a. c .before .clear .ensures .1 (not-true _ (c .if1 .taken)) (strokes-at (c .before .before .before .before .before .before .before .before .args .chart .now) (c .before .before .before .before .before .before .before .before .args .n) (c .before .before .before .before .before .before .before .before .args .at .now) (c .before .before .before .before .before .before .before .before .pre .0) a (c .before .before .before .before .loop .i) (c .before .before .before .loop-test .taken)))
+returns c =
+    let at-loop-test = c .before .before .before in
+    let at-loop = at-loop-test .before in
+    let start = at-loop .before .before .before .before in
+    (λ h. absurd (false≢true h), λ h a. c .before .clear .ensures .1 (not-true _ (c .if1 .taken)) (strokes-at (start .args .chart .now) (start .args .n) (start .args .at .now) (start .pre .0) a (at-loop .loop .i) (at-loop-test .loop-test .taken)))
 
 add-i : tie.Need-add-i Inv-loop μ-loop
 add-i c = omega arith

@@ -19,7 +19,10 @@ bar-between-requires : tie.Need-bar-between-requires
 bar-between-requires c κs = search needs
 
 returns-2 : tie.Need-returns-2
-returns-2 c = (λ h. upright-clear (c .before .before .before .before .before .before .args .chart .now) (c .before .before .before .before .before .before .args .at) (c .before .before .before .before .before .before .pre .0 .bit) (c .before .before .if1 .left) (c .before .stroke-ends .result) (c .before .stroke-ends .ensures) (c .before .before .before .before .before .before .args .gaps .now) (c .before .before .before .before .before .before .args .g) (c .bar-between .ensures .1 (not-true _ h)), λ h. upright-met (c .before .before .before .before .before .before .args .chart .now) (c .before .before .before .before .before .before .args .at) (c .before .before .before .before .before .before .pre .0 .bit) (c .before .before .if1 .left) (c .before .stroke-ends .result) (c .before .stroke-ends .ensures) (c .before .before .before .before .before .before .args .gaps .now) (c .before .before .before .before .before .before .args .g) (c .bar-between .ensures .0 (not-false _ h)))
+returns-2 c =
+    let at-if1 = c .before .before in
+    let start = at-if1 .before .before .before .before in
+    (λ h. upright-clear (start .args .chart .now) (start .args .at) (start .pre .0 .bit) (at-if1 .if1 .left) (c .before .stroke-ends .result) (c .before .stroke-ends .ensures) (start .args .gaps .now) (start .args .g) (c .bar-between .ensures .1 (not-true _ h)), λ h. upright-met (start .args .chart .now) (start .args .at) (start .pre .0 .bit) (at-if1 .if1 .left) (c .before .stroke-ends .result) (c .before .stroke-ends .ensures) (start .args .gaps .now) (start .args .g) (c .bar-between .ensures .0 (not-false _ h)))
 
 pub clear-spec : {M : Type 1} → statement M
 clear-spec = tie.close (tie.spec shared-slice-read-if1 returns stroke-ends-requires bar-between-requires returns-2)

@@ -30,7 +30,11 @@ same-length : tie.Need-same-length
 same-length c = search needs
 
 returns : tie.Need-returns
-returns c = c .before .before .put163 .ensures ∙ rw (c .before .before .before .before .before .before .before .put162 .ensures, c .before .before .before .before .before .before .before .before .before .before .before .before .put16 .ensures) (bar-stored (c .before .before .before .before .before .before .before .before .before .before .before .before .before .before .before .before .before .args .gaps .now) (c .before .before .before .before .before .before .before .before .before .before .before .before .before .before .before .before .before .args .at) _ _ _)
+returns c =
+    let at-put162 = c .before .before .before .before .before .before .before in
+    let at-put16 = at-put162 .before .before .before .before .before in
+    let start = at-put16 .before .before .before .before .before in
+    c .before .before .put163 .ensures ∙ rw (at-put162 .put162 .ensures, at-put16 .put16 .ensures) (bar-stored (start .args .gaps .now) (start .args .at) _ _ _)
 
 pub put-gap-spec : {M : Type 1} → statement M
 put-gap-spec = tie.close (tie.spec put16-requires add-put16 add-put16-2 put16-requires-2 add-put16-3 sub-put16 put16-requires-3 same-length returns)

@@ -23,7 +23,11 @@ add-if2 c = search needs
 
 returns-2 : tie.Need-returns-2
 unfolding flatMap
-returns-2 c = rw (narrow-gap (c .before .before .before .before .before .before .before .before .before .before .args .chart .now) (c .before .before .before .before .before .before .before .before .before .before .args .at) (c .before .before .before .before .before .before .if1 .left) (c .before .before .before .before .before .stroke-ends .result) (c .before .before .before .before .before .stroke-ends .ensures) (c .if2 .taken)) (omega arith, refl)
+returns-2 c =
+    let at-stroke-ends = c .before .before .before .before .before in
+    let at-if1 = at-stroke-ends .before in
+    let start = at-if1 .before .before .before .before in
+    rw (narrow-gap (start .args .chart .now) (start .args .at) (at-if1 .if1 .left) (at-stroke-ends .stroke-ends .result) (at-stroke-ends .stroke-ends .ensures) (c .if2 .taken)) (omega arith, refl)
 
 mul-put-gap : tie.Need-mul-put-gap
 mul-put-gap c = search needs
@@ -39,7 +43,12 @@ same-length c = search needs
 
 returns-3 : tie.Need-returns-3
 unfolding flatMap barBytes
-returns-3 c = rw (wide-gap (c .before .before .before .before .before .before .before .before .before .before .before .before .before .before .args .chart .now) (c .before .before .before .before .before .before .before .before .before .before .before .before .before .before .args .at) (c .before .before .before .before .before .before .before .before .before .before .if1 .left) (c .before .before .before .before .before .before .before .before .before .stroke-ends .result) (c .before .before .before .before .before .before .before .before .before .stroke-ends .ensures) (c .before .before .before .before .if2 .left)) (refl, c .before .before .put-gap .ensures)
+returns-3 c =
+    let at-if2 = c .before .before .before .before in
+    let at-stroke-ends = at-if2 .before .before .before .before .before in
+    let at-if1 = at-stroke-ends .before in
+    let start = at-if1 .before .before .before .before in
+    rw (wide-gap (start .args .chart .now) (start .args .at) (at-if1 .if1 .left) (at-stroke-ends .stroke-ends .result) (at-stroke-ends .stroke-ends .ensures) (at-if2 .if2 .left)) (refl, c .before .before .put-gap .ensures)
 
 pub put-gap-of-spec : {M : Type 1} → statement M
 put-gap-of-spec = tie.close (tie.spec shared-slice-read-if1 returns stroke-ends-requires add-if2 returns-2 mul-put-gap put-gap-requires add-result same-length returns-3)

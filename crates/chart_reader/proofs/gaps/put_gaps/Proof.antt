@@ -23,7 +23,10 @@ shared-slice-read-put-gap-of : tie.Need-shared-slice-read-put-gap-of Inv-loop μ
 shared-slice-read-put-gap-of c = omega arith
 
 put-gap-of-requires : tie.Need-put-gap-of-requires Inv-loop μ-loop
-put-gap-of-requires c κs = (stroke-in (c .before .before .before .before .before .before .before .args .chart .now) (c .before .before .before .before .before .before .before .args .n) (c .before .before .before .before .before .before .before .args .at .now) (c .before .before .before .before .before .before .before .pre .0) (c .before .before .before .loop .i) (c .before .before .loop-test .taken) (c .before .before .before .before .before .before .before .pre .1), bars-room (c .before .before .before .before .before .before .before .args .chart .now) (c .before .before .before .before .before .before .before .args .n) (c .before .before .before .before .before .before .before .args .at .now) (c .before .before .before .before .before .before .before .pre .0), omega (arith, c .before .before .before .loop .inv .low, c .before .before .before .loop .inv .size, c .before .before .before .before .before .before .before .pre .2))
+put-gap-of-requires c κs =
+    let at-loop = c .before .before .before in
+    let start = at-loop .before .before .before .before in
+    (stroke-in (start .args .chart .now) (start .args .n) (start .args .at .now) (start .pre .0) (at-loop .loop .i) (c .before .before .loop-test .taken) (start .pre .1), bars-room (start .args .chart .now) (start .args .n) (start .args .at .now) (start .pre .0), omega (arith, at-loop .loop .inv .low, at-loop .loop .inv .size, start .pre .2))
 
 add-i : tie.Need-add-i Inv-loop μ-loop
 add-i c = omega arith
@@ -32,13 +35,20 @@ loop-less : tie.Need-loop-less Inv-loop μ-loop
 loop-less c = omega arith
 
 loop-again : tie.Need-loop-again Inv-loop μ-loop
-loop-again c = gapping-next (c .before .before .before .before .before .before .before .before .before .before .args .chart .now) (c .before .before .before .before .before .before .before .before .before .before .args .at .now) (c .before .before .before .before .before .before .before .before .before .before .args .gaps .now) (c .before .before .before .before .before .before .loop .gaps) (c .before .before .before .before .before .before .loop .g) (c .before .before .before .before .before .before .loop .i) (c .before .before .before .before .before .before .loop .inv) (c .before .before .before .before .before .loop-test .taken) _ _ (c .before .before .put-gap-of .kept .1 .1 .1 .0) (c .before .before .put-gap-of .ensures .0) (c .before .before .put-gap-of .ensures .1)
+loop-again c =
+    let at-put-gap-of = c .before .before in
+    let at-loop-test = at-put-gap-of .before .before .before in
+    let at-loop = at-loop-test .before in
+    let start = at-loop .before .before .before .before in
+    gapping-next (start .args .chart .now) (start .args .at .now) (start .args .gaps .now) (at-loop .loop .gaps) (at-loop .loop .g) (at-loop .loop .i) (at-loop .loop .inv) (at-loop-test .loop-test .taken) _ _ (at-put-gap-of .put-gap-of .kept .1 .1 .1 .0) (at-put-gap-of .put-gap-of .ensures .0) (at-put-gap-of .put-gap-of .ensures .1)
 
 same-length : tie.Need-same-length Inv-loop μ-loop
 same-length c = c .before .loop .inv .size
 
 returns : tie.Need-returns Inv-loop μ-loop
-returns c = (gapped-all (c .before .before .before .before .before .args .chart .now) (c .before .before .before .before .before .args .at .now) (c .before .before .before .before .before .args .gaps .now) (c .before .loop .gaps) (c .before .loop .g) (c .before .loop .i) (c .before .loop .inv) (c .before .before .before .before .before .args .n) (c .before .before .before .before .before .pre .0) (c .loop-test .left) (c .before .before .before .before .before .pre .2), omega (arith, c .before .loop .inv .low, c .before .loop .inv .upto))
+returns c =
+    let start = c .before .before .before .before .before in
+    (gapped-all (start .args .chart .now) (start .args .at .now) (start .args .gaps .now) (c .before .loop .gaps) (c .before .loop .g) (c .before .loop .i) (c .before .loop .inv) (start .args .n) (start .pre .0) (c .loop-test .left) (start .pre .2), omega (arith, c .before .loop .inv .low, c .before .loop .inv .upto))
 
 pub put-gaps-spec : {M : Type 1} → statement M
 put-gaps-spec = tie.close (tie.spec Inv-loop μ-loop loop-holds mul-put-gap-of shared-slice-read-put-gap-of put-gap-of-requires add-i loop-less loop-again same-length returns)

@@ -41,7 +41,11 @@ loop-less : tie.Need-loop-less Inv-loop μ-loop
 loop-less c = omega arith
 
 loop-again : tie.Need-loop-again Inv-loop μ-loop
-loop-again c = ⊎-elim (λ w. rw (w .1, w .2) (choosing-yes (c .before .before .before .before .before .before .before .args .n) (c .before .before .before .before .before .before .before .args .edges .now) (length (c .before .before .before .before .before .before .before .args .keys .now)) (c .before .before .before .before .loop .keys) (c .before .before .before .before .loop .m) (c .before .before .before .before .loop .i) (c .before .before .before .before .loop .inv) (c .before .before .before .before .before .before .before .pre .0) (c .before .before .before .loop-test .taken) (c .before .is-diagonal .ensures .0 (w .0 .taken)))) (λ w. rw (w .1, w .2) (choosing-no (c .before .before .before .before .before .before .before .args .n) (c .before .before .before .before .before .before .before .args .edges .now) (length (c .before .before .before .before .before .before .before .args .keys .now)) (c .before .before .before .before .loop .keys) (c .before .before .before .before .loop .m) (c .before .before .before .before .loop .i) (c .before .before .before .before .loop .inv) (c .before .before .before .before .before .before .before .pre .0) (c .before .before .before .loop-test .taken) (c .before .is-diagonal .ensures .1 (w .0 .left)))) (c .if1 .came)
+loop-again c =
+    let at-loop-test = c .before .before .before in
+    let at-loop = at-loop-test .before in
+    let start = at-loop .before .before .before in
+    ⊎-elim (λ w. rw (w .1, w .2) (choosing-yes (start .args .n) (start .args .edges .now) (length (start .args .keys .now)) (at-loop .loop .keys) (at-loop .loop .m) (at-loop .loop .i) (at-loop .loop .inv) (start .pre .0) (at-loop-test .loop-test .taken) (c .before .is-diagonal .ensures .0 (w .0 .taken)))) (λ w. rw (w .1, w .2) (choosing-no (start .args .n) (start .args .edges .now) (length (start .args .keys .now)) (at-loop .loop .keys) (at-loop .loop .m) (at-loop .loop .i) (at-loop .loop .inv) (start .pre .0) (at-loop-test .loop-test .taken) (c .before .is-diagonal .ensures .1 (w .0 .left)))) (c .if1 .came)
 
 same-length : tie.Need-same-length Inv-loop μ-loop
 same-length c = c .before .loop .inv .size

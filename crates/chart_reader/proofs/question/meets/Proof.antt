@@ -22,7 +22,9 @@ returns-5 : tie.Need-returns-5
 returns-5 c = (λ h. absurd (false≢true h), λ h x. omega (arith, x .1, x .2))
 
 returns-6 : tie.Need-returns-6
-returns-6 c = (λ h. meet (c .before .before .before .before .before .before .before .before .before .before .args .a) _ _ _ (omega arith) (omega arith) (omega arith) (omega arith) (omega arith) (ltb-true _ _ h), λ h x. omega (arith, x .1, x .2, ltb-false (c .before .before .before .before .before .before .before .before .before .before .args .a .left) (c .before .before .before .before .before .before .before .before .before .before .args .a .right) h))
+returns-6 c =
+    let start = c .before .before .before .before .before .before .before .before .before .before in
+    (λ h. meet (start .args .a) _ _ _ (omega arith) (omega arith) (omega arith) (omega arith) (omega arith) (ltb-true _ _ h), λ h x. omega (arith, x .1, x .2, ltb-false (start .args .a .left) (start .args .a .right) h))
 
 pub meets-spec : {M : Type 1} → statement M
 meets-spec = tie.close (tie.spec returns returns-2 returns-3 returns-4 returns-5 returns-6)

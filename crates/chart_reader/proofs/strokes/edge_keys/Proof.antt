@@ -39,13 +39,24 @@ same-length : tie.Need-same-length Inv-loop μ-loop
 same-length c = c .before .before .before .before .before .loop .inv .size
 
 returns : tie.Need-returns Inv-loop μ-loop
-returns c = (λ h. absurd (false≢true h), λ h. not-named (c .before .before .before .before .before .before .before .before .before .args .chart .now) (c .before .before .before .before .before .before .before .before .before .args .n) (c .before .before .before .before .before .before .before .before .before .args .at .now) (length (c .before .before .before .before .before .before .before .before .before .args .keys .now)) (c .before .before .before .before .before .loop .keys) (c .before .before .before .before .before .loop .i) (c .before .before .before .before .before .loop .inv) (c .before .before .before .before .before .before .before .before .before .pre .0) (c .before .before .before .before .loop-test .taken) (c .before .before .get16 .result) (c .before .get162 .result) (c .before .before .get16 .ensures .0) (c .before .get162 .ensures .0) (λ q. omega arith))
+returns c =
+    let at-get16 = c .before .before in
+    let at-loop-test = at-get16 .before .before in
+    let at-loop = at-loop-test .before in
+    let start = at-loop .before .before .before .before in
+    (λ h. absurd (false≢true h), λ h. not-named (start .args .chart .now) (start .args .n) (start .args .at .now) (length (start .args .keys .now)) (at-loop .loop .keys) (at-loop .loop .i) (at-loop .loop .inv) (start .pre .0) (at-loop-test .loop-test .taken) (at-get16 .get16 .result) (c .before .get162 .result) (at-get16 .get16 .ensures .0) (c .before .get162 .ensures .0) (λ q. omega arith))
 
 same-length-2 : tie.Need-same-length-2 Inv-loop μ-loop
 same-length-2 c = c .before .before .before .before .before .before .loop .inv .size
 
 returns-2 : tie.Need-returns-2 Inv-loop μ-loop
-returns-2 c = (λ h. absurd (false≢true h), λ h. not-named (c .before .before .before .before .before .before .before .before .before .before .args .chart .now) (c .before .before .before .before .before .before .before .before .before .before .args .n) (c .before .before .before .before .before .before .before .before .before .before .args .at .now) (length (c .before .before .before .before .before .before .before .before .before .before .args .keys .now)) (c .before .before .before .before .before .before .loop .keys) (c .before .before .before .before .before .before .loop .i) (c .before .before .before .before .before .before .loop .inv) (c .before .before .before .before .before .before .before .before .before .before .pre .0) (c .before .before .before .before .before .loop-test .taken) (c .before .before .before .get16 .result) (c .before .before .get162 .result) (c .before .before .before .get16 .ensures .0) (c .before .before .get162 .ensures .0) (λ q. omega arith))
+returns-2 c =
+    let at-get162 = c .before .before in
+    let at-get16 = at-get162 .before in
+    let at-loop-test = at-get16 .before .before in
+    let at-loop = at-loop-test .before in
+    let start = at-loop .before .before .before .before in
+    (λ h. absurd (false≢true h), λ h. not-named (start .args .chart .now) (start .args .n) (start .args .at .now) (length (start .args .keys .now)) (at-loop .loop .keys) (at-loop .loop .i) (at-loop .loop .inv) (start .pre .0) (at-loop-test .loop-test .taken) (at-get16 .get16 .result) (at-get162 .get162 .result) (at-get16 .get16 .ensures .0) (at-get162 .get162 .ensures .0) (λ q. omega arith))
 
 key-requires : tie.Need-key-requires Inv-loop μ-loop
 key-requires c κs = omega (arith, c .before .before .before .before .before .before .before .before .before .before .pre .0 .count, c .before .before .before .before .before .before .before .before .before .before .pre .0 .formed .most)
@@ -63,13 +74,21 @@ loop-less : tie.Need-loop-less Inv-loop μ-loop
 loop-less c = omega arith
 
 loop-again : tie.Need-loop-again Inv-loop μ-loop
-loop-again c = keyed-next (c .before .before .before .before .before .before .before .before .before .before .before .args .chart .now) (c .before .before .before .before .before .before .before .before .before .before .before .args .n) (c .before .before .before .before .before .before .before .before .before .before .before .args .at .now) (length (c .before .before .before .before .before .before .before .before .before .before .before .args .keys .now)) (c .before .before .before .before .before .before .before .loop .keys) (c .before .before .before .before .before .before .before .loop .i) (c .before .before .before .before .before .before .before .loop .inv) (c .before .before .before .before .before .before .before .before .before .before .before .pre .0) (c .before .before .before .before .before .before .loop-test .taken) (c .before .before .before .before .get16 .result) (c .before .before .before .get162 .result) (c .before .before .before .before .get16 .ensures .0) (c .before .before .before .get162 .ensures .0) (c .before .before .before .before .before .before .before .before .before .before .before .pre .1) (c .before .before .if1 .left) (c .before .if2 .left) _ (c .key .ensures)
+loop-again c =
+    let at-get162 = c .before .before .before in
+    let at-get16 = at-get162 .before in
+    let at-loop-test = at-get16 .before .before in
+    let at-loop = at-loop-test .before in
+    let start = at-loop .before .before .before .before in
+    keyed-next (start .args .chart .now) (start .args .n) (start .args .at .now) (length (start .args .keys .now)) (at-loop .loop .keys) (at-loop .loop .i) (at-loop .loop .inv) (start .pre .0) (at-loop-test .loop-test .taken) (at-get16 .get16 .result) (at-get162 .get162 .result) (at-get16 .get16 .ensures .0) (at-get162 .get162 .ensures .0) (start .pre .1) (c .before .before .if1 .left) (c .before .if2 .left) _ (c .key .ensures)
 
 same-length-3 : tie.Need-same-length-3 Inv-loop μ-loop
 same-length-3 c = c .before .loop .inv .size
 
 returns-3 : tie.Need-returns-3 Inv-loop μ-loop
-returns-3 c = (λ h. (all-named (c .before .before .before .before .before .args .chart .now) (c .before .before .before .before .before .args .n) (c .before .before .before .before .before .args .at .now) (length (c .before .before .before .before .before .args .keys .now)) (c .before .loop .keys) (c .before .loop .i) (c .before .loop .inv) (c .before .before .before .before .before .pre .0) (c .loop-test .left), all-keyed (c .before .before .before .before .before .args .chart .now) (c .before .before .before .before .before .args .n) (c .before .before .before .before .before .args .at .now) (length (c .before .before .before .before .before .args .keys .now)) (c .before .loop .keys) (c .before .loop .i) (c .before .loop .inv) (c .before .before .before .before .before .pre .0) (c .loop-test .left) (c .before .before .before .before .before .pre .1)), λ h. absurd (true≢false h))
+returns-3 c =
+    let start = c .before .before .before .before .before in
+    (λ h. (all-named (start .args .chart .now) (start .args .n) (start .args .at .now) (length (start .args .keys .now)) (c .before .loop .keys) (c .before .loop .i) (c .before .loop .inv) (start .pre .0) (c .loop-test .left), all-keyed (start .args .chart .now) (start .args .n) (start .args .at .now) (length (start .args .keys .now)) (c .before .loop .keys) (c .before .loop .i) (c .before .loop .inv) (start .pre .0) (c .loop-test .left) (start .pre .1)), λ h. absurd (true≢false h))
 
 pub edge-keys-spec : {M : Type 1} → statement M
 edge-keys-spec = tie.close (tie.spec Inv-loop μ-loop loop-holds mul-p shared-slice-read-p add-get16 get16-requires add-get16-2 get16-requires-2 same-length returns same-length-2 returns-2 key-requires mul-keys slice-write-keys add-i loop-less loop-again same-length-3 returns-3)

@@ -79,7 +79,13 @@ loop-less : tie.Need-loop-less Inv-loop μ-loop
 loop-less c = omega arith
 
 loop-again : tie.Need-loop-again Inv-loop μ-loop
-loop-again c = (omega arith, c .before .before .put163 .kept .0 ∙ (c .before .before .before .before .before .before .before .put162 .kept .0 ∙ (c .before .before .before .before .before .before .before .before .before .before .before .before .put16 .kept .0 ∙ c .before .before .before .before .before .before .before .before .before .before .before .before .before .before .before .before .loop .inv .1)), c .before .before .put163 .ensures ∙ rw (c .before .before .before .before .before .before .before .put162 .ensures, c .before .before .before .before .before .before .before .before .before .before .before .before .put16 .ensures, c .before .before .before .before .before .before .before .before .before .before .before .before .before .before .before .before .loop .inv .2) (bar-stored (c .before .before .before .before .before .before .before .before .before .before .before .before .before .before .before .before .before .before .before .before .before .args .rows .now) (c .before .before .before .before .before .before .before .before .before .before .before .before .before .before .before .before .before .before .before .before .before .args .left .now) (c .before .before .before .before .before .before .before .before .before .before .before .before .before .before .before .before .before .before .before .before .before .args .right .now) (c .before .before .before .before .before .before .before .before .before .before .before .before .before .before .before .before .before .before .before .before .before .args .out .now) (c .before .before .before .before .before .before .before .before .before .before .before .before .before .before .before .before .loop .x)))
+loop-again c =
+    let at-put163 = c .before .before in
+    let at-put162 = at-put163 .before .before .before .before .before in
+    let at-put16 = at-put162 .before .before .before .before .before in
+    let at-loop = at-put16 .before .before .before .before in
+    let start = at-loop .before .before .before .before .before in
+    (omega arith, at-put163 .put163 .kept .0 ∙ (at-put162 .put162 .kept .0 ∙ (at-put16 .put16 .kept .0 ∙ at-loop .loop .inv .1)), at-put163 .put163 .ensures ∙ rw (at-put162 .put162 .ensures, at-put16 .put16 .ensures, at-loop .loop .inv .2) (bar-stored (start .args .rows .now) (start .args .left .now) (start .args .right .now) (start .args .out .now) (at-loop .loop .x)))
 
 same-length : tie.Need-same-length Inv-loop μ-loop
 same-length c = c .before .loop .inv .1

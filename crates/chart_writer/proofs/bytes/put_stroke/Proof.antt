@@ -22,7 +22,10 @@ same-length : tie.Need-same-length
 same-length c = c .before .before .put-edge .kept .0 ∙ length-set (c .before .before .before .before .before .before .args .out .now) (c .before .before .before .before .before .before .args .at) 0
 
 returns : tie.Need-returns
-returns c = (c .before .before .put-edge .ensures ∙ level-stored (c .before .before .before .before .before .before .args .out .now) (c .before .before .before .before .before .before .args .at) (c .before .before .before .before .before .before .args .k) (c .before .before .before .before .before .before .args .c) (c .before .before .before .before .if1 .taken), omega (arith, level-size (c .before .before .before .before .before .before .args .k) (c .before .before .before .before .before .before .args .c) (c .before .before .before .before .if1 .taken)))
+returns c =
+    let at-if1 = c .before .before .before .before in
+    let start = at-if1 .before .before in
+    (c .before .before .put-edge .ensures ∙ level-stored (start .args .out .now) (start .args .at) (start .args .k) (start .args .c) (at-if1 .if1 .taken), omega (arith, level-size (start .args .k) (start .args .c) (at-if1 .if1 .taken)))
 
 slice-write-out-2 : tie.Need-slice-write-out-2
 slice-write-out-2 c = omega (arith, upright-size (c .before .before .args .k) (c .before .before .args .c) (c .if1 .left))
@@ -37,7 +40,11 @@ add-put16 : tie.Need-add-put16
 add-put16 c = omega (arith, upright-size (c .before .before .before .before .before .before .before .args .k) (c .before .before .before .before .before .before .before .args .c) (c .before .before .before .before .before .if1 .left))
 
 put16-requires : tie.Need-put16-requires
-put16-requires c κs = (omega (arith, upright-size (c .before .before .before .before .before .before .before .args .k) (c .before .before .before .before .before .before .before .args .c) (c .before .before .before .before .before .if1 .left), c .before .before .before .put-edge2 .kept .0, length-set (c .before .before .before .before .before .before .before .args .out .now) (c .before .before .before .before .before .before .before .args .at) 1), omega arith)
+put16-requires c κs =
+    let at-put-edge2 = c .before .before .before in
+    let at-if1 = at-put-edge2 .before .before in
+    let start = at-if1 .before .before in
+    (omega (arith, upright-size (start .args .k) (start .args .c) (at-if1 .if1 .left), at-put-edge2 .put-edge2 .kept .0, length-set (start .args .out .now) (start .args .at) 1), omega arith)
 
 add-result-2 : tie.Need-add-result-2
 add-result-2 c = omega (arith, upright-size (c .before .before .before .before .before .before .before .before .before .before .args .k) (c .before .before .before .before .before .before .before .before .before .before .args .c) (c .before .before .before .before .before .before .before .before .if1 .left))
@@ -46,7 +53,11 @@ same-length-2 : tie.Need-same-length-2
 same-length-2 c = c .before .before .put16 .kept .0 ∙ (c .before .before .before .before .before .before .put-edge2 .kept .0 ∙ length-set (c .before .before .before .before .before .before .before .before .before .before .args .out .now) (c .before .before .before .before .before .before .before .before .before .before .args .at) 1)
 
 returns-2 : tie.Need-returns-2
-returns-2 c = (c .before .before .put16 .ensures ∙ rw (c .before .before .before .before .before .before .put-edge2 .ensures) (upright-stored (c .before .before .before .before .before .before .before .before .before .before .args .out .now) (c .before .before .before .before .before .before .before .before .before .before .args .at) (c .before .before .before .before .before .before .before .before .before .before .args .k) (c .before .before .before .before .before .before .before .before .before .before .args .c) (c .before .before .before .before .before .before .before .before .if1 .left)), omega (arith, upright-size (c .before .before .before .before .before .before .before .before .before .before .args .k) (c .before .before .before .before .before .before .before .before .before .before .args .c) (c .before .before .before .before .before .before .before .before .if1 .left)))
+returns-2 c =
+    let at-put-edge2 = c .before .before .before .before .before .before in
+    let at-if1 = at-put-edge2 .before .before in
+    let start = at-if1 .before .before in
+    (c .before .before .put16 .ensures ∙ rw (at-put-edge2 .put-edge2 .ensures) (upright-stored (start .args .out .now) (start .args .at) (start .args .k) (start .args .c) (at-if1 .if1 .left)), omega (arith, upright-size (start .args .k) (start .args .c) (at-if1 .if1 .left)))
 
 pub put-stroke-spec : {M : Type 1} → statement M
 put-stroke-spec = tie.close (tie.spec slice-write-out add-put-edge put-edge-requires add-result same-length returns slice-write-out-2 add-put-edge-2 put-edge-requires-2 add-put16 put16-requires add-result-2 same-length-2 returns-2)

@@ -32,7 +32,11 @@ shared-slice-read-put-stroke-2 : tie.Need-shared-slice-read-put-stroke-2 Inv-loo
 shared-slice-read-put-stroke-2 c = omega arith
 
 put-stroke-requires : tie.Need-put-stroke-requires Inv-loop μ-loop
-put-stroke-requires c κs = (omega (arith, run-room strokeBytes (strokeAt (c .before .before .before .before .before .before .before .before .args .edges .now) (c .before .before .before .before .before .before .before .before .args .columns .now)) (c .before .before .before .before .loop .i) (length (c .before .before .before .before .before .before .before .before .args .edges .now)) (omega arith), c .before .before .before .before .before .before .before .before .pre .1 .1, c .before .before .before .before .loop .inv .2), c .before .before .before .before .before .before .before .before .pre .0 (c .before .before .before .before .loop .i) (c .before .before .before .loop-test .taken))
+put-stroke-requires c κs =
+    let at-loop-test = c .before .before .before in
+    let at-loop = at-loop-test .before in
+    let start = at-loop .before .before .before .before in
+    (omega (arith, run-room strokeBytes (strokeAt (start .args .edges .now) (start .args .columns .now)) (at-loop .loop .i) (length (start .args .edges .now)) (omega arith), start .pre .1 .1, at-loop .loop .inv .2), start .pre .0 (at-loop .loop .i) (at-loop-test .loop-test .taken))
 
 add-i : tie.Need-add-i Inv-loop μ-loop
 add-i c = omega arith
@@ -41,7 +45,12 @@ loop-less : tie.Need-loop-less Inv-loop μ-loop
 loop-less c = omega arith
 
 loop-again : tie.Need-loop-again Inv-loop μ-loop
-loop-again c = let b = stroke-stored (c .before .before .before .before .before .before .before .before .before .before .before .args .edges .now) (c .before .before .before .before .before .before .before .before .before .before .before .args .columns .now) (c .before .before .before .before .before .before .before .before .before .before .before .args .out .now) (c .before .before .before .before .before .before .before .before .before .before .before .args .from) (c .before .before .before .before .before .before .before .loop .i) (c .before .before .before .before .before .before .before .loop .out) _ (c .before .before .before .before .before .before .before .loop .at) _ (c .before .before .before .before .before .before .before .loop .inv .2) (c .before .before .before .before .before .before .before .loop .inv .3) (c .before .before .put-stroke .ensures .0) (c .before .before .put-stroke .ensures .1) in (omega arith, c .before .before .put-stroke .kept .0 ∙ c .before .before .before .before .before .before .before .loop .inv .1, b .0, b .1)
+loop-again c =
+    let at-put-stroke = c .before .before in
+    let at-loop = at-put-stroke .before .before .before .before .before in
+    let start = at-loop .before .before .before .before in
+    let b = stroke-stored (start .args .edges .now) (start .args .columns .now) (start .args .out .now) (start .args .from) (at-loop .loop .i) (at-loop .loop .out) _ (at-loop .loop .at) _ (at-loop .loop .inv .2) (at-loop .loop .inv .3) (at-put-stroke .put-stroke .ensures .0) (at-put-stroke .put-stroke .ensures .1) in
+    (omega arith, at-put-stroke .put-stroke .kept .0 ∙ at-loop .loop .inv .1, b .0, b .1)
 
 same-length : tie.Need-same-length Inv-loop μ-loop
 same-length c = c .before .loop .inv .1

@@ -38,7 +38,10 @@ loop-less : tie.Need-loop-less Inv-loop μ-loop
 loop-less c = omega arith
 
 loop-again : tie.Need-loop-again Inv-loop μ-loop
-loop-again c = ⊎-elim (λ w. rw (w .1) (omega arith, omega arith, λ es. omega (arith, c .before .before .before .loop .inv .2 es, level-more es (c .before .before .before .before .args .columns .now) (c .before .before .before .loop .i) (w .0 .taken)))) (λ w. rw (w .1) (omega arith, omega arith, λ es. omega (arith, c .before .before .before .loop .inv .2 es, upright-more es (c .before .before .before .before .args .columns .now) (c .before .before .before .loop .i) (w .0 .left)))) (c .if1 .came)
+loop-again c =
+    let at-loop = c .before .before .before in
+    let start = at-loop .before in
+    ⊎-elim (λ w. rw (w .1) (omega arith, omega arith, λ es. omega (arith, at-loop .loop .inv .2 es, level-more es (start .args .columns .now) (at-loop .loop .i) (w .0 .taken)))) (λ w. rw (w .1) (omega arith, omega arith, λ es. omega (arith, at-loop .loop .inv .2 es, upright-more es (start .args .columns .now) (at-loop .loop .i) (w .0 .left)))) (c .if1 .came)
 
 returns : tie.Need-returns Inv-loop μ-loop
 returns c = let e : c .before .loop .i ≡ c .before .before .args .m = omega arith in rw (← e) (c .before .loop .inv .2, c .before .loop .inv .1)

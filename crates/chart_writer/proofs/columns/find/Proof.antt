@@ -35,13 +35,19 @@ loop-less : tie.Need-loop-less Inv-loop μ-loop
 loop-less c = omega arith
 
 loop-again : tie.Need-loop-again Inv-loop μ-loop
-loop-again c = (c .before .before .before .loop .inv .0, in-upper (c .before .before .before .before .args .edges .now) (c .before .before .before .before .pre .0) (c .before .before .before .loop .lo) (c .before .before .before .loop .hi) (c .before .before .before .loop .lo + (c .before .before .before .loop .hi - c .before .before .before .loop .lo) / 2) (c .before .before .before .before .args .k) (c .before .before .before .loop .inv .1) (c .before .before .before .loop .inv .0) (omega arith) (c .if1 .taken))
+loop-again c =
+    let at-loop = c .before .before .before in
+    let start = at-loop .before in
+    (at-loop .loop .inv .0, in-upper (start .args .edges .now) (start .pre .0) (at-loop .loop .lo) (at-loop .loop .hi) (at-loop .loop .lo + (at-loop .loop .hi - at-loop .loop .lo) / 2) (start .args .k) (at-loop .loop .inv .1) (at-loop .loop .inv .0) (omega arith) (c .if1 .taken))
 
 loop-less-2 : tie.Need-loop-less-2 Inv-loop μ-loop
 loop-less-2 c = omega arith
 
 loop-again-2 : tie.Need-loop-again-2 Inv-loop μ-loop
-loop-again-2 c = (omega arith, in-lower (c .before .before .before .before .args .edges .now) (c .before .before .before .before .pre .0) (c .before .before .before .loop .lo) (c .before .before .before .loop .hi) (c .before .before .before .loop .lo + (c .before .before .before .loop .hi - c .before .before .before .loop .lo) / 2) (c .before .before .before .before .args .k) (c .before .before .before .loop .inv .1) (c .before .before .before .loop .inv .0) (omega arith) (c .if1 .left))
+loop-again-2 c =
+    let at-loop = c .before .before .before in
+    let start = at-loop .before in
+    (omega arith, in-lower (start .args .edges .now) (start .pre .0) (at-loop .loop .lo) (at-loop .loop .hi) (at-loop .loop .lo + (at-loop .loop .hi - at-loop .loop .lo) / 2) (start .args .k) (at-loop .loop .inv .1) (at-loop .loop .inv .0) (omega arith) (c .if1 .left))
 
 returns : tie.Need-returns Inv-loop μ-loop
 returns c = found (c .before .before .args .edges .now) (c .before .loop .lo) (c .before .loop .hi) (c .before .before .args .k) (c .before .loop .inv .1) (c .before .loop .inv .0) (omega arith)

@@ -17,7 +17,10 @@ slice-aggregate-place-columns : tie.Need-slice-aggregate-place-columns
 slice-aggregate-place-columns c = search needs
 
 place-columns-requires : tie.Need-place-columns-requires
-place-columns-requires c κs = (c .before .before .before .before .before .before .before .before .pre .0, (c .before .before .before .before .before .before .before .before .pre .1 .1 .0, (c .before .before .before .starts .ensures, (keyed-columns (c .before .before .before .before .before .before .before .before .args .edges .now) (c .before .before .before .before .before .before .before .before .args .cols .now) (c .before .before .before .before .before .before .before .before .pre .1 .0) (c .before .before .before .before .before .before .before .before .pre .1 .1 .0), (c .before .before .before .starts .kept .1 .0 ∙ length-replicate {A = ℕ} 1024 0, (c .before .before .before .before .before .before .before .before .pre .1 .1 .1 .1, c .before .before .before .before .before .before .before .before .pre .1 .1 .1 .2, c .before .before .before .before .before .before .before .before .pre .1 .1 .1 .3))))))
+place-columns-requires c κs =
+    let at-starts = c .before .before .before in
+    let start = at-starts .before .before .before .before .before in
+    (start .pre .0, (start .pre .1 .1 .0, (at-starts .starts .ensures, (keyed-columns (start .args .edges .now) (start .args .cols .now) (start .pre .1 .0) (start .pre .1 .1 .0), (at-starts .starts .kept .1 .0 ∙ length-replicate {A = ℕ} 1024 0, (start .pre .1 .1 .1 .1, start .pre .1 .1 .1 .2, start .pre .1 .1 .1 .3))))))
 
 same-length : tie.Need-same-length
 same-length c = search needs

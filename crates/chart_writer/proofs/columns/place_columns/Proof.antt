@@ -51,7 +51,11 @@ cast-find-2 : tie.Need-cast-find-2 Inv-loop μ-loop
 cast-find-2 c = omega (arith, c .shared-slice-known6 .given (c .before .before .low .result + 1))
 
 find-requires : tie.Need-find-requires Inv-loop μ-loop
-find-requires c κs = (c .before .before .before .before .before .before .before .before .before .before .pre .0, (c .before .before .before .before .before .before .before .before .before .before .pre .1 .1 .0 .within (c .before .before .low .result + 1) (omega (arith, c .before .before .low .ensures, c .before .before .before .before .before .before .before .before .before .before .pre .1 .1 .1 .0 (c .before .before .before .before .before .loop .j - 1) (omega arith), c .before .before .before .before .before .before .before .before .before .before .pre .1 .1 .1 .1 .0)), bucket (c .before .before .before .before .before .before .before .before .before .before .args .edges .now) (c .before .before .before .before .before .before .before .before .before .before .args .start .now) (getD (c .before .before .before .before .before .before .before .before .before .before .args .cols .now) (c .before .before .before .before .before .loop .j - 1) 0) (c .before .before .low .result) (c .before .before .before .before .before .before .before .before .before .before .pre .1 .1 .0) (c .before .before .before .before .before .before .before .before .before .before .pre .1 .0 (c .before .before .before .before .before .loop .j - 1) (omega arith)) (c .before .before .low .ensures)))
+find-requires c κs =
+    let at-low = c .before .before in
+    let at-loop = at-low .before .before .before in
+    let start = at-loop .before .before .before .before .before in
+    (start .pre .0, (start .pre .1 .1 .0 .within (at-low .low .result + 1) (omega (arith, at-low .low .ensures, start .pre .1 .1 .1 .0 (at-loop .loop .j - 1) (omega arith), start .pre .1 .1 .1 .1 .0)), bucket (start .args .edges .now) (start .args .start .now) (getD (start .args .cols .now) (at-loop .loop .j - 1) 0) (at-low .low .result) (start .pre .1 .1 .0) (start .pre .1 .0 (at-loop .loop .j - 1) (omega arith)) (at-low .low .ensures)))
 
 cast-columns : tie.Need-cast-columns Inv-loop μ-loop
 cast-columns c = omega arith
@@ -66,7 +70,10 @@ loop-less : tie.Need-loop-less Inv-loop μ-loop
 loop-less c = omega arith
 
 loop-again : tie.Need-loop-again Inv-loop μ-loop
-loop-again c = (omega arith, simp length-set (c .before .before .before .before .before .before .loop .inv .1), placed-next (c .before .before .before .before .before .before .before .before .before .before .before .args .edges .now) (c .before .before .before .before .before .before .before .before .before .before .before .args .cols .now) (c .before .before .before .before .before .before .loop .columns) (omega arith) (c .before .before .before .before .before .before .before .before .before .before .before .pre .0) (c .before .before .before .before .before .before .loop .j - 1) (c .find .result) (omega arith) (c .find .ensures .0) (c .find .ensures .1) (let e : suc (c .before .before .before .before .before .before .loop .j - 1) ≡ c .before .before .before .before .before .before .loop .j = omega arith in rw e (c .before .before .before .before .before .before .loop .inv .2)))
+loop-again c =
+    let at-loop = c .before .before .before .before .before .before in
+    let start = at-loop .before .before .before .before .before in
+    (omega arith, simp length-set (at-loop .loop .inv .1), placed-next (start .args .edges .now) (start .args .cols .now) (at-loop .loop .columns) (omega arith) (start .pre .0) (at-loop .loop .j - 1) (c .find .result) (omega arith) (c .find .ensures .0) (c .find .ensures .1) (let e : suc (at-loop .loop .j - 1) ≡ at-loop .loop .j = omega arith in rw e (at-loop .loop .inv .2)))
 
 same-length : tie.Need-same-length Inv-loop μ-loop
 same-length c = c .before .loop .inv .1

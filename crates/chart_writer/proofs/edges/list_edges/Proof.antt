@@ -47,13 +47,22 @@ slice-aggregate-merge-4 : tie.Need-slice-aggregate-merge-4
 slice-aggregate-merge-4 c = sym (length-take-le _ (c .before .before .before .before .before .before .merge .last .1 .1 .0) (omega (arith, c .before .before .before .before .before .before .merge .kept .1 .1 .0)))
 
 merge-requires-2 : tie.Need-merge-requires-2
-merge-requires-2 c κs = omega (arith, length-take-le (c .before .before .before .before .before .before .before .before .before .before .before .before .args .n - 1) (c .before .before .before .before .list-sides .last .1 .0) (omega (arith, c .before .before .before .before .list-sides .kept .1 .0)), length-take-le (c .before .before .before .before .before .before .before .before .before .before .before .before .args .n - 2) (c .before .before .before .before .before .before .before .merge .last .1 .1 .0) (omega (arith, c .before .before .before .before .before .before .before .merge .kept .1 .1 .0)), c .before .before .before .before .before .before .before .before .before .before .before .before .pre .0 .full)
+merge-requires-2 c κs =
+    let at-list-sides = c .before .before .before .before in
+    let at-merge = at-list-sides .before .before .before in
+    let start = at-merge .before .before .before .before .before in
+    omega (arith, length-take-le (start .args .n - 1) (at-list-sides .list-sides .last .1 .0) (omega (arith, at-list-sides .list-sides .kept .1 .0)), length-take-le (start .args .n - 2) (at-merge .merge .last .1 .1 .0) (omega (arith, at-merge .merge .kept .1 .1 .0)), start .pre .0 .full)
 
 same-length : tie.Need-same-length
 same-length c = search needs
 
 returns : tie.Need-returns
-returns c = listed-all (c .before .before .before .before .before .before .before .before .before .before .before .before .before .before .before .args .n) (c .before .before .before .before .before .before .before .before .before .before .before .before .before .before .before .args .keys .now) (c .before .before .before .before .before .before .before .before .before .before .before .before .before .before .before .pre .0) (c .before .before .before .before .before .before .before .before .before .before .before .before .before .before .before .pre .1 .0) (c .before .before .before .before .before .before .before .list-sides .last .1 .0) (c .before .before .before .before .before .before .before .before .before .before .merge .last .1 .1 .0) _ (omega (arith, c .before .before .before .before .before .before .before .list-sides .kept .1 .0)) (c .before .before .before .before .before .before .before .list-sides .ensures) (omega (arith, c .before .before .before .before .before .before .before .before .before .before .merge .kept .1 .1 .0)) (c .before .before .before .before .before .before .before .before .before .before .merge .ensures) (omega (arith, c .before .before .merge2 .kept .1 .1 .0)) (c .before .before .merge2 .ensures)
+returns c =
+    let at-merge2 = c .before .before in
+    let at-list-sides = at-merge2 .before .before .before .before .before in
+    let at-merge = at-list-sides .before .before .before in
+    let start = at-merge .before .before .before .before .before in
+    listed-all (start .args .n) (start .args .keys .now) (start .pre .0) (start .pre .1 .0) (at-list-sides .list-sides .last .1 .0) (at-merge .merge .last .1 .1 .0) _ (omega (arith, at-list-sides .list-sides .kept .1 .0)) (at-list-sides .list-sides .ensures) (omega (arith, at-merge .merge .kept .1 .1 .0)) (at-merge .merge .ensures) (omega (arith, at-merge2 .merge2 .kept .1 .1 .0)) (at-merge2 .merge2 .ensures)
 
 pub list-edges-spec : {M : Type 1} → statement M
 list-edges-spec = tie.close (tie.spec sub-s sub-c cast-t9 slice-aggregate-merge slice-aggregate-merge-2 merge-requires slice-aggregate-list-sides list-sides-requires array-share-prefix-sides slice-aggregate-merge-3 array-share-prefix-chords slice-aggregate-merge-4 merge-requires-2 same-length returns)

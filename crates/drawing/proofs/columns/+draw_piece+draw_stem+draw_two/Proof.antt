@@ -109,7 +109,10 @@ draw-piece-draw-two-requires : (t : ℕ) → draw-piece-lts.Need-draw-two-requir
 draw-piece-draw-two-requires t c κs = let k = (recorded-parts (c .before .before .before .before .before .before .pre .1 .0 .1) (c .before .before .before .before .before .if1 .left)) in (omega (arith, k .parts, c .before .before .before .before .before .before .pre .0), ((k .parts .l, k .of-l), ((k .parts .r, k .of-r), omega (arith, k .parts, c .before .before .before .before .before .before .pre .1 .1))))
 
 draw-piece-returns-2 : (t : ℕ) → draw-piece-lts.Need-returns-2 (draw-piece-Cs t) (draw-piece-at t) draw-piece.Post
-draw-piece-returns-2 t c = λ x d q. let k = recorded-parts q (c .before .before .before .before .before .before .if1 .left) in rims-drawn d (k .parts .l) (k .parts .r) (c .before .before .before .before .before .before .before .args .u) (c .before .before .before .before .before .before .before .args .v) _ _ (c .before .before .before .before .before .before .before .args .turned) (k .parts .is) (k .parts .middle) (ap (λ (n : ℕ). n - 1) (sym (k .levels-are))) (c .draw-two .ensures (k .parts .l) (k .parts .r) (k .of-l) (k .of-r))
+draw-piece-returns-2 t c =
+    let at-if1 = c .before .before .before .before .before .before in
+    let start = at-if1 .before in
+    λ x d q. let k = recorded-parts q (at-if1 .if1 .left) in rims-drawn d (k .parts .l) (k .parts .r) (start .args .u) (start .args .v) _ _ (start .args .turned) (k .parts .is) (k .parts .middle) (ap (λ (n : ℕ). n - 1) (sym (k .levels-are))) (c .draw-two .ensures (k .parts .l) (k .parts .r) (k .of-l) (k .of-r))
 
 draw-stem-is-hung-requires : (t : ℕ) → draw-stem-lts.Need-is-hung-requires (draw-stem-Cs t) (draw-stem-at t) draw-stem.Post
 draw-stem-is-hung-requires t c κs = search needs
@@ -133,7 +136,10 @@ draw-stem-add-result : (t : ℕ) → draw-stem-lts.Need-add-result (draw-stem-Cs
 draw-stem-add-result t c = omega (arith, ends (c .before .before .before .before .pre .1 .0 .1 .shows), span-pos (c .before .before .before .before .pre .1 .0 .0), c .before .before .before .before .pre .1 .1)
 
 draw-stem-returns-2 : (t : ℕ) → draw-stem-lts.Need-returns-2 (draw-stem-Cs t) (draw-stem-at t) draw-stem.Post
-draw-stem-returns-2 t c = λ x k. side-drawn (c .before .before .before .before .args .p) (c .before .before .before .before .args .d) x (c .before .before .before .before .args .u) (c .before .before .before .before .args .v) (c .before .before .before .before .args .turned) _ (c .before .before .before .before .args .at) (c .before .before .before .before .args .out .now) (sym (c .before .before .before .is-hung .ensures) ∙ c .before .before .if1 .left) (closed (k .shows) (c .before .if2 .taken)) (c .key .ensures)
+draw-stem-returns-2 t c =
+    let at-is-hung = c .before .before .before in
+    let start = at-is-hung .before in
+    λ x k. side-drawn (start .args .p) (start .args .d) x (start .args .u) (start .args .v) (start .args .turned) _ (start .args .at) (start .args .out .now) (sym (at-is-hung .is-hung .ensures) ∙ c .before .before .if1 .left) (closed (k .shows) (c .before .if2 .taken)) (c .key .ensures)
 
 draw-stem-mul-c : (t : ℕ) → draw-stem-lts.Need-mul-c (draw-stem-Cs t) (draw-stem-at t) draw-stem.Post
 draw-stem-mul-c t c = omega (arith, (recorded-parts (c .before .before .before .pre .1 .0 .1) (c .if2 .left)) .parts .inside)
@@ -190,55 +196,140 @@ draw-stem-differ-requires-2 : (t : ℕ) → draw-stem-lts.Need-differ-requires-2
 draw-stem-differ-requires-2 t c κs = search needs
 
 draw-stem-draw-two-requires : (t : ℕ) → draw-stem-lts.Need-draw-two-requires (draw-stem-Cs t) (draw-stem-at t) draw-stem.Post
-draw-stem-draw-two-requires t c κs = let k = (recorded-parts (c .before .before .before .before .before .before .before .before .before .before .before .before .before .before .before .before .before .before .before .before .pre .1 .0 .1) (c .before .before .before .before .before .before .before .before .before .before .before .before .before .before .before .before .before .if2 .left)) in (omega (arith, k .parts, c .before .before .before .before .before .before .before .before .before .before .before .before .before .before .before .before .before .before .before .before .pre .0), ((k .parts .l, k .of-l), ((k .parts .r, k .of-r), omega (arith, k .parts, c .before .before .before .before .before .before .before .before .before .before .before .before .before .before .before .before .before .before .before .before .pre .1 .1))))
+draw-stem-draw-two-requires t c κs =
+    let at-if2 = c .before .before .before .before .before .before .before .before .before .before .before .before .before .before .before .before .before in
+    let start = at-if2 .before .before .before in
+    let k = (recorded-parts (start .pre .1 .0 .1) (at-if2 .if2 .left)) in
+    (omega (arith, k .parts, start .pre .0), ((k .parts .l, k .of-l), ((k .parts .r, k .of-r), omega (arith, k .parts, start .pre .1 .1))))
 
 draw-stem-key-requires-2 : (t : ℕ) → draw-stem-lts.Need-key-requires-2 (draw-stem-Cs t) (draw-stem-at t) draw-stem.Post
-draw-stem-key-requires-2 t c κs = omega (arith, (recorded-parts (c .before .before .before .before .before .before .before .before .before .before .before .before .before .before .before .before .before .before .before .before .before .pre .1 .0 .1) (c .before .before .before .before .before .before .before .before .before .before .before .before .before .before .before .before .before .before .if2 .left)) .parts, c .before .before .before .before .before .before .before .before .before .before .before .before .before .before .before .before .before .before .before .before .before .pre .1 .1)
+draw-stem-key-requires-2 t c κs =
+    let at-if2 = c .before .before .before .before .before .before .before .before .before .before .before .before .before .before .before .before .before .before in
+    let start = at-if2 .before .before .before in
+    omega (arith, (recorded-parts (start .pre .1 .0 .1) (at-if2 .if2 .left)) .parts, start .pre .1 .1)
 
 draw-stem-mul-out-2 : (t : ℕ) → draw-stem-lts.Need-mul-out-2 (draw-stem-Cs t) (draw-stem-at t) draw-stem.Post
-draw-stem-mul-out-2 t c = let k = (recorded-parts (c .before .before .before .before .before .before .before .before .before .before .before .before .before .before .before .before .before .before .before .before .before .before .pre .1 .0 .1) (c .before .before .before .before .before .before .before .before .before .before .before .before .before .before .before .before .before .before .before .if2 .left)) in omega (arith, k .parts, c .before .before .before .before .before .before .before .before .before .before .before .before .before .before .before .before .before .before .before .before .before .before .pre .1 .1, end-two (k .parts .l) (k .parts .r) (c .before .before .before .before .before .before .before .before .before .step-at .result .left) (c .before .before .before .before .before .before .before .before .before .step-at .result .right) (c .before .before .before .before .before .before .before .before .before .before .before .before .before .before .before .before .before .before .before .before .before .before .args .d) (c .before .before .before .before .before .before .before .before .before .before .before .before .before .before .before .before .before .before .before .before .before .before .args .u) (getD (c .before .before .before .before .before .before .before .before .before .before .before .before .before .before .before .before .before .before .before .before .before .before .args .apex .now) (c .before .before .before .before .before .before .before .before .before .before .before .before .before .before .before .before .before .before .before .before .before .before .args .e) 0) (c .before .before .before .before .before .before .before .before .before .before .before .before .before .before .before .before .before .before .before .before .before .before .args .v) (c .before .before .before .before .before .before .before .differ .result) (c .before .before .before .before .before .before .pick .result) (c .before .before .before .before .before .pick2 .result) (c .before .draw-two .ensures (k .parts .l) (k .parts .r) (k .of-l) (k .of-r)))
+draw-stem-mul-out-2 t c =
+    let at-pick2 = c .before .before .before .before .before in
+    let at-pick = at-pick2 .before in
+    let at-differ = at-pick .before in
+    let at-step-at = at-differ .before .before in
+    let at-if2 = at-step-at .before .before .before .before .before .before .before .before .before .before in
+    let start = at-if2 .before .before .before in
+    let k = (recorded-parts (start .pre .1 .0 .1) (at-if2 .if2 .left)) in
+    omega (arith, k .parts, start .pre .1 .1, end-two (k .parts .l) (k .parts .r) (at-step-at .step-at .result .left) (at-step-at .step-at .result .right) (start .args .d) (start .args .u) (getD (start .args .apex .now) (start .args .e) 0) (start .args .v) (at-differ .differ .result) (at-pick .pick .result) (at-pick2 .pick2 .result) (c .before .draw-two .ensures (k .parts .l) (k .parts .r) (k .of-l) (k .of-r)))
 
 draw-stem-element-write-out-2 : (t : ℕ) → draw-stem-lts.Need-element-write-out-2 (draw-stem-Cs t) (draw-stem-at t) draw-stem.Post
-draw-stem-element-write-out-2 t c = let k = (recorded-parts (c .before .before .before .before .before .before .before .before .before .before .before .before .before .before .before .before .before .before .before .before .before .before .pre .1 .0 .1) (c .before .before .before .before .before .before .before .before .before .before .before .before .before .before .before .before .before .before .before .if2 .left)) in omega (arith, k .parts, c .before .before .before .before .before .before .before .before .before .before .before .before .before .before .before .before .before .before .before .before .before .before .pre .1 .1, end-two (k .parts .l) (k .parts .r) (c .before .before .before .before .before .before .before .before .before .step-at .result .left) (c .before .before .before .before .before .before .before .before .before .step-at .result .right) (c .before .before .before .before .before .before .before .before .before .before .before .before .before .before .before .before .before .before .before .before .before .before .args .d) (c .before .before .before .before .before .before .before .before .before .before .before .before .before .before .before .before .before .before .before .before .before .before .args .u) (getD (c .before .before .before .before .before .before .before .before .before .before .before .before .before .before .before .before .before .before .before .before .before .before .args .apex .now) (c .before .before .before .before .before .before .before .before .before .before .before .before .before .before .before .before .before .before .before .before .before .before .args .e) 0) (c .before .before .before .before .before .before .before .before .before .before .before .before .before .before .before .before .before .before .before .before .before .before .args .v) (c .before .before .before .before .before .before .before .differ .result) (c .before .before .before .before .before .before .pick .result) (c .before .before .before .before .before .pick2 .result) (c .before .draw-two .ensures (k .parts .l) (k .parts .r) (k .of-l) (k .of-r)))
+draw-stem-element-write-out-2 t c =
+    let at-pick2 = c .before .before .before .before .before in
+    let at-pick = at-pick2 .before in
+    let at-differ = at-pick .before in
+    let at-step-at = at-differ .before .before in
+    let at-if2 = at-step-at .before .before .before .before .before .before .before .before .before .before in
+    let start = at-if2 .before .before .before in
+    let k = (recorded-parts (start .pre .1 .0 .1) (at-if2 .if2 .left)) in
+    omega (arith, k .parts, start .pre .1 .1, end-two (k .parts .l) (k .parts .r) (at-step-at .step-at .result .left) (at-step-at .step-at .result .right) (start .args .d) (start .args .u) (getD (start .args .apex .now) (start .args .e) 0) (start .args .v) (at-differ .differ .result) (at-pick .pick .result) (at-pick2 .pick2 .result) (c .before .draw-two .ensures (k .parts .l) (k .parts .r) (k .of-l) (k .of-r)))
 
 draw-stem-add-result-2 : (t : ℕ) → draw-stem-lts.Need-add-result-2 (draw-stem-Cs t) (draw-stem-at t) draw-stem.Post
-draw-stem-add-result-2 t c = let k = (recorded-parts (c .before .before .before .before .before .before .before .before .before .before .before .before .before .before .before .before .before .before .before .before .before .before .pre .1 .0 .1) (c .before .before .before .before .before .before .before .before .before .before .before .before .before .before .before .before .before .before .before .if2 .left)) in omega (arith, k .parts, c .before .before .before .before .before .before .before .before .before .before .before .before .before .before .before .before .before .before .before .before .before .before .pre .1 .1, end-two (k .parts .l) (k .parts .r) (c .before .before .before .before .before .before .before .before .before .step-at .result .left) (c .before .before .before .before .before .before .before .before .before .step-at .result .right) (c .before .before .before .before .before .before .before .before .before .before .before .before .before .before .before .before .before .before .before .before .before .before .args .d) (c .before .before .before .before .before .before .before .before .before .before .before .before .before .before .before .before .before .before .before .before .before .before .args .u) (getD (c .before .before .before .before .before .before .before .before .before .before .before .before .before .before .before .before .before .before .before .before .before .before .args .apex .now) (c .before .before .before .before .before .before .before .before .before .before .before .before .before .before .before .before .before .before .before .before .before .before .args .e) 0) (c .before .before .before .before .before .before .before .before .before .before .before .before .before .before .before .before .before .before .before .before .before .before .args .v) (c .before .before .before .before .before .before .before .differ .result) (c .before .before .before .before .before .before .pick .result) (c .before .before .before .before .before .pick2 .result) (c .before .draw-two .ensures (k .parts .l) (k .parts .r) (k .of-l) (k .of-r)))
+draw-stem-add-result-2 t c =
+    let at-pick2 = c .before .before .before .before .before in
+    let at-pick = at-pick2 .before in
+    let at-differ = at-pick .before in
+    let at-step-at = at-differ .before .before in
+    let at-if2 = at-step-at .before .before .before .before .before .before .before .before .before .before in
+    let start = at-if2 .before .before .before in
+    let k = (recorded-parts (start .pre .1 .0 .1) (at-if2 .if2 .left)) in
+    omega (arith, k .parts, start .pre .1 .1, end-two (k .parts .l) (k .parts .r) (at-step-at .step-at .result .left) (at-step-at .step-at .result .right) (start .args .d) (start .args .u) (getD (start .args .apex .now) (start .args .e) 0) (start .args .v) (at-differ .differ .result) (at-pick .pick .result) (at-pick2 .pick2 .result) (c .before .draw-two .ensures (k .parts .l) (k .parts .r) (k .of-l) (k .of-r)))
 
 draw-stem-returns-3 : (t : ℕ) → draw-stem-lts.Need-returns-3 (draw-stem-Cs t) (draw-stem-at t) draw-stem.Post
-draw-stem-returns-3 t c = λ x q. let k = recorded-parts q (c .before .before .before .before .before .before .before .before .before .before .before .before .before .before .before .before .before .before .before .if2 .left) in last-drawn (c .before .before .before .before .before .before .before .before .before .before .before .before .before .before .before .before .before .before .before .before .before .before .args .p) (c .before .before .before .before .before .before .before .before .before .before .before .before .before .before .before .before .before .before .before .before .before .before .args .d) (k .parts .l) (k .parts .r) (c .before .before .before .before .before .before .before .before .before .before .before .before .before .before .before .before .before .before .before .before .before .before .args .u) (c .before .before .before .before .before .before .before .before .before .before .before .before .before .before .before .before .before .before .before .before .before .before .args .v) _ (c .before .before .before .before .before .before .before .before .before .step-at .result) (c .before .before .before .before .before .before .before .before .before .before .before .before .before .before .before .before .before .before .before .before .before .before .args .turned) (sym (c .before .before .before .before .before .before .before .before .before .before .before .before .before .before .before .before .before .before .before .before .before .is-hung .ensures) ∙ c .before .before .before .before .before .before .before .before .before .before .before .before .before .before .before .before .before .before .before .before .if1 .left) (k .parts .is) (k .parts .middle) (c .before .before .before .before .before .before .before .before .before .step-at .ensures ∙ rw (c .before .before .before .before .before .before .before .before .before .before .before .before .before .before .number .ensures, c .before .before .before .before .before .before .before .before .before .before .before .before .number2 .ensures, c .before .before .before .before .before .before .before .before .before .before .number3 .ensures) (k .step-is (c .before .before .before .before .before .before .before .before .before .before .before .before .before .before .before .before .before .before .before .before .before .before .args .p) (c .before .before .before .before .before .before .before .before .before .before .before .before .before .before .before .before .before .before .before .before .before .before .args .d))) (c .before .before .before .before .before .before .before .before .from-right .result) (c .before .before .before .before .before .before .before .differ .result) (c .before .before .before .before .before .before .pick .result) (c .before .before .before .before .before .pick2 .result) (c .before .before .before .before .before .before .before .before .from-right .ensures) (c .before .before .before .before .before .before .before .differ .ensures) (c .before .before .before .before .before .before .pick .ensures) (c .before .before .before .before .before .pick2 .ensures) (c .before .before .before .before .differ2 .result) (c .before .before .before .before .differ2 .ensures) (c .before .before .before .if3 .taken) _ (c .key2 .ensures) (c .before .draw-two .ensures (k .parts .l) (k .parts .r) (k .of-l) (k .of-r))
+draw-stem-returns-3 t c =
+    let at-if3 = c .before .before .before in
+    let at-differ2 = at-if3 .before in
+    let at-pick2 = at-differ2 .before in
+    let at-pick = at-pick2 .before in
+    let at-differ = at-pick .before in
+    let at-from-right = at-differ .before in
+    let at-step-at = at-from-right .before in
+    let at-number3 = at-step-at .before in
+    let at-number2 = at-number3 .before .before in
+    let at-number = at-number2 .before .before in
+    let at-if2 = at-number .before .before .before .before .before in
+    let at-if1 = at-if2 .before in
+    let at-is-hung = at-if1 .before in
+    let start = at-is-hung .before in
+    λ x q. let k = recorded-parts q (at-if2 .if2 .left) in last-drawn (start .args .p) (start .args .d) (k .parts .l) (k .parts .r) (start .args .u) (start .args .v) _ (at-step-at .step-at .result) (start .args .turned) (sym (at-is-hung .is-hung .ensures) ∙ at-if1 .if1 .left) (k .parts .is) (k .parts .middle) (at-step-at .step-at .ensures ∙ rw (at-number .number .ensures, at-number2 .number2 .ensures, at-number3 .number3 .ensures) (k .step-is (start .args .p) (start .args .d))) (at-from-right .from-right .result) (at-differ .differ .result) (at-pick .pick .result) (at-pick2 .pick2 .result) (at-from-right .from-right .ensures) (at-differ .differ .ensures) (at-pick .pick .ensures) (at-pick2 .pick2 .ensures) (at-differ2 .differ2 .result) (at-differ2 .differ2 .ensures) (at-if3 .if3 .taken) _ (c .key2 .ensures) (c .before .draw-two .ensures (k .parts .l) (k .parts .r) (k .of-l) (k .of-r))
 
 draw-stem-key-requires-3 : (t : ℕ) → draw-stem-lts.Need-key-requires-3 (draw-stem-Cs t) (draw-stem-at t) draw-stem.Post
-draw-stem-key-requires-3 t c κs = omega (arith, (recorded-parts (c .before .before .before .before .before .before .before .before .before .before .before .before .before .before .before .before .before .before .before .pre .1 .0 .1) (c .before .before .before .before .before .before .before .before .before .before .before .before .before .before .before .before .if2 .left)) .parts, c .before .before .before .before .before .before .before .before .before .before .before .before .before .before .before .before .before .before .before .pre .1 .1)
+draw-stem-key-requires-3 t c κs =
+    let at-if2 = c .before .before .before .before .before .before .before .before .before .before .before .before .before .before .before .before in
+    let start = at-if2 .before .before .before in
+    omega (arith, (recorded-parts (start .pre .1 .0 .1) (at-if2 .if2 .left)) .parts, start .pre .1 .1)
 
 draw-stem-mul-out-3 : (t : ℕ) → draw-stem-lts.Need-mul-out-3 (draw-stem-Cs t) (draw-stem-at t) draw-stem.Post
-draw-stem-mul-out-3 t c = omega (arith, (recorded-parts (c .before .before .before .before .before .before .before .before .before .before .before .before .before .before .before .before .before .before .before .before .pre .1 .0 .1) (c .before .before .before .before .before .before .before .before .before .before .before .before .before .before .before .before .before .if2 .left)) .parts, c .before .before .before .before .before .before .before .before .before .before .before .before .before .before .before .before .before .before .before .before .pre .1 .1)
+draw-stem-mul-out-3 t c =
+    let at-if2 = c .before .before .before .before .before .before .before .before .before .before .before .before .before .before .before .before .before in
+    let start = at-if2 .before .before .before in
+    omega (arith, (recorded-parts (start .pre .1 .0 .1) (at-if2 .if2 .left)) .parts, start .pre .1 .1)
 
 draw-stem-element-write-out-3 : (t : ℕ) → draw-stem-lts.Need-element-write-out-3 (draw-stem-Cs t) (draw-stem-at t) draw-stem.Post
-draw-stem-element-write-out-3 t c = omega (arith, (recorded-parts (c .before .before .before .before .before .before .before .before .before .before .before .before .before .before .before .before .before .before .before .before .pre .1 .0 .1) (c .before .before .before .before .before .before .before .before .before .before .before .before .before .before .before .before .before .if2 .left)) .parts, c .before .before .before .before .before .before .before .before .before .before .before .before .before .before .before .before .before .before .before .before .pre .1 .1)
+draw-stem-element-write-out-3 t c =
+    let at-if2 = c .before .before .before .before .before .before .before .before .before .before .before .before .before .before .before .before .before in
+    let start = at-if2 .before .before .before in
+    omega (arith, (recorded-parts (start .pre .1 .0 .1) (at-if2 .if2 .left)) .parts, start .pre .1 .1)
 
 draw-stem-add-draw-two : (t : ℕ) → draw-stem-lts.Need-add-draw-two (draw-stem-Cs t) (draw-stem-at t) draw-stem.Post
-draw-stem-add-draw-two t c = omega (arith, (recorded-parts (c .before .before .before .before .before .before .before .before .before .before .before .before .before .before .before .before .before .before .before .before .pre .1 .0 .1) (c .before .before .before .before .before .before .before .before .before .before .before .before .before .before .before .before .before .if2 .left)) .parts, c .before .before .before .before .before .before .before .before .before .before .before .before .before .before .before .before .before .before .before .before .pre .1 .1)
+draw-stem-add-draw-two t c =
+    let at-if2 = c .before .before .before .before .before .before .before .before .before .before .before .before .before .before .before .before .before in
+    let start = at-if2 .before .before .before in
+    omega (arith, (recorded-parts (start .pre .1 .0 .1) (at-if2 .if2 .left)) .parts, start .pre .1 .1)
 
 draw-stem-draw-two-requires-2 : (t : ℕ) → draw-stem-lts.Need-draw-two-requires-2 (draw-stem-Cs t) (draw-stem-at t) draw-stem.Post
-draw-stem-draw-two-requires-2 t c κs = let k = (recorded-parts (c .before .before .before .before .before .before .before .before .before .before .before .before .before .before .before .before .before .before .before .before .before .pre .1 .0 .1) (c .before .before .before .before .before .before .before .before .before .before .before .before .before .before .before .before .before .before .if2 .left)) in (omega (arith, k .parts, c .before .before .before .before .before .before .before .before .before .before .before .before .before .before .before .before .before .before .before .before .before .pre .0), ((k .parts .l, k .of-l), ((k .parts .r, k .of-r), omega (arith, k .parts, c .before .before .before .before .before .before .before .before .before .before .before .before .before .before .before .before .before .before .before .before .before .pre .1 .1))))
+draw-stem-draw-two-requires-2 t c κs =
+    let at-if2 = c .before .before .before .before .before .before .before .before .before .before .before .before .before .before .before .before .before .before in
+    let start = at-if2 .before .before .before in
+    let k = (recorded-parts (start .pre .1 .0 .1) (at-if2 .if2 .left)) in
+    (omega (arith, k .parts, start .pre .0), ((k .parts .l, k .of-l), ((k .parts .r, k .of-r), omega (arith, k .parts, start .pre .1 .1))))
 
 draw-stem-returns-4 : (t : ℕ) → draw-stem-lts.Need-returns-4 (draw-stem-Cs t) (draw-stem-at t) draw-stem.Post
-draw-stem-returns-4 t c = λ x q. let k = recorded-parts q (c .before .before .before .before .before .before .before .before .before .before .before .before .before .before .before .before .before .before .before .if2 .left) in first-drawn (c .before .before .before .before .before .before .before .before .before .before .before .before .before .before .before .before .before .before .before .before .before .before .args .p) (c .before .before .before .before .before .before .before .before .before .before .before .before .before .before .before .before .before .before .before .before .before .before .args .d) (k .parts .l) (k .parts .r) (c .before .before .before .before .before .before .before .before .before .before .before .before .before .before .before .before .before .before .before .before .before .before .args .u) (c .before .before .before .before .before .before .before .before .before .before .before .before .before .before .before .before .before .before .before .before .before .before .args .v) _ (c .before .before .before .before .before .before .before .before .before .step-at .result) (c .before .before .before .before .before .before .before .before .before .before .before .before .before .before .before .before .before .before .before .before .before .before .args .turned) (sym (c .before .before .before .before .before .before .before .before .before .before .before .before .before .before .before .before .before .before .before .before .before .is-hung .ensures) ∙ c .before .before .before .before .before .before .before .before .before .before .before .before .before .before .before .before .before .before .before .before .if1 .left) (k .parts .is) (k .parts .middle) (c .before .before .before .before .before .before .before .before .before .step-at .ensures ∙ rw (c .before .before .before .before .before .before .before .before .before .before .before .before .before .before .number .ensures, c .before .before .before .before .before .before .before .before .before .before .before .before .number2 .ensures, c .before .before .before .before .before .before .before .before .before .before .number3 .ensures) (k .step-is (c .before .before .before .before .before .before .before .before .before .before .before .before .before .before .before .before .before .before .before .before .before .before .args .p) (c .before .before .before .before .before .before .before .before .before .before .before .before .before .before .before .before .before .before .before .before .before .before .args .d))) (c .before .before .before .before .before .before .before .before .from-right .result) (c .before .before .before .before .before .before .before .differ .result) (c .before .before .before .before .before .before .pick .result) (c .before .before .before .before .before .pick2 .result) (c .before .before .before .before .before .before .before .before .from-right .ensures) (c .before .before .before .before .before .before .before .differ .ensures) (c .before .before .before .before .before .before .pick .ensures) (c .before .before .before .before .before .pick2 .ensures) (c .before .before .before .before .differ2 .result) (c .before .before .before .before .differ2 .ensures) (c .before .before .before .if3 .left) _ (c .before .before .before .before .before .before .before .before .before .before .before .before .before .before .before .before .before .before .before .before .before .before .args .at) (c .before .before .before .before .before .before .before .before .before .before .before .before .before .before .before .before .before .before .before .before .before .before .args .out .now) (c .before .before .key3 .ensures) (c .draw-two2 .ensures (k .parts .l) (k .parts .r) (k .of-l) (k .of-r))
+draw-stem-returns-4 t c =
+    let at-if3 = c .before .before .before in
+    let at-differ2 = at-if3 .before in
+    let at-pick2 = at-differ2 .before in
+    let at-pick = at-pick2 .before in
+    let at-differ = at-pick .before in
+    let at-from-right = at-differ .before in
+    let at-step-at = at-from-right .before in
+    let at-number3 = at-step-at .before in
+    let at-number2 = at-number3 .before .before in
+    let at-number = at-number2 .before .before in
+    let at-if2 = at-number .before .before .before .before .before in
+    let at-if1 = at-if2 .before in
+    let at-is-hung = at-if1 .before in
+    let start = at-is-hung .before in
+    λ x q. let k = recorded-parts q (at-if2 .if2 .left) in first-drawn (start .args .p) (start .args .d) (k .parts .l) (k .parts .r) (start .args .u) (start .args .v) _ (at-step-at .step-at .result) (start .args .turned) (sym (at-is-hung .is-hung .ensures) ∙ at-if1 .if1 .left) (k .parts .is) (k .parts .middle) (at-step-at .step-at .ensures ∙ rw (at-number .number .ensures, at-number2 .number2 .ensures, at-number3 .number3 .ensures) (k .step-is (start .args .p) (start .args .d))) (at-from-right .from-right .result) (at-differ .differ .result) (at-pick .pick .result) (at-pick2 .pick2 .result) (at-from-right .from-right .ensures) (at-differ .differ .ensures) (at-pick .pick .ensures) (at-pick2 .pick2 .ensures) (at-differ2 .differ2 .result) (at-differ2 .differ2 .ensures) (at-if3 .if3 .left) _ (start .args .at) (start .args .out .now) (c .before .before .key3 .ensures) (c .draw-two2 .ensures (k .parts .l) (k .parts .r) (k .of-l) (k .of-r))
 
 draw-two-draw-stem-requires : (t : ℕ) → draw-two-lts.Need-draw-stem-requires (draw-two-Cs t) (draw-two-at t) draw-two.Post
-draw-two-draw-stem-requires t c κs = (omega (arith, ends (c .before .before .pre .1 .0 .1 .shows), ends (c .before .before .pre .1 .1 .0 .1 .shows), span-pos (c .before .before .pre .1 .0 .0), span-pos (c .before .before .pre .1 .1 .0 .0), c .before .before .pre .1 .1 .1, c .before .before .pre .0), (c .before .before .pre .1 .1 .0, omega (arith, ends (c .before .before .pre .1 .0 .1 .shows), ends (c .before .before .pre .1 .1 .0 .1 .shows), span-pos (c .before .before .pre .1 .0 .0), span-pos (c .before .before .pre .1 .1 .0 .0), c .before .before .pre .1 .1 .1)))
+draw-two-draw-stem-requires t c κs =
+    let start = c .before .before in
+    (omega (arith, ends (start .pre .1 .0 .1 .shows), ends (start .pre .1 .1 .0 .1 .shows), span-pos (start .pre .1 .0 .0), span-pos (start .pre .1 .1 .0 .0), start .pre .1 .1 .1, start .pre .0), (start .pre .1 .1 .0, omega (arith, ends (start .pre .1 .0 .1 .shows), ends (start .pre .1 .1 .0 .1 .shows), span-pos (start .pre .1 .0 .0), span-pos (start .pre .1 .1 .0 .0), start .pre .1 .1 .1)))
 
 draw-two-draw-stem-requires-2 : (t : ℕ) → draw-two-lts.Need-draw-stem-requires-2 (draw-two-Cs t) (draw-two-at t) draw-two.Post
-draw-two-draw-stem-requires-2 t c κs = (omega (arith, ends (c .before .before .before .before .pre .1 .0 .1 .shows), ends (c .before .before .before .before .pre .1 .1 .0 .1 .shows), span-pos (c .before .before .before .before .pre .1 .0 .0), span-pos (c .before .before .before .before .pre .1 .1 .0 .0), c .before .before .before .before .pre .1 .1 .1, c .before .before .before .before .pre .0), (c .before .before .before .before .pre .1 .0, omega (arith, ends (c .before .before .before .before .pre .1 .0 .1 .shows), ends (c .before .before .before .before .pre .1 .1 .0 .1 .shows), span-pos (c .before .before .before .before .pre .1 .0 .0), span-pos (c .before .before .before .before .pre .1 .1 .0 .0), c .before .before .before .before .pre .1 .1 .1, end-one (c .before .before .before .before .pre .1 .1 .0 .0) (c .before .before .before .before .args .b) (c .before .before .before .before .args .d) (c .before .before .before .before .args .c) (c .before .before .before .before .args .v) (c .before .before .before .before .args .turned-r) (c .before .draw-stem .ensures (c .before .before .before .before .pre .1 .1 .0 .0) (c .before .before .before .before .pre .1 .1 .0 .1)))))
+draw-two-draw-stem-requires-2 t c κs =
+    let start = c .before .before .before .before in
+    (omega (arith, ends (start .pre .1 .0 .1 .shows), ends (start .pre .1 .1 .0 .1 .shows), span-pos (start .pre .1 .0 .0), span-pos (start .pre .1 .1 .0 .0), start .pre .1 .1 .1, start .pre .0), (start .pre .1 .0, omega (arith, ends (start .pre .1 .0 .1 .shows), ends (start .pre .1 .1 .0 .1 .shows), span-pos (start .pre .1 .0 .0), span-pos (start .pre .1 .1 .0 .0), start .pre .1 .1 .1, end-one (start .pre .1 .1 .0 .0) (start .args .b) (start .args .d) (start .args .c) (start .args .v) (start .args .turned-r) (c .before .draw-stem .ensures (start .pre .1 .1 .0 .0) (start .pre .1 .1 .0 .1)))))
 
 draw-two-returns : (t : ℕ) → draw-two-lts.Need-returns (draw-two-Cs t) (draw-two-at t) draw-two.Post
 draw-two-returns t c = λ l r p q. swapped-drawn (c .before .before .before .before .before .args .swapped) (c .before .before .before .before .if1 .taken) (c .before .before .draw-stem .ensures r q) (c .draw-stem2 .ensures l p)
 
 draw-two-draw-stem-requires-3 : (t : ℕ) → draw-two-lts.Need-draw-stem-requires-3 (draw-two-Cs t) (draw-two-at t) draw-two.Post
-draw-two-draw-stem-requires-3 t c κs = (omega (arith, ends (c .before .before .pre .1 .0 .1 .shows), ends (c .before .before .pre .1 .1 .0 .1 .shows), span-pos (c .before .before .pre .1 .0 .0), span-pos (c .before .before .pre .1 .1 .0 .0), c .before .before .pre .1 .1 .1, c .before .before .pre .0), (c .before .before .pre .1 .0, omega (arith, ends (c .before .before .pre .1 .0 .1 .shows), ends (c .before .before .pre .1 .1 .0 .1 .shows), span-pos (c .before .before .pre .1 .0 .0), span-pos (c .before .before .pre .1 .1 .0 .0), c .before .before .pre .1 .1 .1)))
+draw-two-draw-stem-requires-3 t c κs =
+    let start = c .before .before in
+    (omega (arith, ends (start .pre .1 .0 .1 .shows), ends (start .pre .1 .1 .0 .1 .shows), span-pos (start .pre .1 .0 .0), span-pos (start .pre .1 .1 .0 .0), start .pre .1 .1 .1, start .pre .0), (start .pre .1 .0, omega (arith, ends (start .pre .1 .0 .1 .shows), ends (start .pre .1 .1 .0 .1 .shows), span-pos (start .pre .1 .0 .0), span-pos (start .pre .1 .1 .0 .0), start .pre .1 .1 .1)))
 
 draw-two-draw-stem-requires-4 : (t : ℕ) → draw-two-lts.Need-draw-stem-requires-4 (draw-two-Cs t) (draw-two-at t) draw-two.Post
-draw-two-draw-stem-requires-4 t c κs = (omega (arith, ends (c .before .before .before .before .pre .1 .0 .1 .shows), ends (c .before .before .before .before .pre .1 .1 .0 .1 .shows), span-pos (c .before .before .before .before .pre .1 .0 .0), span-pos (c .before .before .before .before .pre .1 .1 .0 .0), c .before .before .before .before .pre .1 .1 .1, c .before .before .before .before .pre .0), (c .before .before .before .before .pre .1 .1 .0, omega (arith, ends (c .before .before .before .before .pre .1 .0 .1 .shows), ends (c .before .before .before .before .pre .1 .1 .0 .1 .shows), span-pos (c .before .before .before .before .pre .1 .0 .0), span-pos (c .before .before .before .before .pre .1 .1 .0 .0), c .before .before .before .before .pre .1 .1 .1, end-one (c .before .before .before .before .pre .1 .0 .0) (c .before .before .before .before .args .a) (c .before .before .before .before .args .d) (c .before .before .before .before .args .u) (c .before .before .before .before .args .c) (c .before .before .before .before .args .turned-l) (c .before .draw-stem3 .ensures (c .before .before .before .before .pre .1 .0 .0) (c .before .before .before .before .pre .1 .0 .1)))))
+draw-two-draw-stem-requires-4 t c κs =
+    let start = c .before .before .before .before in
+    (omega (arith, ends (start .pre .1 .0 .1 .shows), ends (start .pre .1 .1 .0 .1 .shows), span-pos (start .pre .1 .0 .0), span-pos (start .pre .1 .1 .0 .0), start .pre .1 .1 .1, start .pre .0), (start .pre .1 .1 .0, omega (arith, ends (start .pre .1 .0 .1 .shows), ends (start .pre .1 .1 .0 .1 .shows), span-pos (start .pre .1 .0 .0), span-pos (start .pre .1 .1 .0 .0), start .pre .1 .1 .1, end-one (start .pre .1 .0 .0) (start .args .a) (start .args .d) (start .args .u) (start .args .c) (start .args .turned-l) (c .before .draw-stem3 .ensures (start .pre .1 .0 .0) (start .pre .1 .0 .1)))))
 
 draw-two-returns-2 : (t : ℕ) → draw-two-lts.Need-returns-2 (draw-two-Cs t) (draw-two-at t) draw-two.Post
 draw-two-returns-2 t c = λ l r p q. two-drawn (c .before .before .before .before .before .args .swapped) (c .before .before .before .before .if1 .left) (c .before .before .draw-stem3 .ensures l p) (c .draw-stem4 .ensures r q)

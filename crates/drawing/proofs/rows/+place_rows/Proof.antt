@@ -78,22 +78,63 @@ place-rows-number-requires-4 : (t : ℕ) → place-rows-lts.Need-number-requires
 place-rows-number-requires-4 t c κs = search needs
 
 place-rows-lines-at-requires : (t : ℕ) → place-rows-lts.Need-lines-at-requires (place-rows-Cs t) (place-rows-at t) place-rows.Post
-place-rows-lines-at-requires t c κs = let k = (recorded-parts (c .before .before .before .before .before .before .before .before .before .before .before .before .before .pre .1 .0 .1) (c .before .before .before .before .before .before .before .before .before .before .before .before .if1 .left)) in omega (arith, c .before .before .before .before .before .before .before .before .before .before .before .before .before .pre .1 .1, c .number4 .ensures, k .levels-are, k .not-empty, nine (node (k .parts .l) (k .parts .r)) (omega (arith, ends (c .before .before .before .before .before .before .before .before .before .before .before .before .before .pre .1 .0 .1 .shows), ap span (k .parts .is), c .before .before .before .before .before .before .before .before .before .before .before .before .before .pre .1 .1)))
+place-rows-lines-at-requires t c κs =
+    let at-if1 = c .before .before .before .before .before .before .before .before .before .before .before .before in
+    let start = at-if1 .before in
+    let k = recorded-parts (start .pre .1 .0 .1) (at-if1 .if1 .left) in
+    omega (arith, start .pre .1 .1, c .number4 .ensures, k .levels-are, k .not-empty, nine (node (k .parts .l) (k .parts .r)) (omega (arith, ends (start .pre .1 .0 .1 .shows), ap span (k .parts .is), start .pre .1 .1)))
+
+-- the rows of the two lines that the pieces beyond a triangle are drawn on
+lines-fit : (t : ℕ) (c : place-rows-lts.After-lines-at (place-rows-Cs t) (place-rows-at t) place-rows.Post) → let args = c .before .before .before .before .before .before .before .before .before .before .before .before .before .before .args in Small (50000 - 20 * (args .v - args .u) + 18) (c .lines-at .result)
+lines-fit t c =
+    let at-number4 = c .before in
+    let at-if1 = at-number4 .before .before .before .before .before .before .before .before .before .before .before .before in
+    let start = at-if1 .before in
+    let k = recorded-parts (start .pre .1 .0 .1) (at-if1 .if1 .left) in
+    let levels = nine (node (k .parts .l) (k .parts .r)) (omega (arith, ends (start .pre .1 .0 .1 .shows), ap span (k .parts .is), start .pre .1 .1)) in
+    rw (c .lines-at .ensures) (lines-small (start .args .p) (at-number4 .before .before .step-at .result .crossed) (start .args .d) (at-number4 .number4 .result) (50000 - 20 * (start .args .v - start .args .u)) (start .args .far) (start .args .near) (omega (arith, start .pre .1 .1)) (omega (arith, start .pre .1 .1)) (omega (arith, at-number4 .number4 .ensures, k .levels-are, levels)))
 
 place-rows-place-rows-requires : (t : ℕ) → place-rows-lts.Need-place-rows-requires (place-rows-Cs t) (place-rows-at t) place-rows.Post
-place-rows-place-rows-requires t c κs = let k = (recorded-parts (c .before .before .before .before .before .before .before .before .before .before .before .before .before .before .before .before .before .before .pre .1 .0 .1) (c .before .before .before .before .before .before .before .before .before .before .before .before .before .before .before .before .before .if1 .left)) in let m : Small (50000 - 20 * (c .before .before .before .before .before .before .before .before .before .before .before .before .before .before .before .before .before .before .args .v - c .before .before .before .before .before .before .before .before .before .before .before .before .before .before .before .before .before .before .args .u) + 18) (c .before .before .before .before .lines-at .result) = (rw (c .before .before .before .before .lines-at .ensures) (lines-small (c .before .before .before .before .before .before .before .before .before .before .before .before .before .before .before .before .before .before .args .p) (c .before .before .before .before .before .before .before .step-at .result .crossed) (c .before .before .before .before .before .before .before .before .before .before .before .before .before .before .before .before .before .before .args .d) (c .before .before .before .before .before .number4 .result) (50000 - 20 * (c .before .before .before .before .before .before .before .before .before .before .before .before .before .before .before .before .before .before .args .v - c .before .before .before .before .before .before .before .before .before .before .before .before .before .before .before .before .before .before .args .u)) (c .before .before .before .before .before .before .before .before .before .before .before .before .before .before .before .before .before .before .args .far) (c .before .before .before .before .before .before .before .before .before .before .before .before .before .before .before .before .before .before .args .near) (omega (arith, c .before .before .before .before .before .before .before .before .before .before .before .before .before .before .before .before .before .before .pre .1 .1)) (omega (arith, c .before .before .before .before .before .before .before .before .before .before .before .before .before .before .before .before .before .before .pre .1 .1)) (omega (arith, c .before .before .before .before .before .number4 .ensures, k .levels-are, nine (node (k .parts .l) (k .parts .r)) (omega (arith, ends (c .before .before .before .before .before .before .before .before .before .before .before .before .before .before .before .before .before .before .pre .1 .0 .1 .shows), ap span (k .parts .is), c .before .before .before .before .before .before .before .before .before .before .before .before .before .before .before .before .before .before .pre .1 .1)))))) in (omega (arith, k .parts, c .before .before .before .before .before .before .before .before .before .before .before .before .before .before .before .before .before .before .pre .0), ((k .parts .l, k .of-l), omega (arith, k .parts, c .before .before .before .before .before .before .before .before .before .before .before .before .before .before .before .before .before .before .pre .1 .1, m)))
+place-rows-place-rows-requires t c κs =
+    let at-lines-at = c .before .before .before .before in
+    let at-if1 = at-lines-at .before .before .before .before .before .before .before .before .before .before .before .before .before in
+    let start = at-if1 .before in
+    let k = recorded-parts (start .pre .1 .0 .1) (at-if1 .if1 .left) in
+    let m = lines-fit t at-lines-at in
+    (omega (arith, k .parts, start .pre .0), ((k .parts .l, k .of-l), omega (arith, k .parts, start .pre .1 .1, m)))
 
 place-rows-mul-rows : (t : ℕ) → place-rows-lts.Need-mul-rows (place-rows-Cs t) (place-rows-at t) place-rows.Post
-place-rows-mul-rows t c = omega (arith, (recorded-parts (c .before .before .before .before .before .before .before .before .before .before .before .before .before .before .before .before .before .before .before .pre .1 .0 .1) (c .before .before .before .before .before .before .before .before .before .before .before .before .before .before .before .before .before .before .if1 .left)) .parts, c .before .before .before .before .before .before .before .before .before .before .before .before .before .before .before .before .before .before .before .pre .1 .1)
+place-rows-mul-rows t c =
+    let at-if1 = c .before .before .before .before .before .before .before .before .before .before .before .before .before .before .before .before .before .before in
+    let start = at-if1 .before in
+    omega (arith, (recorded-parts (start .pre .1 .0 .1) (at-if1 .if1 .left)) .parts, start .pre .1 .1)
 
 place-rows-element-write-rows : (t : ℕ) → place-rows-lts.Need-element-write-rows (place-rows-Cs t) (place-rows-at t) place-rows.Post
-place-rows-element-write-rows t c = omega (arith, (recorded-parts (c .before .before .before .before .before .before .before .before .before .before .before .before .before .before .before .before .before .before .before .pre .1 .0 .1) (c .before .before .before .before .before .before .before .before .before .before .before .before .before .before .before .before .before .before .if1 .left)) .parts, c .before .before .before .before .before .before .before .before .before .before .before .before .before .before .before .before .before .before .before .pre .1 .1)
+place-rows-element-write-rows t c =
+    let at-if1 = c .before .before .before .before .before .before .before .before .before .before .before .before .before .before .before .before .before .before in
+    let start = at-if1 .before in
+    omega (arith, (recorded-parts (start .pre .1 .0 .1) (at-if1 .if1 .left)) .parts, start .pre .1 .1)
 
 place-rows-place-rows-requires-2 : (t : ℕ) → place-rows-lts.Need-place-rows-requires-2 (place-rows-Cs t) (place-rows-at t) place-rows.Post
-place-rows-place-rows-requires-2 t c κs = let k = (recorded-parts (c .before .before .before .before .before .before .before .before .before .before .before .before .before .before .before .before .before .before .before .before .pre .1 .0 .1) (c .before .before .before .before .before .before .before .before .before .before .before .before .before .before .before .before .before .before .before .if1 .left)) in let m : Small (50000 - 20 * (c .before .before .before .before .before .before .before .before .before .before .before .before .before .before .before .before .before .before .before .before .args .v - c .before .before .before .before .before .before .before .before .before .before .before .before .before .before .before .before .before .before .before .before .args .u) + 18) (c .before .before .before .before .before .before .lines-at .result) = (rw (c .before .before .before .before .before .before .lines-at .ensures) (lines-small (c .before .before .before .before .before .before .before .before .before .before .before .before .before .before .before .before .before .before .before .before .args .p) (c .before .before .before .before .before .before .before .before .before .step-at .result .crossed) (c .before .before .before .before .before .before .before .before .before .before .before .before .before .before .before .before .before .before .before .before .args .d) (c .before .before .before .before .before .before .before .number4 .result) (50000 - 20 * (c .before .before .before .before .before .before .before .before .before .before .before .before .before .before .before .before .before .before .before .before .args .v - c .before .before .before .before .before .before .before .before .before .before .before .before .before .before .before .before .before .before .before .before .args .u)) (c .before .before .before .before .before .before .before .before .before .before .before .before .before .before .before .before .before .before .before .before .args .far) (c .before .before .before .before .before .before .before .before .before .before .before .before .before .before .before .before .before .before .before .before .args .near) (omega (arith, c .before .before .before .before .before .before .before .before .before .before .before .before .before .before .before .before .before .before .before .before .pre .1 .1)) (omega (arith, c .before .before .before .before .before .before .before .before .before .before .before .before .before .before .before .before .before .before .before .before .pre .1 .1)) (omega (arith, c .before .before .before .before .before .before .before .number4 .ensures, k .levels-are, nine (node (k .parts .l) (k .parts .r)) (omega (arith, ends (c .before .before .before .before .before .before .before .before .before .before .before .before .before .before .before .before .before .before .before .before .pre .1 .0 .1 .shows), ap span (k .parts .is), c .before .before .before .before .before .before .before .before .before .before .before .before .before .before .before .before .before .before .before .before .pre .1 .1)))))) in (omega (arith, k .parts, c .before .before .before .before .before .before .before .before .before .before .before .before .before .before .before .before .before .before .before .before .pre .0), ((k .parts .r, k .of-r), omega (arith, k .parts, c .before .before .before .before .before .before .before .before .before .before .before .before .before .before .before .before .before .before .before .before .pre .1 .1, m)))
+place-rows-place-rows-requires-2 t c κs =
+    let at-lines-at = c .before .before .before .before .before .before in
+    let at-if1 = at-lines-at .before .before .before .before .before .before .before .before .before .before .before .before .before in
+    let start = at-if1 .before in
+    let k = recorded-parts (start .pre .1 .0 .1) (at-if1 .if1 .left) in
+    let m = lines-fit t at-lines-at in
+    (omega (arith, k .parts, start .pre .0), ((k .parts .r, k .of-r), omega (arith, k .parts, start .pre .1 .1, m)))
 
 place-rows-returns-2 : (t : ℕ) → place-rows-lts.Need-returns-2 (place-rows-Cs t) (place-rows-at t) place-rows.Post
-place-rows-returns-2 t c = λ x w. let k = recorded-parts w (c .before .before .before .before .before .before .before .before .before .before .before .before .before .before .before .before .before .before .before .before .if1 .left) in triangle-placed (c .before .before .before .before .before .before .before .before .before .before .before .before .before .before .before .before .before .before .before .before .before .args .p) (c .before .before .before .before .before .before .before .before .before .before .before .before .before .before .before .before .before .before .before .before .before .args .d) (c .before .before .before .before .before .before .before .before .before .before .before .before .before .before .before .before .before .before .before .before .before .args .far) (c .before .before .before .before .before .before .before .before .before .before .before .before .before .before .before .before .before .before .before .before .before .args .near) (k .parts .l) (k .parts .r) (c .before .before .before .before .before .before .before .before .before .before .before .before .before .before .before .before .before .before .before .before .before .args .u) _ (c .before .before .before .before .before .before .before .before .before .before .step-at .result) (c .before .before .before .before .before .before .before .lines-at .result) (c .before .before .before .before .before .before .before .before .before .before .before .before .before .before .before .before .before .before .before .before .before .args .rows .now) _ _ (k .parts .is) (k .parts .middle) (c .before .before .before .before .before .before .before .before .before .before .step-at .ensures ∙ rw (c .before .before .before .before .before .before .before .before .before .before .before .before .before .before .before .number .ensures, c .before .before .before .before .before .before .before .before .before .before .before .before .before .number2 .ensures, c .before .before .before .before .before .before .before .before .before .before .before .number3 .ensures) (k .step-is (c .before .before .before .before .before .before .before .before .before .before .before .before .before .before .before .before .before .before .before .before .before .args .p) (c .before .before .before .before .before .before .before .before .before .before .before .before .before .before .before .before .before .before .before .before .before .args .d))) (lines-are (c .before .before .before .before .before .before .before .before .before .before .before .before .before .before .before .before .before .before .before .before .before .args .p) (c .before .before .before .before .before .before .before .before .before .before .before .before .before .before .before .before .before .before .before .before .before .args .d) (c .before .before .before .before .before .before .before .before .number4 .result) (c .before .before .before .before .before .before .before .before .before .before .before .before .before .before .before .before .before .before .before .before .before .args .far) (c .before .before .before .before .before .before .before .before .before .before .before .before .before .before .before .before .before .before .before .before .before .args .near) (k .parts .l) (k .parts .r) (c .before .before .before .before .before .before .before .before .before .before .step-at .result) (c .before .before .before .before .before .before .before .lines-at .result) (c .before .before .before .before .before .before .before .before .before .before .step-at .ensures ∙ rw (c .before .before .before .before .before .before .before .before .before .before .before .before .before .before .before .number .ensures, c .before .before .before .before .before .before .before .before .before .before .before .before .before .number2 .ensures, c .before .before .before .before .before .before .before .before .before .before .before .number3 .ensures) (k .step-is (c .before .before .before .before .before .before .before .before .before .before .before .before .before .before .before .before .before .before .before .before .before .args .p) (c .before .before .before .before .before .before .before .before .before .before .before .before .before .before .before .before .before .before .before .before .before .args .d))) (c .before .before .before .before .before .before .before .before .number4 .ensures ∙ k .levels-are) (c .before .before .before .before .before .before .before .lines-at .ensures)) (c .before .before .place-rows .ensures (k .parts .l) (k .of-l)) (c .place-rows2 .ensures (k .parts .r) (k .of-r))
+place-rows-returns-2 t c =
+    let at-lines-at = c .before .before .before .before .before .before .before in
+    let at-number4 = at-lines-at .before in
+    let at-step-at = at-number4 .before .before in
+    let at-number3 = at-step-at .before in
+    let at-number2 = at-number3 .before .before in
+    let at-number = at-number2 .before .before in
+    let at-if1 = at-number .before .before .before .before .before in
+    let start = at-if1 .before in
+    λ x w. let k = recorded-parts w (at-if1 .if1 .left) in triangle-placed (start .args .p) (start .args .d) (start .args .far) (start .args .near) (k .parts .l) (k .parts .r) (start .args .u) _ (at-step-at .step-at .result) (at-lines-at .lines-at .result) (start .args .rows .now) _ _ (k .parts .is) (k .parts .middle) (at-step-at .step-at .ensures ∙ rw (at-number .number .ensures, at-number2 .number2 .ensures, at-number3 .number3 .ensures) (k .step-is (start .args .p) (start .args .d))) (lines-are (start .args .p) (start .args .d) (at-number4 .number4 .result) (start .args .far) (start .args .near) (k .parts .l) (k .parts .r) (at-step-at .step-at .result) (at-lines-at .lines-at .result) (at-step-at .step-at .ensures ∙ rw (at-number .number .ensures, at-number2 .number2 .ensures, at-number3 .number3 .ensures) (k .step-is (start .args .p) (start .args .d))) (at-number4 .number4 .ensures ∙ k .levels-are) (at-lines-at .lines-at .ensures)) (c .before .before .place-rows .ensures (k .parts .l) (k .of-l)) (c .place-rows2 .ensures (k .parts .r) (k .of-r))
 
 pub +place-rows-spec : {M : Type 1} → statement M
 +place-rows-spec = close μ-place-rows λ t. place-rows-lts.spec (place-rows-Cs t) (place-rows-at t) place-rows.Post (place-rows-returns t) (place-rows-mul-c t) (place-rows-element-copy-out-c t) (place-rows-cast-c t) (place-rows-mul-i t) (place-rows-element-copy-out-i t) (place-rows-cast-i t) (place-rows-mul-j t) (place-rows-element-copy-out-j t) (place-rows-cast-j t) (place-rows-number-requires t) (place-rows-number-requires-2 t) (place-rows-number-requires-3 t) (place-rows-step-at-requires t) (place-rows-number-requires-4 t) (place-rows-lines-at-requires t) (place-rows-place-rows-requires t) (place-rows-mul-rows t) (place-rows-element-write-rows t) (place-rows-place-rows-requires-2 t) (place-rows-returns-2 t)

@@ -13,10 +13,14 @@ use Rattle.edit.proofs.held.flip_in.Statement.{statement}
 use Rattle.edit.proofs.held.flip_in.Tie as tie
 
 returns : tie.Need-returns
-returns c = rule-refused (flip (c .before .before .before .args .a) (c .before .before .before .args .b)) (polygonOf (c .before .before .before .args .h) (c .before .before .before .args .keys .now)) (c .before .before .before .args .out .now) 9 (turn-outside (c .before .before .before .args .h) (c .before .before .before .args .keys .now) (c .before .before .before .pre) (c .before .before .before .args .a) (c .before .before .before .args .b) (λ t. omega arith))
+returns c =
+    let start = c .before .before .before in
+    rule-refused (flip (start .args .a) (start .args .b)) (polygonOf (start .args .h) (start .args .keys .now)) (start .args .out .now) 9 (turn-outside (start .args .h) (start .args .keys .now) (start .pre) (start .args .a) (start .args .b) (λ t. omega arith))
 
 returns-2 : tie.Need-returns-2
-returns-2 c = rule-refused (flip (c .before .before .before .before .args .a) (c .before .before .before .before .args .b)) (polygonOf (c .before .before .before .before .args .h) (c .before .before .before .before .args .keys .now)) (c .before .before .before .before .args .out .now) 9 (turn-outside (c .before .before .before .before .args .h) (c .before .before .before .before .args .keys .now) (c .before .before .before .before .pre) (c .before .before .before .before .args .a) (c .before .before .before .before .args .b) (λ t. omega arith))
+returns-2 c =
+    let start = c .before .before .before .before in
+    rule-refused (flip (start .args .a) (start .args .b)) (polygonOf (start .args .h) (start .args .keys .now)) (start .args .out .now) 9 (turn-outside (start .args .h) (start .args .keys .now) (start .pre) (start .args .a) (start .args .b) (λ t. omega arith))
 
 turn-requires : tie.Need-turn-requires
 turn-requires c κs = (c .before .before .before .before .before .before .before .pre, (omega arith, omega arith))
@@ -40,7 +44,10 @@ same-length-4 : tie.Need-same-length-4
 same-length-4 c = search needs
 
 returns-4 : tie.Need-returns-4
-returns-4 c = c .before .before .before .before .turn2 .ensures ∙ ap (λ (r : Reading). written (outcome r) (c .before .before .before .before .before .before .before .before .before .before .before .before .args .out .now)) (flip-either (c .before .before .before .before .before .before .before .before .before .before .before .before .args .b) (c .before .before .before .before .before .before .before .before .before .before .before .before .args .a) (polygonOf (c .before .before .before .before .before .before .before .before .before .before .before .before .args .h) (c .before .before .before .before .before .before .before .before .before .before .before .before .args .keys .now)))
+returns-4 c =
+    let at-turn2 = c .before .before .before .before in
+    let start = at-turn2 .before .before .before .before .before .before .before .before in
+    at-turn2 .turn2 .ensures ∙ ap (λ (r : Reading). written (outcome r) (start .args .out .now)) (flip-either (start .args .b) (start .args .a) (polygonOf (start .args .h) (start .args .keys .now)))
 
 pub flip-in-spec : {M : Type 1} → statement M
 flip-in-spec = tie.close (tie.spec returns returns-2 turn-requires turn-requires-2 same-length same-length-2 returns-3 same-length-3 same-length-4 returns-4)

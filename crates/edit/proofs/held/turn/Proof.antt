@@ -33,7 +33,10 @@ same-length : tie.Need-same-length
 same-length c = search needs
 
 returns : tie.Need-returns
-returns c = rule-refused (flip (c .before .before .before .before .before .before .args .a) (c .before .before .before .before .before .before .args .b)) (polygonOf (c .before .before .before .before .before .before .args .h) (c .before .before .before .before .before .before .args .keys .now)) (c .before .before .before .before .before .before .args .out .now) 13 (turn-lacks (c .before .before .before .before .before .before .args .h) (c .before .before .before .before .before .before .args .keys .now) (c .before .before .before .before .before .before .pre .0) (c .before .before .before .before .before .before .args .a) (c .before .before .before .before .before .before .args .b) (c .before .before .before .before .before .before .pre .1 .0) (c .before .before .before .before .before .before .pre .1 .1) (c .before .before .before .key .result) (c .before .before .before .key .ensures) (c .before .has .ensures .1 (not-true _ (c .if1 .taken))))
+returns c =
+    let at-key = c .before .before .before in
+    let start = at-key .before .before .before in
+    rule-refused (flip (start .args .a) (start .args .b)) (polygonOf (start .args .h) (start .args .keys .now)) (start .args .out .now) 13 (turn-lacks (start .args .h) (start .args .keys .now) (start .pre .0) (start .args .a) (start .args .b) (start .pre .1 .0) (start .pre .1 .1) (at-key .key .result) (at-key .key .ensures) (c .before .has .ensures .1 (not-true _ (c .if1 .taken))))
 
 slice-reshare-prefix-turned-key : tie.Need-slice-reshare-prefix-turned-key
 slice-reshare-prefix-turned-key c = omega (arith, c .before .before .before .before .before .before .pre .0 .room, c .before .before .before .before .before .before .pre .0 .fits .most)
@@ -42,19 +45,43 @@ slice-aggregate-turned-key : tie.Need-slice-aggregate-turned-key
 slice-aggregate-turned-key c = sym (length-take-le _ (c .before .before .before .before .before .before .before .args .keys .now) (omega (arith, c .before .before .before .before .before .before .before .pre .0 .room, c .before .before .before .before .before .before .before .pre .0 .fits .most)))
 
 turned-key-requires : tie.Need-turned-key-requires
-turned-key-requires c κs = (c .before .before .before .before .before .before .before .pre .0 .fits .least, c .before .before .before .before .before .before .before .pre .0 .fits .most, omega (arith, c .before .before .before .before .before .before .before .pre .1), c .before .before .before .before .before .before .before .pre .1 .1, small-front (c .before .before .before .before .before .before .before .args .h .n - 3) (c .before .before .before .before .before .before .before .args .keys .now) (omega (arith, c .before .before .before .before .before .before .before .pre .0 .room, c .before .before .before .before .before .before .before .pre .0 .fits .most)) (c .before .before .before .before .before .before .before .pre .0 .fits .keys))
+turned-key-requires c κs =
+    let start = c .before .before .before .before .before .before .before in
+    (start .pre .0 .fits .least, start .pre .0 .fits .most, omega (arith, start .pre .1), start .pre .1 .1, small-front (start .args .h .n - 3) (start .args .keys .now) (omega (arith, start .pre .0 .room, start .pre .0 .fits .most)) (start .pre .0 .fits .keys))
 
 remove-requires : tie.Need-remove-requires
 remove-requires c κs = omega (arith, c .before .before .before .before .before .before .before .before .before .pre .0 .room, c .before .before .before .before .before .before .before .before .before .pre .0 .fits .most)
 
 sub-insert : tie.Need-sub-insert
-sub-insert c = omega (arith, count (c .before .before .before .before .before .before .before .before .before .before .before .before .before .args .h) (c .before .before .before .before .before .before .before .before .before .before .before .before .before .args .keys .now) (c .before .before .before .before .before .before .before .before .before .before .before .before .before .pre .0) (c .before .before .before .before .before .before .before .before .before .before .before .before .before .args .a) (c .before .before .before .before .before .before .before .before .before .before .before .before .before .args .b) (c .before .before .before .before .before .before .before .before .before .before .before .before .before .pre .1 .0) (c .before .before .before .before .before .before .before .before .before .before .before .before .before .pre .1 .1) (c .before .before .before .before .before .before .before .before .before .before .key .result) (c .before .before .before .before .before .before .before .before .before .before .key .ensures) (c .before .before .before .before .before .before .before .before .has .ensures .0 (not-false _ (c .before .before .before .before .before .before .before .if1 .left))) (c .before .before .before .before .before .turned-key .result) (c .before .before .before .before .before .turned-key .ensures) (c .before .before .before .remove .last .0) (c .before .before .before .remove .result) (c .before .before .before .remove .ensures .0) (c .before .before .before .remove .ensures .1))
+sub-insert c =
+    let at-remove = c .before .before .before in
+    let at-turned-key = at-remove .before .before in
+    let at-if1 = at-turned-key .before .before in
+    let at-has = at-if1 .before in
+    let at-key = at-has .before .before in
+    let start = at-key .before .before .before in
+    omega (arith, count (start .args .h) (start .args .keys .now) (start .pre .0) (start .args .a) (start .args .b) (start .pre .1 .0) (start .pre .1 .1) (at-key .key .result) (at-key .key .ensures) (at-has .has .ensures .0 (not-false _ (at-if1 .if1 .left))) (at-turned-key .turned-key .result) (at-turned-key .turned-key .ensures) (at-remove .remove .last .0) (at-remove .remove .result) (at-remove .remove .ensures .0) (at-remove .remove .ensures .1))
 
 insert-requires : tie.Need-insert-requires
-insert-requires c κs = (omega (arith, c .before .before .before .remove .kept .0, c .before .before .before .before .before .before .before .before .before .before .before .before .before .pre .0 .room, c .before .before .before .before .before .before .before .before .before .before .before .before .before .pre .0 .fits .most), out-sorted (c .before .before .before .before .before .before .before .before .before .before .before .before .before .args .h) (c .before .before .before .before .before .before .before .before .before .before .before .before .before .args .keys .now) (c .before .before .before .before .before .before .before .before .before .before .before .before .before .pre .0) (c .before .before .before .before .before .before .before .before .before .before .before .before .before .args .a) (c .before .before .before .before .before .before .before .before .before .before .before .before .before .args .b) (c .before .before .before .before .before .before .before .before .before .before .before .before .before .pre .1 .0) (c .before .before .before .before .before .before .before .before .before .before .before .before .before .pre .1 .1) (c .before .before .before .before .before .before .before .before .before .before .key .result) (c .before .before .before .before .before .before .before .before .before .before .key .ensures) (c .before .before .before .before .before .before .before .before .has .ensures .0 (not-false _ (c .before .before .before .before .before .before .before .if1 .left))) (c .before .before .before .before .before .turned-key .result) (c .before .before .before .before .before .turned-key .ensures) (c .before .before .before .remove .last .0) (c .before .before .before .remove .result) (c .before .before .before .remove .ensures .0) (c .before .before .before .remove .ensures .1))
+insert-requires c κs =
+    let at-remove = c .before .before .before in
+    let at-turned-key = at-remove .before .before in
+    let at-if1 = at-turned-key .before .before in
+    let at-has = at-if1 .before in
+    let at-key = at-has .before .before in
+    let start = at-key .before .before .before in
+    (omega (arith, at-remove .remove .kept .0, start .pre .0 .room, start .pre .0 .fits .most), out-sorted (start .args .h) (start .args .keys .now) (start .pre .0) (start .args .a) (start .args .b) (start .pre .1 .0) (start .pre .1 .1) (at-key .key .result) (at-key .key .ensures) (at-has .has .ensures .0 (not-false _ (at-if1 .if1 .left))) (at-turned-key .turned-key .result) (at-turned-key .turned-key .ensures) (at-remove .remove .last .0) (at-remove .remove .result) (at-remove .remove .ensures .0) (at-remove .remove .ensures .1))
 
 write-sheet-requires : tie.Need-write-sheet-requires
-write-sheet-requires c κs = (flipped-fits (c .before .before .before .before .before .before .before .before .before .before .before .before .before .before .before .before .before .before .args .h) (c .before .before .before .before .before .before .before .before .before .before .before .before .before .before .before .before .before .before .args .keys .now) (c .before .before .before .before .before .before .before .before .before .before .before .before .before .before .before .before .before .before .pre .0) (c .before .before .before .before .before .before .before .before .before .before .before .before .before .before .before .before .before .before .args .a) (c .before .before .before .before .before .before .before .before .before .before .before .before .before .before .before .before .before .before .args .b) (c .before .before .before .before .before .before .before .before .before .before .before .before .before .before .before .before .before .before .pre .1 .0) (c .before .before .before .before .before .before .before .before .before .before .before .before .before .before .before .before .before .before .pre .1 .1) (c .before .before .before .before .before .before .before .before .before .before .before .before .before .before .before .key .result) (c .before .before .before .before .before .before .before .before .before .before .before .before .before .before .before .key .ensures) (c .before .before .before .before .before .before .before .before .before .before .before .before .before .has .ensures .0 (not-false _ (c .before .before .before .before .before .before .before .before .before .before .before .before .if1 .left))) (c .before .before .before .before .before .before .before .before .before .before .turned-key .result) (c .before .before .before .before .before .before .before .before .before .before .turned-key .ensures) (c .before .before .before .before .before .before .before .before .remove .last .0) (c .before .before .before .before .before .before .before .before .remove .result) (c .before .before .before .before .before .before .before .before .remove .ensures .0) (c .before .before .before .before .before .before .before .before .remove .ensures .1) (c .before .before .before .before .insert .last .0) (c .before .before .before .before .insert .ensures) (omega (arith, c .before .before .before .before .insert .kept .0, c .before .before .before .before .before .before .before .before .remove .kept .0, c .before .before .before .before .before .before .before .before .before .before .before .before .before .before .before .before .before .before .pre .0 .room)), omega (arith, c .before .before .before .before .insert .kept .0, c .before .before .before .before .before .before .before .before .remove .kept .0, c .before .before .before .before .before .before .before .before .before .before .before .before .before .before .before .before .before .before .pre .0 .room))
+write-sheet-requires c κs =
+    let at-insert = c .before .before .before .before in
+    let at-remove = at-insert .before .before .before .before in
+    let at-turned-key = at-remove .before .before in
+    let at-if1 = at-turned-key .before .before in
+    let at-has = at-if1 .before in
+    let at-key = at-has .before .before in
+    let start = at-key .before .before .before in
+    (flipped-fits (start .args .h) (start .args .keys .now) (start .pre .0) (start .args .a) (start .args .b) (start .pre .1 .0) (start .pre .1 .1) (at-key .key .result) (at-key .key .ensures) (at-has .has .ensures .0 (not-false _ (at-if1 .if1 .left))) (at-turned-key .turned-key .result) (at-turned-key .turned-key .ensures) (at-remove .remove .last .0) (at-remove .remove .result) (at-remove .remove .ensures .0) (at-remove .remove .ensures .1) (at-insert .insert .last .0) (at-insert .insert .ensures) (omega (arith, at-insert .insert .kept .0, at-remove .remove .kept .0, start .pre .0 .room)), omega (arith, at-insert .insert .kept .0, at-remove .remove .kept .0, start .pre .0 .room))
 
 same-length-2 : tie.Need-same-length-2
 same-length-2 c = search needs
@@ -63,7 +90,15 @@ same-length-3 : tie.Need-same-length-3
 same-length-3 c = search needs
 
 returns-2 : tie.Need-returns-2
-returns-2 c = c .before .before .write-sheet .ensures ∙ rule-written (flip (c .before .before .before .before .before .before .before .before .before .before .before .before .before .before .before .before .before .before .before .before .before .args .a) (c .before .before .before .before .before .before .before .before .before .before .before .before .before .before .before .before .before .before .before .before .before .args .b)) (polygonOf (c .before .before .before .before .before .before .before .before .before .before .before .before .before .before .before .before .before .before .before .before .before .args .h) (c .before .before .before .before .before .before .before .before .before .before .before .before .before .before .before .before .before .before .before .before .before .args .keys .now)) _ (c .before .before .before .before .before .before .before .before .before .before .before .before .before .before .before .before .before .before .before .before .before .args .out .now) (turn-takes (c .before .before .before .before .before .before .before .before .before .before .before .before .before .before .before .before .before .before .before .before .before .args .h) (c .before .before .before .before .before .before .before .before .before .before .before .before .before .before .before .before .before .before .before .before .before .args .keys .now) (c .before .before .before .before .before .before .before .before .before .before .before .before .before .before .before .before .before .before .before .before .before .pre .0) (c .before .before .before .before .before .before .before .before .before .before .before .before .before .before .before .before .before .before .before .before .before .args .a) (c .before .before .before .before .before .before .before .before .before .before .before .before .before .before .before .before .before .before .before .before .before .args .b) (c .before .before .before .before .before .before .before .before .before .before .before .before .before .before .before .before .before .before .before .before .before .pre .1 .0) (c .before .before .before .before .before .before .before .before .before .before .before .before .before .before .before .before .before .before .before .before .before .pre .1 .1) (c .before .before .before .before .before .before .before .before .before .before .before .before .before .before .before .before .before .before .key .result) (c .before .before .before .before .before .before .before .before .before .before .before .before .before .before .before .before .before .before .key .ensures) (c .before .before .before .before .before .before .before .before .before .before .before .before .before .before .before .before .has .ensures .0 (not-false _ (c .before .before .before .before .before .before .before .before .before .before .before .before .before .before .before .if1 .left)))) (flipped-over (c .before .before .before .before .before .before .before .before .before .before .before .before .before .before .before .before .before .before .before .before .before .args .h) (c .before .before .before .before .before .before .before .before .before .before .before .before .before .before .before .before .before .before .before .before .before .args .keys .now) (c .before .before .before .before .before .before .before .before .before .before .before .before .before .before .before .before .before .before .before .before .before .pre .0) (c .before .before .before .before .before .before .before .before .before .before .before .before .before .before .before .before .before .before .before .before .before .args .a) (c .before .before .before .before .before .before .before .before .before .before .before .before .before .before .before .before .before .before .before .before .before .args .b) (c .before .before .before .before .before .before .before .before .before .before .before .before .before .before .before .before .before .before .before .before .before .pre .1 .0) (c .before .before .before .before .before .before .before .before .before .before .before .before .before .before .before .before .before .before .before .before .before .pre .1 .1) (c .before .before .before .before .before .before .before .before .before .before .before .before .before .before .before .before .before .before .key .result) (c .before .before .before .before .before .before .before .before .before .before .before .before .before .before .before .before .before .before .key .ensures) (c .before .before .before .before .before .before .before .before .before .before .before .before .before .before .before .before .has .ensures .0 (not-false _ (c .before .before .before .before .before .before .before .before .before .before .before .before .before .before .before .if1 .left))) (c .before .before .before .before .before .before .before .before .before .before .before .before .before .turned-key .result) (c .before .before .before .before .before .before .before .before .before .before .before .before .before .turned-key .ensures) (c .before .before .before .before .before .before .before .before .before .before .before .remove .last .0) (c .before .before .before .before .before .before .before .before .before .before .before .remove .result) (c .before .before .before .before .before .before .before .before .before .before .before .remove .ensures .0) (c .before .before .before .before .before .before .before .before .before .before .before .remove .ensures .1) (c .before .before .before .before .before .before .before .insert .last .0) (c .before .before .before .before .before .before .before .insert .ensures) (omega (arith, c .before .before .before .before .before .before .before .insert .kept .0, c .before .before .before .before .before .before .before .before .before .before .before .remove .kept .0, c .before .before .before .before .before .before .before .before .before .before .before .before .before .before .before .before .before .before .before .before .before .pre .0 .room)))
+returns-2 c =
+    let at-insert = c .before .before .before .before .before .before .before in
+    let at-remove = at-insert .before .before .before .before in
+    let at-turned-key = at-remove .before .before in
+    let at-if1 = at-turned-key .before .before in
+    let at-has = at-if1 .before in
+    let at-key = at-has .before .before in
+    let start = at-key .before .before .before in
+    c .before .before .write-sheet .ensures ∙ rule-written (flip (start .args .a) (start .args .b)) (polygonOf (start .args .h) (start .args .keys .now)) _ (start .args .out .now) (turn-takes (start .args .h) (start .args .keys .now) (start .pre .0) (start .args .a) (start .args .b) (start .pre .1 .0) (start .pre .1 .1) (at-key .key .result) (at-key .key .ensures) (at-has .has .ensures .0 (not-false _ (at-if1 .if1 .left)))) (flipped-over (start .args .h) (start .args .keys .now) (start .pre .0) (start .args .a) (start .args .b) (start .pre .1 .0) (start .pre .1 .1) (at-key .key .result) (at-key .key .ensures) (at-has .has .ensures .0 (not-false _ (at-if1 .if1 .left))) (at-turned-key .turned-key .result) (at-turned-key .turned-key .ensures) (at-remove .remove .last .0) (at-remove .remove .result) (at-remove .remove .ensures .0) (at-remove .remove .ensures .1) (at-insert .insert .last .0) (at-insert .insert .ensures) (omega (arith, at-insert .insert .kept .0, at-remove .remove .kept .0, start .pre .0 .room)))
 
 pub turn-spec : {M : Type 1} → statement M
 turn-spec = tie.close (tie.spec sub-m key-requires slice-reshare-prefix-has slice-aggregate-has has-requires same-length returns slice-reshare-prefix-turned-key slice-aggregate-turned-key turned-key-requires remove-requires sub-insert insert-requires write-sheet-requires same-length-2 same-length-3 returns-2)

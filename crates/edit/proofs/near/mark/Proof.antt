@@ -29,7 +29,9 @@ slice-write-near-2 : tie.Need-slice-write-near-2 Inv-loop μ-loop
 slice-write-near-2 c = simp length-set (omega (arith, c .high-neighbour .ensures, c .before .before .before .before .pre .0))
 
 loop-holds : tie.Need-loop-holds Inv-loop μ-loop
-loop-holds c = (omega arith, simp (length-set, length-set) (c .before .before .before .before .pre .0 .3), rw (c .before .low-neighbour .ensures .0, c .high-neighbour .ensures .0) (near-begin (c .before .before .before .before .args .n) (c .before .before .before .before .args .c) (c .before .before .before .before .args .near .now) (c .before .before .before .before .pre .0 .0) (c .before .before .before .before .pre .0 .1) (c .before .before .before .before .pre .0 .2) (c .before .before .before .before .pre .0 .3) (c .before .before .before .before .pre .1)))
+loop-holds c =
+    let start = c .before .before .before .before in
+    (omega arith, simp (length-set, length-set) (start .pre .0 .3), rw (c .before .low-neighbour .ensures .0, c .high-neighbour .ensures .0) (near-begin (start .args .n) (start .args .c) (start .args .near .now) (start .pre .0 .0) (start .pre .0 .1) (start .pre .0 .2) (start .pre .0 .3) (start .pre .1)))
 
 mul-other-end : tie.Need-mul-other-end Inv-loop μ-loop
 mul-other-end c = omega arith
@@ -41,7 +43,10 @@ other-end-requires : tie.Need-other-end-requires Inv-loop μ-loop
 other-end-requires c κs = c .before .before .before .before .before .before .before .pre .0 .4 (c .before .before .loop .j) (c .before .loop-test .taken)
 
 slice-write-near-3 : tie.Need-slice-write-near-3 Inv-loop μ-loop
-slice-write-near-3 c = omega (arith, c .before .before .before .loop .inv .1, end-below (c .before .before .before .before .before .before .before .before .args .c) (getD (c .before .before .before .before .before .before .before .before .args .keys .now) (c .before .before .before .loop .j) 0) (c .other-end .result) (c .before .before .before .before .before .before .before .before .pre .0 .4 (c .before .before .before .loop .j) (c .before .before .loop-test .taken)) (c .other-end .ensures))
+slice-write-near-3 c =
+    let at-loop = c .before .before .before in
+    let start = at-loop .before .before .before .before .before in
+    omega (arith, at-loop .loop .inv .1, end-below (start .args .c) (getD (start .args .keys .now) (at-loop .loop .j) 0) (c .other-end .result) (start .pre .0 .4 (at-loop .loop .j) (c .before .before .loop-test .taken)) (c .other-end .ensures))
 
 add-j : tie.Need-add-j Inv-loop μ-loop
 add-j c = omega arith
@@ -50,7 +55,10 @@ loop-less : tie.Need-loop-less Inv-loop μ-loop
 loop-less c = omega arith
 
 loop-again : tie.Need-loop-again Inv-loop μ-loop
-loop-again c = (omega arith, simp length-set (c .before .before .before .loop .inv .1), rw (edges-next (c .before .before .before .before .before .before .before .before .args .keys .now) (c .before .before .before .loop .j) (c .before .before .loop-test .taken)) (near-next (c .before .before .before .before .before .before .before .before .args .n) (c .before .before .before .before .before .before .before .before .args .c) (edgesOf (take (c .before .before .before .loop .j) (c .before .before .before .before .before .before .before .before .args .keys .now))) (edgeOf (getD (c .before .before .before .before .before .before .before .before .args .keys .now) (c .before .before .before .loop .j) 0)) (c .before .before .before .loop .near) (c .before .before .before .loop .inv .2) (c .before .before .before .before .before .before .before .before .pre .0 .1) (c .before .before .before .loop .inv .1) (c .other-end .result) (c .other-end .ensures)))
+loop-again c =
+    let at-loop = c .before .before .before in
+    let start = at-loop .before .before .before .before .before in
+    (omega arith, simp length-set (at-loop .loop .inv .1), rw (edges-next (start .args .keys .now) (at-loop .loop .j) (c .before .before .loop-test .taken)) (near-next (start .args .n) (start .args .c) (edgesOf (take (at-loop .loop .j) (start .args .keys .now))) (edgeOf (getD (start .args .keys .now) (at-loop .loop .j) 0)) (at-loop .loop .near) (at-loop .loop .inv .2) (start .pre .0 .1) (at-loop .loop .inv .1) (c .other-end .result) (c .other-end .ensures)))
 
 same-length : tie.Need-same-length Inv-loop μ-loop
 same-length c = c .before .loop .inv .1 ∙ sym (c .before .before .before .before .before .before .pre .0 .3)

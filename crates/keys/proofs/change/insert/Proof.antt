@@ -36,7 +36,11 @@ loop-less : tie.Need-loop-less Inv-loop μ-loop
 loop-less c = omega arith
 
 loop-again : tie.Need-loop-again Inv-loop μ-loop
-loop-again c = ⊎-elim (λ w. carry-less (c .before .before .before .before .args .m) _ _ (c .before .before .before .loop .keys) (c .before .before .before .loop .x) (c .before .before .before .loop .j) (c .before .before .before .loop .inv) (c .before .before .before .before .pre .0) _ _ (c .before .before .loop-test .taken) (w .0 .taken) (w .1) (w .2)) (λ w. carry-more (c .before .before .before .before .args .m) _ _ (c .before .before .before .loop .keys) (c .before .before .before .loop .x) (c .before .before .before .loop .j) (c .before .before .before .loop .inv) (c .before .before .before .before .pre .0) _ _ (c .before .before .loop-test .taken) (w .0 .left) (w .1) (w .2)) (c .if1 .came)
+loop-again c =
+    let at-loop-test = c .before .before in
+    let at-loop = at-loop-test .before in
+    let start = at-loop .before in
+    ⊎-elim (λ w. carry-less (start .args .m) _ _ (at-loop .loop .keys) (at-loop .loop .x) (at-loop .loop .j) (at-loop .loop .inv) (start .pre .0) _ _ (at-loop-test .loop-test .taken) (w .0 .taken) (w .1) (w .2)) (λ w. carry-more (start .args .m) _ _ (at-loop .loop .keys) (at-loop .loop .x) (at-loop .loop .j) (at-loop .loop .inv) (start .pre .0) _ _ (at-loop-test .loop-test .taken) (w .0 .left) (w .1) (w .2)) (c .if1 .came)
 
 mul-keys-2 : tie.Need-mul-keys-2 Inv-loop μ-loop
 mul-keys-2 c = omega arith

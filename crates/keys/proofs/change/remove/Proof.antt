@@ -37,7 +37,11 @@ loop-less : tie.Need-loop-less Inv-loop μ-loop
 loop-less c = omega arith
 
 loop-again : tie.Need-loop-again Inv-loop μ-loop
-loop-again c = ⊎-elim (λ w. rw (w .1, w .2) (removing-other (c .before .before .before .before .args .k) (c .before .before .before .before .args .m) (c .before .before .before .before .args .keys .now) (c .before .before .before .loop .keys) (c .before .before .before .loop .left) (c .before .before .before .loop .j) (c .before .before .before .loop .inv) (c .before .before .before .before .pre) (c .before .before .loop-test .taken) (w .0 .taken))) (λ w. rw (w .1, w .2) (removing-same (c .before .before .before .before .args .k) (c .before .before .before .before .args .m) (c .before .before .before .before .args .keys .now) (c .before .before .before .loop .keys) (c .before .before .before .loop .left) (c .before .before .before .loop .j) (c .before .before .before .loop .inv) (c .before .before .before .before .pre) (c .before .before .loop-test .taken) (w .0 .left))) (c .if1 .came)
+loop-again c =
+    let at-loop-test = c .before .before in
+    let at-loop = at-loop-test .before in
+    let start = at-loop .before in
+    ⊎-elim (λ w. rw (w .1, w .2) (removing-other (start .args .k) (start .args .m) (start .args .keys .now) (at-loop .loop .keys) (at-loop .loop .left) (at-loop .loop .j) (at-loop .loop .inv) (start .pre) (at-loop-test .loop-test .taken) (w .0 .taken))) (λ w. rw (w .1, w .2) (removing-same (start .args .k) (start .args .m) (start .args .keys .now) (at-loop .loop .keys) (at-loop .loop .left) (at-loop .loop .j) (at-loop .loop .inv) (start .pre) (at-loop-test .loop-test .taken) (w .0 .left))) (c .if1 .came)
 
 same-length : tie.Need-same-length Inv-loop μ-loop
 same-length c = c .before .loop .inv .kept

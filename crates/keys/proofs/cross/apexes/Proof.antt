@@ -18,7 +18,10 @@ begin-requires : tie.Need-begin-requires Inv-loop μ-loop
 begin-requires c κs = c .before .before .before .before .pre .1 .1
 
 loop-holds : tie.Need-loop-holds Inv-loop μ-loop
-loop-holds c = record { upto = omega arith; tops-size = c .before .before .begin .kept .0 ∙ c .before .before .before .before .before .before .before .pre .1 .1; apex-size = refl; tops = tops-begin (c .before .before .before .before .before .before .before .args .n) (c .before .before .begin .last .0) (c .before .before .before .before .before .before .before .pre .1 .0) (c .before .before .begin .ensures); apexes = λ i h. absurd (omega arith) }
+loop-holds c =
+    let at-begin = c .before .before in
+    let start = at-begin .before .before .before .before .before in
+    record { upto = omega arith; tops-size = at-begin .begin .kept .0 ∙ start .pre .1 .1; apex-size = refl; tops = tops-begin (start .args .n) (at-begin .begin .last .0) (start .pre .1 .0) (at-begin .begin .ensures); apexes = λ i h. absurd (omega arith) }
 
 mul-low : tie.Need-mul-low Inv-loop μ-loop
 mul-low c = omega arith
@@ -33,7 +36,11 @@ mul-apex : tie.Need-mul-apex Inv-loop μ-loop
 mul-apex c = omega (arith, c .low .ensures, c .before .shared-slice-known2 .given (c .before .before .before .loop .j))
 
 slice-read-apex : tie.Need-slice-read-apex Inv-loop μ-loop
-slice-read-apex c = omega (arith, c .before .low .ensures, diagonal-at (c .before .before .before .before .before .before .before .before .before .before .before .before .args .n) (c .before .before .before .before .before .before .before .before .before .before .before .before .args .keys .now) (c .before .before .before .before .before .before .before .before .before .before .before .before .pre .0) (c .before .before .before .before .loop .j) (c .before .before .before .loop-test .taken), c .before .before .before .before .before .before .before .before .before .before .before .before .pre .1 .0, c .before .before .before .before .loop .inv .tops-size)
+slice-read-apex c =
+    let at-loop-test = c .before .before .before in
+    let at-loop = at-loop-test .before in
+    let start = at-loop .before .before .before .before .before .before .before .before in
+    omega (arith, c .before .low .ensures, diagonal-at (start .args .n) (start .args .keys .now) (start .pre .0) (at-loop .loop .j) (at-loop-test .loop-test .taken), start .pre .1 .0, at-loop .loop .inv .tops-size)
 
 mul-apex-2 : tie.Need-mul-apex-2 Inv-loop μ-loop
 mul-apex-2 c = omega arith
@@ -57,7 +64,12 @@ mul-top : tie.Need-mul-top Inv-loop μ-loop
 mul-top c = omega (arith, c .before .before .before .low .ensures, c .before .before .before .before .shared-slice-known2 .given (c .before .before .before .before .before .before .loop .j))
 
 slice-write-top : tie.Need-slice-write-top Inv-loop μ-loop
-slice-write-top c = omega (arith, c .before .before .before .low .ensures, diagonal-at (c .before .before .before .before .before .before .before .before .before .before .before .before .before .before .args .n) (c .before .before .before .before .before .before .before .before .before .before .before .before .before .before .args .keys .now) (c .before .before .before .before .before .before .before .before .before .before .before .before .before .before .pre .0) (c .before .before .before .before .before .before .loop .j) (c .before .before .before .before .before .loop-test .taken), c .before .before .before .before .before .before .before .before .before .before .before .before .before .before .pre .1 .0, c .before .before .before .before .before .before .loop .inv .tops-size)
+slice-write-top c =
+    let at-low = c .before .before .before in
+    let at-loop-test = at-low .before .before in
+    let at-loop = at-loop-test .before in
+    let start = at-loop .before .before .before .before .before .before .before .before in
+    omega (arith, at-low .low .ensures, diagonal-at (start .args .n) (start .args .keys .now) (start .pre .0) (at-loop .loop .j) (at-loop-test .loop-test .taken), start .pre .1 .0, at-loop .loop .inv .tops-size)
 
 add-j : tie.Need-add-j Inv-loop μ-loop
 add-j c = omega arith
@@ -66,7 +78,12 @@ loop-less : tie.Need-loop-less Inv-loop μ-loop
 loop-less c = omega arith
 
 loop-again : tie.Need-loop-again Inv-loop μ-loop
-loop-again c = rw (c .before .before .before .low .ensures, c .high .ensures .0) (scanned-next (c .before .before .before .before .before .before .before .before .before .before .before .before .before .before .args .n) (c .before .before .before .before .before .before .before .before .before .before .before .before .before .before .args .keys .now) (c .before .before .before .before .before .before .before .before .before .before .before .before .before .before .pre .0) (c .before .before .before .before .before .before .loop .j) (c .before .before .before .before .before .loop-test .taken) (length (c .before .before .before .before .before .before .before .before .before .before .before .before .before .before .args .apex .now)) (c .before .before .before .before .before .before .loop .top) (c .before .before .before .before .before .before .loop .apex) (c .before .before .before .before .before .before .loop .inv) (c .before .before .before .before .before .before .before .before .before .before .before .before .before .before .pre .1 .0) (c .before .before .before .before .before .before .before .before .before .before .before .before .before .before .pre .1 .2))
+loop-again c =
+    let at-low = c .before .before .before in
+    let at-loop-test = at-low .before .before in
+    let at-loop = at-loop-test .before in
+    let start = at-loop .before .before .before .before .before .before .before .before in
+    rw (at-low .low .ensures, c .high .ensures .0) (scanned-next (start .args .n) (start .args .keys .now) (start .pre .0) (at-loop .loop .j) (at-loop-test .loop-test .taken) (length (start .args .apex .now)) (at-loop .loop .top) (at-loop .loop .apex) (at-loop .loop .inv) (start .pre .1 .0) (start .pre .1 .2))
 
 same-length : tie.Need-same-length Inv-loop μ-loop
 same-length c = c .before .loop .inv .tops-size ∙ sym (c .before .before .before .before .before .before .before .before .before .pre .1 .1)

@@ -25,10 +25,16 @@ slice-aggregate-reaches-2 : tie.Need-slice-aggregate-reaches-2
 slice-aggregate-reaches-2 c = search needs
 
 reaches-requires : tie.Need-reaches-requires
-reaches-requires c κs = (λ j h. omega (arith, apex-below (c .before .before .before .before .before .before .before .before .args .n) (c .before .before .before .before .before .before .before .before .args .keys .now) (c .before .before .before .before .before .before .before .before .pre .0) (c .before .before .before .before .apexes .last .1 .1 .0) (c .before .before .before .before .apexes .last .1 .1 .1 .0) (c .before .before .before .before .apexes .ensures .0) (c .before .before .before .before .apexes .ensures .1) j h, c .before .before .before .before .apexes .kept .1 .1 .0), omega (arith, c .before .before .before .before .apexes .kept .1 .1 .1 .0))
+reaches-requires c κs =
+    let at-apexes = c .before .before .before .before in
+    let start = at-apexes .before .before .before .before in
+    (λ j h. omega (arith, apex-below (start .args .n) (start .args .keys .now) (start .pre .0) (at-apexes .apexes .last .1 .1 .0) (at-apexes .apexes .last .1 .1 .1 .0) (at-apexes .apexes .ensures .0) (at-apexes .apexes .ensures .1) j h, at-apexes .apexes .kept .1 .1 .0), omega (arith, at-apexes .apexes .kept .1 .1 .1 .0))
 
 returns : tie.Need-returns
-returns c = (λ h. reaches-free (c .before .before .before .before .before .before .before .before .before .args .n) (c .before .before .before .before .before .before .before .before .before .args .keys .now) (c .before .before .before .before .before .before .before .before .before .pre .0) (c .before .before .before .before .before .apexes .last .1 .1 .0) (c .before .before .before .before .before .apexes .last .1 .1 .1 .0) (c .before .before .before .before .before .apexes .ensures .0) (c .before .before .before .before .before .apexes .ensures .1) (c .reaches .ensures .0 (not-false _ h)), λ h. fails-cross (c .before .before .before .before .before .before .before .before .before .args .n) (c .before .before .before .before .before .before .before .before .before .args .keys .now) (c .before .before .before .before .before .before .before .before .before .pre .0) (c .before .before .before .before .before .apexes .last .1 .1 .0) (c .before .before .before .before .before .apexes .last .1 .1 .1 .0) (c .before .before .before .before .before .apexes .ensures .0) (c .before .before .before .before .before .apexes .ensures .1) (c .before .before .before .before .before .before .before .before .before .pre .1 .1) (c .reaches .ensures .1 (not-true _ h)))
+returns c =
+    let at-apexes = c .before .before .before .before .before in
+    let start = at-apexes .before .before .before .before in
+    (λ h. reaches-free (start .args .n) (start .args .keys .now) (start .pre .0) (at-apexes .apexes .last .1 .1 .0) (at-apexes .apexes .last .1 .1 .1 .0) (at-apexes .apexes .ensures .0) (at-apexes .apexes .ensures .1) (c .reaches .ensures .0 (not-false _ h)), λ h. fails-cross (start .args .n) (start .args .keys .now) (start .pre .0) (at-apexes .apexes .last .1 .1 .0) (at-apexes .apexes .last .1 .1 .1 .0) (at-apexes .apexes .ensures .0) (at-apexes .apexes .ensures .1) (start .pre .1 .1) (c .reaches .ensures .1 (not-true _ h)))
 
 pub crosses-spec : {M : Type 1} → statement M
 crosses-spec = tie.close (tie.spec slice-aggregate-apexes slice-aggregate-apexes-2 apexes-requires slice-aggregate-reaches slice-aggregate-reaches-2 reaches-requires returns)

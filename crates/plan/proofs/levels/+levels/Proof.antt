@@ -61,10 +61,17 @@ levels-levels-requires : (t : ℕ) → levels-lts.Need-levels-requires (levels-C
 levels-levels-requires t c κs = let d = (parts t ((c .before .before .before .before .before .before .before))) in (omega (arith, d, c .before .before .before .before .before .before .before .before .pre .0), (record { tree = d .l; shows = d .shows-l }, omega (arith, d, c .before .before .before .before .before .before .before .before .pre .1 .1)))
 
 levels-levels-requires-2 : (t : ℕ) → levels-lts.Need-levels-requires-2 (levels-Cs t) (levels-at t) levels.Post
-levels-levels-requires-2 t c κs = let d = (parts t ((c .before .before .before .before .before .before .before .before .before .before .before .before))) in (omega (arith, d, c .before .before .before .before .before .before .before .before .before .before .before .before .before .pre .0), (record { tree = d .r; shows = d .shows-r }, omega (arith, d, c .before .before .before .before .before .before .before .before .before .before .before .before .before .pre .1 .1)))
+levels-levels-requires-2 t c κs =
+    let start = c .before .before .before .before .before .before .before .before .before .before .before .before .before in
+    let d = (parts t ((c .before .before .before .before .before .before .before .before .before .before .before .before))) in
+    (omega (arith, d, start .pre .0), (record { tree = d .r; shows = d .shows-r }, omega (arith, d, start .pre .1 .1)))
 
 levels-join-requires : (t : ℕ) → levels-lts.Need-join-requires (levels-Cs t) (levels-at t) levels.Post
-levels-join-requires t c κs = let d = (parts t ((c .before .before .before .before .before .before .before .before .before .before .before .before .before))) in join-fits (d .l) (d .r) (c .before .before .before .before .before .levels .ensures (d .l) (d .shows-l) .numbers) (c .levels2 .ensures (d .r) (d .shows-r) .numbers) (omega (arith, d, c .before .before .before .before .before .before .before .before .before .before .before .before .before .before .pre .1 .1))
+levels-join-requires t c κs =
+    let at-levels = c .before .before .before .before .before in
+    let start = at-levels .before .before .before .before .before .before .before .before .before in
+    let d = (parts t ((c .before .before .before .before .before .before .before .before .before .before .before .before .before))) in
+    join-fits (d .l) (d .r) (at-levels .levels .ensures (d .l) (d .shows-l) .numbers) (c .levels2 .ensures (d .r) (d .shows-r) .numbers) (omega (arith, d, start .pre .1 .1))
 
 levels-mul-ud : (t : ℕ) → levels-lts.Need-mul-ud (levels-Cs t) (levels-at t) levels.Post
 levels-mul-ud t c = omega (arith, (parts t ((c .before .before .before .before .before .before .before .before .before .before .before .before .before .before))) .inside)
@@ -91,7 +98,11 @@ levels-element-write-fan-b : (t : ℕ) → levels-lts.Need-element-write-fan-b (
 levels-element-write-fan-b t c = omega (arith, (parts t ((c .before .before .before .before .before .before .before .before .before .before .before .before .before .before))) .inside)
 
 levels-returns-2 : (t : ℕ) → levels-lts.Need-returns-2 (levels-Cs t) (levels-at t) levels.Post
-levels-returns-2 t c = λ x s. let d = opened s (c .before .before .before .before .before .before .before .before .before .before .before .before .before .before .if1 .left) in stored-triangle (c .before .before .before .before .before .before .before .before .before .before .before .before .before .before .before .args .left .now) (c .before .before .before .before .before .before .before .before .before .before .before .before .before .before .before .args .right .now) (c .before .before .before .before .before .before .before .before .before .before .before .before .before .before .before .args .e) (d .is) (c .before .before .before .before .before .before .levels .ensures (d .l) (d .shows-l)) (c .before .levels2 .ensures (d .r) (d .shows-r)) (c .join .ensures)
+levels-returns-2 t c =
+    let at-levels = c .before .before .before .before .before .before in
+    let at-if1 = at-levels .before .before .before .before .before .before .before .before in
+    let start = at-if1 .before in
+    λ x s. let d = opened s (at-if1 .if1 .left) in stored-triangle (start .args .left .now) (start .args .right .now) (start .args .e) (d .is) (at-levels .levels .ensures (d .l) (d .shows-l)) (c .before .levels2 .ensures (d .r) (d .shows-r)) (c .join .ensures)
 
 pub +levels-spec : {M : Type 1} → statement M
 +levels-spec = close μ-levels λ t. levels-lts.spec (levels-Cs t) (levels-at t) levels.Post (levels-returns t) (levels-mul-c t) (levels-element-copy-out-c t) (levels-cast-c t) (levels-mul-i t) (levels-element-copy-out-i t) (levels-cast-i t) (levels-mul-j t) (levels-element-copy-out-j t) (levels-cast-j t) (levels-levels-requires t) (levels-levels-requires-2 t) (levels-join-requires t) (levels-mul-ud t) (levels-element-write-ud t) (levels-mul-handle t) (levels-element-write-handle t) (levels-mul-fan-a t) (levels-element-write-fan-a t) (levels-mul-fan-b t) (levels-element-write-fan-b t) (levels-returns-2 t)

@@ -27,10 +27,16 @@ low-requires : tie.Need-low-requires Inv-loop μ-loop
 low-requires c κs = omega arith
 
 mul-left : tie.Need-mul-left Inv-loop μ-loop
-mul-left c = omega (arith, (c .low .ensures ∙ low-at (c .before .before .before .before .before .before .before .args .keys .now) (c .before .before .before .loop .j)), diagonal-at (c .before .before .before .before .before .before .before .args .n) (edgesOf (c .before .before .before .before .before .before .before .args .keys .now)) (c .before .before .before .before .before .before .before .pre .0) (c .before .before .before .loop .j) (omega (arith, length-map (c .before .before .before .before .before .before .before .args .keys .now) edgeOf)), c .before .before .before .before .before .before .before .pre .1 .0)
+mul-left c =
+    let at-loop = c .before .before .before in
+    let start = at-loop .before .before .before .before in
+    omega (arith, (c .low .ensures ∙ low-at (start .args .keys .now) (at-loop .loop .j)), diagonal-at (start .args .n) (edgesOf (start .args .keys .now)) (start .pre .0) (at-loop .loop .j) (omega (arith, length-map (start .args .keys .now) edgeOf)), start .pre .1 .0)
 
 slice-read-left : tie.Need-slice-read-left Inv-loop μ-loop
-slice-read-left c = omega (arith, (c .before .low .ensures ∙ low-at (c .before .before .before .before .before .before .before .before .args .keys .now) (c .before .before .before .before .loop .j)), diagonal-at (c .before .before .before .before .before .before .before .before .args .n) (edgesOf (c .before .before .before .before .before .before .before .before .args .keys .now)) (c .before .before .before .before .before .before .before .before .pre .0) (c .before .before .before .before .loop .j) (omega (arith, length-map (c .before .before .before .before .before .before .before .before .args .keys .now) edgeOf)), c .before .before .before .before .before .before .before .before .pre .1 .0, c .before .before .before .before .loop .inv .lasts-size)
+slice-read-left c =
+    let at-loop = c .before .before .before .before in
+    let start = at-loop .before .before .before .before in
+    omega (arith, (c .before .low .ensures ∙ low-at (start .args .keys .now) (at-loop .loop .j)), diagonal-at (start .args .n) (edgesOf (start .args .keys .now)) (start .pre .0) (at-loop .loop .j) (omega (arith, length-map (start .args .keys .now) edgeOf)), start .pre .1 .0, at-loop .loop .inv .lasts-size)
 
 mul-left-2 : tie.Need-mul-left-2 Inv-loop μ-loop
 mul-left-2 c = omega arith
@@ -42,10 +48,16 @@ cast-last : tie.Need-cast-last Inv-loop μ-loop
 cast-last c = omega arith
 
 mul-last : tie.Need-mul-last Inv-loop μ-loop
-mul-last c = omega (arith, (c .before .low .ensures ∙ low-at (c .before .before .before .before .before .before .before .before .args .keys .now) (c .before .before .before .before .loop .j)), diagonal-at (c .before .before .before .before .before .before .before .before .args .n) (edgesOf (c .before .before .before .before .before .before .before .before .args .keys .now)) (c .before .before .before .before .before .before .before .before .pre .0) (c .before .before .before .before .loop .j) (omega (arith, length-map (c .before .before .before .before .before .before .before .before .args .keys .now) edgeOf)), c .before .before .before .before .before .before .before .before .pre .1 .0)
+mul-last c =
+    let at-loop = c .before .before .before .before in
+    let start = at-loop .before .before .before .before in
+    omega (arith, (c .before .low .ensures ∙ low-at (start .args .keys .now) (at-loop .loop .j)), diagonal-at (start .args .n) (edgesOf (start .args .keys .now)) (start .pre .0) (at-loop .loop .j) (omega (arith, length-map (start .args .keys .now) edgeOf)), start .pre .1 .0)
 
 slice-write-last : tie.Need-slice-write-last Inv-loop μ-loop
-slice-write-last c = omega (arith, (c .before .low .ensures ∙ low-at (c .before .before .before .before .before .before .before .before .args .keys .now) (c .before .before .before .before .loop .j)), diagonal-at (c .before .before .before .before .before .before .before .before .args .n) (edgesOf (c .before .before .before .before .before .before .before .before .args .keys .now)) (c .before .before .before .before .before .before .before .before .pre .0) (c .before .before .before .before .loop .j) (omega (arith, length-map (c .before .before .before .before .before .before .before .before .args .keys .now) edgeOf)), c .before .before .before .before .before .before .before .before .pre .1 .0, c .before .before .before .before .loop .inv .lasts-size)
+slice-write-last c =
+    let at-loop = c .before .before .before .before in
+    let start = at-loop .before .before .before .before in
+    omega (arith, (c .before .low .ensures ∙ low-at (start .args .keys .now) (at-loop .loop .j)), diagonal-at (start .args .n) (edgesOf (start .args .keys .now)) (start .pre .0) (at-loop .loop .j) (omega (arith, length-map (start .args .keys .now) edgeOf)), start .pre .1 .0, at-loop .loop .inv .lasts-size)
 
 add-j : tie.Need-add-j Inv-loop μ-loop
 add-j c = omega arith
@@ -54,7 +66,10 @@ loop-less : tie.Need-loop-less Inv-loop μ-loop
 loop-less c = omega arith
 
 loop-again : tie.Need-loop-again Inv-loop μ-loop
-loop-again c = filled-next (c .before .before .before .before .before .before .before .before .args .n) (edgesOf (c .before .before .before .before .before .before .before .before .args .keys .now)) (c .before .before .before .before .before .before .before .before .pre .0) (c .before .before .before .before .loop .j) (omega (arith, length-map (c .before .before .before .before .before .before .before .before .args .keys .now) edgeOf)) (length (c .before .before .before .before .before .before .before .before .args .left .now)) (c .before .before .before .before .loop .last) (c .before .before .before .before .loop .left) (c .before .before .before .before .loop .inv) (c .before .before .before .before .before .before .before .before .pre .1 .0 .0) (omega (arith, c .before .before .before .before .before .before .before .before .pre .1 .0, length-map (c .before .before .before .before .before .before .before .before .args .keys .now) edgeOf)) _ (c .before .low .ensures ∙ low-at (c .before .before .before .before .before .before .before .before .args .keys .now) (c .before .before .before .before .loop .j))
+loop-again c =
+    let at-loop = c .before .before .before .before in
+    let start = at-loop .before .before .before .before in
+    filled-next (start .args .n) (edgesOf (start .args .keys .now)) (start .pre .0) (at-loop .loop .j) (omega (arith, length-map (start .args .keys .now) edgeOf)) (length (start .args .left .now)) (at-loop .loop .last) (at-loop .loop .left) (at-loop .loop .inv) (start .pre .1 .0 .0) (omega (arith, start .pre .1 .0, length-map (start .args .keys .now) edgeOf)) _ (c .before .low .ensures ∙ low-at (start .args .keys .now) (at-loop .loop .j))
 
 same-length : tie.Need-same-length Inv-loop μ-loop
 same-length c = c .before .loop .inv .lasts-size ∙ sym (c .before .before .before .before .before .pre .1 .0 .3)

@@ -50,7 +50,11 @@ loop-less : tie.Need-loop-less Inv-loop μ-loop
 loop-less c = omega arith
 
 loop-again : tie.Need-loop-again Inv-loop μ-loop
-loop-again c = let d = c .before .pair-key .ensures .some (c .if1 .left) in (omega arith, listed-next (c .before .before .before .before .before .before .args .sheet .now) (c .before .before .before .before .before .before .args .n) (length (c .before .before .before .before .before .before .args .keys .now)) (c .before .before .before .loop .keys) (c .before .before .before .loop .i) _ (omega arith) (omega arith) (omega arith) (c .before .before .before .loop .inv .1) (d .0) (d .1))
+loop-again c =
+    let at-loop = c .before .before .before in
+    let start = at-loop .before .before .before in
+    let d = c .before .pair-key .ensures .some (c .if1 .left) in
+    (omega arith, listed-next (start .args .sheet .now) (start .args .n) (length (start .args .keys .now)) (at-loop .loop .keys) (at-loop .loop .i) _ (omega arith) (omega arith) (omega arith) (at-loop .loop .inv .1) (d .0) (d .1))
 
 same-length-2 : tie.Need-same-length-2 Inv-loop μ-loop
 same-length-2 c = c .before .loop .inv .1 .size

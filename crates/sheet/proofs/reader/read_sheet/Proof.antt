@@ -29,37 +29,97 @@ same-length : tie.Need-same-length
 same-length c = search needs
 
 returns : tie.Need-returns
-returns c = (no-diagonals (c .before .before .before .before .before .before .before .before .before .before .before .args .sheet .now) (c .before .before .before .before .before .before .h .given .0 .0) (says-held (c .before .before .before .before .before .before .before .before .before .before .before .args .sheet .now) _ _ (c .before .before .before .before .before .before .before .before .read-head .ensures) (c .before .before .before .before .before .before .h .given .1)) (c .before .before .before .read-pairs .ensures .1 (not-true _ (c .if1 .taken))), tt)
+returns c =
+    let at-read-pairs = c .before .before .before in
+    let at-h = at-read-pairs .before .before .before in
+    let at-read-head = at-h .before .before in
+    let start = at-read-head .before .before .before in
+    (no-diagonals (start .args .sheet .now) (at-h .h .given .0 .0) (says-held (start .args .sheet .now) _ _ (at-read-head .read-head .ensures) (at-h .h .given .1)) (at-read-pairs .read-pairs .ensures .1 (not-true _ (c .if1 .taken))), tt)
 
 slice-relend-prefix-order : tie.Need-slice-relend-prefix-order
-slice-relend-prefix-order c = let R = room (c .before .before .before .before .before .before .before .before .before .before .before .args .sheet .now) (c .before .before .before .before .before .before .h .given .0 .0) (says-held (c .before .before .before .before .before .before .before .before .before .before .before .args .sheet .now) _ _ (c .before .before .before .before .before .before .before .before .read-head .ensures) (c .before .before .before .before .before .before .h .given .1)) in omega (arith, c .before .before .before .read-pairs .kept .1 .1 .0)
+slice-relend-prefix-order c =
+    let at-read-pairs = c .before .before .before in
+    let at-h = at-read-pairs .before .before .before in
+    let at-read-head = at-h .before .before in
+    let start = at-read-head .before .before .before in
+    let R = room (start .args .sheet .now) (at-h .h .given .0 .0) (says-held (start .args .sheet .now) _ _ (at-read-head .read-head .ensures) (at-h .h .given .1)) in
+    omega (arith, at-read-pairs .read-pairs .kept .1 .1 .0)
 
 slice-aggregate-order : tie.Need-slice-aggregate-order
-slice-aggregate-order c = let R = room (c .before .before .before .before .before .before .before .before .before .before .before .before .args .sheet .now) (c .before .before .before .before .before .before .before .h .given .0 .0) (says-held (c .before .before .before .before .before .before .before .before .before .before .before .before .args .sheet .now) _ _ (c .before .before .before .before .before .before .before .before .before .read-head .ensures) (c .before .before .before .before .before .before .before .h .given .1)) in sym (length-take-le _ (c .before .before .before .before .read-pairs .last .1 .1 .0) (omega (arith, c .before .before .before .before .read-pairs .kept .1 .1 .0)))
+slice-aggregate-order c =
+    let at-read-pairs = c .before .before .before .before in
+    let at-h = at-read-pairs .before .before .before in
+    let at-read-head = at-h .before .before in
+    let start = at-read-head .before .before .before in
+    let R = room (start .args .sheet .now) (at-h .h .given .0 .0) (says-held (start .args .sheet .now) _ _ (at-read-head .read-head .ensures) (at-h .h .given .1)) in
+    sym (length-take-le _ (at-read-pairs .read-pairs .last .1 .1 .0) (omega (arith, at-read-pairs .read-pairs .kept .1 .1 .0)))
 
 order-requires : tie.Need-order-requires
-order-requires c κs = let R = room (c .before .before .before .before .before .before .before .before .before .before .before .before .args .sheet .now) (c .before .before .before .before .before .before .before .h .given .0 .0) (says-held (c .before .before .before .before .before .before .before .before .before .before .before .before .args .sheet .now) _ _ (c .before .before .before .before .before .before .before .before .before .read-head .ensures) (c .before .before .before .before .before .before .before .h .given .1)) in let e = length-take-le (c .before .before .before .before .before .before .before .h .given .0 .0 .n - 3) (c .before .before .before .before .read-pairs .last .1 .1 .0) (omega (arith, c .before .before .before .before .read-pairs .kept .1 .1 .0)) in omega (arith, e)
+order-requires c κs =
+    let at-read-pairs = c .before .before .before .before in
+    let at-h = at-read-pairs .before .before .before in
+    let at-read-head = at-h .before .before in
+    let start = at-read-head .before .before .before in
+    let R = room (start .args .sheet .now) (at-h .h .given .0 .0) (says-held (start .args .sheet .now) _ _ (at-read-head .read-head .ensures) (at-h .h .given .1)) in
+    let e = length-take-le (at-h .h .given .0 .0 .n - 3) (at-read-pairs .read-pairs .last .1 .1 .0) (omega (arith, at-read-pairs .read-pairs .kept .1 .1 .0)) in
+    omega (arith, e)
 
 same-length-2 : tie.Need-same-length-2
 same-length-2 c = search needs
 
 returns-2 : tie.Need-returns-2
-returns-2 c = (repeated (c .before .before .before .before .before .before .before .before .before .before .before .before .before .before .before .before .args .sheet .now) (c .before .before .before .before .before .before .before .before .before .before .before .h .given .0 .0) (says-held (c .before .before .before .before .before .before .before .before .before .before .before .before .before .before .before .before .args .sheet .now) _ _ (c .before .before .before .before .before .before .before .before .before .before .before .before .before .read-head .ensures) (c .before .before .before .before .before .before .before .before .before .before .before .h .given .1)) (c .before .before .before .before .before .before .before .before .read-pairs .last .1 .1 .0) (c .before .before .before .order .last .0) ((c .before .before .before .before .before .before .before .before .read-pairs .ensures .0 (not-false _ (c .before .before .before .before .before .if1 .left))) .0) ((c .before .before .before .before .before .before .before .before .read-pairs .ensures .0 (not-false _ (c .before .before .before .before .before .if1 .left))) .1) (omega (arith, c .before .before .before .before .before .before .before .before .read-pairs .kept .1 .1 .0)) (c .before .before .before .order .ensures .0) (sym (not-true _ (c .if2 .taken)) ∙ c .before .before .before .order .ensures .1), tt)
+returns-2 c =
+    let at-order = c .before .before .before in
+    let at-if1 = at-order .before .before in
+    let at-read-pairs = at-if1 .before .before .before in
+    let at-h = at-read-pairs .before .before .before in
+    let at-read-head = at-h .before .before in
+    let start = at-read-head .before .before .before in
+    (repeated (start .args .sheet .now) (at-h .h .given .0 .0) (says-held (start .args .sheet .now) _ _ (at-read-head .read-head .ensures) (at-h .h .given .1)) (at-read-pairs .read-pairs .last .1 .1 .0) (at-order .order .last .0) ((at-read-pairs .read-pairs .ensures .0 (not-false _ (at-if1 .if1 .left))) .0) ((at-read-pairs .read-pairs .ensures .0 (not-false _ (at-if1 .if1 .left))) .1) (omega (arith, at-read-pairs .read-pairs .kept .1 .1 .0)) (at-order .order .ensures .0) (sym (not-true _ (c .if2 .taken)) ∙ at-order .order .ensures .1), tt)
 
 slice-reshare-prefix-crosses : tie.Need-slice-reshare-prefix-crosses
-slice-reshare-prefix-crosses c = let R = room (c .before .before .before .before .before .before .before .before .before .before .before .before .before .before .before .before .args .sheet .now) (c .before .before .before .before .before .before .before .before .before .before .before .h .given .0 .0) (says-held (c .before .before .before .before .before .before .before .before .before .before .before .before .before .before .before .before .args .sheet .now) _ _ (c .before .before .before .before .before .before .before .before .before .before .before .before .before .read-head .ensures) (c .before .before .before .before .before .before .before .before .before .before .before .h .given .1)) in simp (length-append, length-drop) (omega (arith, c .before .before .before .before .before .before .before .before .read-pairs .kept .1 .1 .0, c .before .before .before .order .kept .0, length-take-le (c .before .before .before .before .before .before .before .before .before .before .before .h .given .0 .0 .n - 3) (c .before .before .before .before .before .before .before .before .read-pairs .last .1 .1 .0) (omega (arith, c .before .before .before .before .before .before .before .before .read-pairs .kept .1 .1 .0))))
+slice-reshare-prefix-crosses c =
+    let at-order = c .before .before .before in
+    let at-read-pairs = at-order .before .before .before .before .before in
+    let at-h = at-read-pairs .before .before .before in
+    let at-read-head = at-h .before .before in
+    let start = at-read-head .before .before .before in
+    let R = room (start .args .sheet .now) (at-h .h .given .0 .0) (says-held (start .args .sheet .now) _ _ (at-read-head .read-head .ensures) (at-h .h .given .1)) in
+    simp (length-append, length-drop) (omega (arith, at-read-pairs .read-pairs .kept .1 .1 .0, at-order .order .kept .0, length-take-le (at-h .h .given .0 .0 .n - 3) (at-read-pairs .read-pairs .last .1 .1 .0) (omega (arith, at-read-pairs .read-pairs .kept .1 .1 .0))))
 
 slice-aggregate-crosses : tie.Need-slice-aggregate-crosses
-slice-aggregate-crosses c = sym (first-count (c .before .before .before .before .before .before .before .before .before .before .before .before .before .before .before .before .before .args .sheet .now) (c .before .before .before .before .before .before .before .before .before .before .before .before .h .given .0 .0) (says-held (c .before .before .before .before .before .before .before .before .before .before .before .before .before .before .before .before .before .args .sheet .now) _ _ (c .before .before .before .before .before .before .before .before .before .before .before .before .before .before .read-head .ensures) (c .before .before .before .before .before .before .before .before .before .before .before .before .h .given .1)) (c .before .before .before .before .before .before .before .before .before .read-pairs .last .1 .1 .0) (c .before .before .before .before .order .last .0) ((c .before .before .before .before .before .before .before .before .before .read-pairs .ensures .0 (not-false _ (c .before .before .before .before .before .before .if1 .left))) .0) ((c .before .before .before .before .before .before .before .before .before .read-pairs .ensures .0 (not-false _ (c .before .before .before .before .before .before .if1 .left))) .1) (omega (arith, c .before .before .before .before .before .before .before .before .before .read-pairs .kept .1 .1 .0)) (c .before .before .before .before .order .ensures .0))
+slice-aggregate-crosses c =
+    let at-order = c .before .before .before .before in
+    let at-if1 = at-order .before .before in
+    let at-read-pairs = at-if1 .before .before .before in
+    let at-h = at-read-pairs .before .before .before in
+    let at-read-head = at-h .before .before in
+    let start = at-read-head .before .before .before in
+    sym (first-count (start .args .sheet .now) (at-h .h .given .0 .0) (says-held (start .args .sheet .now) _ _ (at-read-head .read-head .ensures) (at-h .h .given .1)) (at-read-pairs .read-pairs .last .1 .1 .0) (at-order .order .last .0) ((at-read-pairs .read-pairs .ensures .0 (not-false _ (at-if1 .if1 .left))) .0) ((at-read-pairs .read-pairs .ensures .0 (not-false _ (at-if1 .if1 .left))) .1) (omega (arith, at-read-pairs .read-pairs .kept .1 .1 .0)) (at-order .order .ensures .0))
 
 crosses-requires : tie.Need-crosses-requires
-crosses-requires c κs = (in-order (c .before .before .before .before .before .before .before .before .before .before .before .before .before .before .before .before .before .args .sheet .now) (c .before .before .before .before .before .before .before .before .before .before .before .before .h .given .0 .0) (says-held (c .before .before .before .before .before .before .before .before .before .before .before .before .before .before .before .before .before .args .sheet .now) _ _ (c .before .before .before .before .before .before .before .before .before .before .before .before .before .before .read-head .ensures) (c .before .before .before .before .before .before .before .before .before .before .before .before .h .given .1)) (c .before .before .before .before .before .before .before .before .before .read-pairs .last .1 .1 .0) (c .before .before .before .before .order .last .0) ((c .before .before .before .before .before .before .before .before .before .read-pairs .ensures .0 (not-false _ (c .before .before .before .before .before .before .if1 .left))) .0) ((c .before .before .before .before .before .before .before .before .before .read-pairs .ensures .0 (not-false _ (c .before .before .before .before .before .before .if1 .left))) .1) (omega (arith, c .before .before .before .before .before .before .before .before .before .read-pairs .kept .1 .1 .0)) (c .before .before .before .before .order .ensures .0) (sym (not-false _ (c .before .if2 .left)) ∙ c .before .before .before .before .order .ensures .1), omega (arith, room (c .before .before .before .before .before .before .before .before .before .before .before .before .before .before .before .before .before .args .sheet .now) (c .before .before .before .before .before .before .before .before .before .before .before .before .h .given .0 .0) (says-held (c .before .before .before .before .before .before .before .before .before .before .before .before .before .before .before .before .before .args .sheet .now) _ _ (c .before .before .before .before .before .before .before .before .before .before .before .before .before .before .read-head .ensures) (c .before .before .before .before .before .before .before .before .before .before .before .before .h .given .1)), first-count (c .before .before .before .before .before .before .before .before .before .before .before .before .before .before .before .before .before .args .sheet .now) (c .before .before .before .before .before .before .before .before .before .before .before .before .h .given .0 .0) (says-held (c .before .before .before .before .before .before .before .before .before .before .before .before .before .before .before .before .before .args .sheet .now) _ _ (c .before .before .before .before .before .before .before .before .before .before .before .before .before .before .read-head .ensures) (c .before .before .before .before .before .before .before .before .before .before .before .before .h .given .1)) (c .before .before .before .before .before .before .before .before .before .read-pairs .last .1 .1 .0) (c .before .before .before .before .order .last .0) ((c .before .before .before .before .before .before .before .before .before .read-pairs .ensures .0 (not-false _ (c .before .before .before .before .before .before .if1 .left))) .0) ((c .before .before .before .before .before .before .before .before .before .read-pairs .ensures .0 (not-false _ (c .before .before .before .before .before .before .if1 .left))) .1) (omega (arith, c .before .before .before .before .before .before .before .before .before .read-pairs .kept .1 .1 .0)) (c .before .before .before .before .order .ensures .0)))
+crosses-requires c κs =
+    let at-order = c .before .before .before .before in
+    let at-if1 = at-order .before .before in
+    let at-read-pairs = at-if1 .before .before .before in
+    let at-h = at-read-pairs .before .before .before in
+    let at-read-head = at-h .before .before in
+    let start = at-read-head .before .before .before in
+    (in-order (start .args .sheet .now) (at-h .h .given .0 .0) (says-held (start .args .sheet .now) _ _ (at-read-head .read-head .ensures) (at-h .h .given .1)) (at-read-pairs .read-pairs .last .1 .1 .0) (at-order .order .last .0) ((at-read-pairs .read-pairs .ensures .0 (not-false _ (at-if1 .if1 .left))) .0) ((at-read-pairs .read-pairs .ensures .0 (not-false _ (at-if1 .if1 .left))) .1) (omega (arith, at-read-pairs .read-pairs .kept .1 .1 .0)) (at-order .order .ensures .0) (sym (not-false _ (c .before .if2 .left)) ∙ at-order .order .ensures .1), omega (arith, room (start .args .sheet .now) (at-h .h .given .0 .0) (says-held (start .args .sheet .now) _ _ (at-read-head .read-head .ensures) (at-h .h .given .1)), first-count (start .args .sheet .now) (at-h .h .given .0 .0) (says-held (start .args .sheet .now) _ _ (at-read-head .read-head .ensures) (at-h .h .given .1)) (at-read-pairs .read-pairs .last .1 .1 .0) (at-order .order .last .0) ((at-read-pairs .read-pairs .ensures .0 (not-false _ (at-if1 .if1 .left))) .0) ((at-read-pairs .read-pairs .ensures .0 (not-false _ (at-if1 .if1 .left))) .1) (omega (arith, at-read-pairs .read-pairs .kept .1 .1 .0)) (at-order .order .ensures .0)))
 
 same-length-3 : tie.Need-same-length-3
 same-length-3 c = search needs
 
 returns-3 : tie.Need-returns-3
-returns-3 c = (crossing (c .before .before .before .before .before .before .before .before .before .before .before .before .before .before .before .before .before .before .before .args .sheet .now) (c .before .before .before .before .before .before .before .before .before .before .before .before .before .before .h .given .0 .0) (says-held (c .before .before .before .before .before .before .before .before .before .before .before .before .before .before .before .before .before .before .before .args .sheet .now) _ _ (c .before .before .before .before .before .before .before .before .before .before .before .before .before .before .before .before .read-head .ensures) (c .before .before .before .before .before .before .before .before .before .before .before .before .before .before .h .given .1)) (c .before .before .before .before .before .before .before .before .before .before .before .read-pairs .last .1 .1 .0) (c .before .before .before .before .before .before .order .last .0) ((c .before .before .before .before .before .before .before .before .before .before .before .read-pairs .ensures .0 (not-false _ (c .before .before .before .before .before .before .before .before .if1 .left))) .0) ((c .before .before .before .before .before .before .before .before .before .before .before .read-pairs .ensures .0 (not-false _ (c .before .before .before .before .before .before .before .before .if1 .left))) .1) (omega (arith, c .before .before .before .before .before .before .before .before .before .before .before .read-pairs .kept .1 .1 .0)) (c .before .before .before .before .before .before .order .ensures .0) (sym (not-false _ (c .before .before .before .if2 .left)) ∙ c .before .before .before .before .before .before .order .ensures .1) (c .before .crosses .ensures .1 (c .if3 .taken)), tt)
+returns-3 c =
+    let at-if2 = c .before .before .before in
+    let at-order = at-if2 .before .before .before in
+    let at-if1 = at-order .before .before in
+    let at-read-pairs = at-if1 .before .before .before in
+    let at-h = at-read-pairs .before .before .before in
+    let at-read-head = at-h .before .before in
+    let start = at-read-head .before .before .before in
+    (crossing (start .args .sheet .now) (at-h .h .given .0 .0) (says-held (start .args .sheet .now) _ _ (at-read-head .read-head .ensures) (at-h .h .given .1)) (at-read-pairs .read-pairs .last .1 .1 .0) (at-order .order .last .0) ((at-read-pairs .read-pairs .ensures .0 (not-false _ (at-if1 .if1 .left))) .0) ((at-read-pairs .read-pairs .ensures .0 (not-false _ (at-if1 .if1 .left))) .1) (omega (arith, at-read-pairs .read-pairs .kept .1 .1 .0)) (at-order .order .ensures .0) (sym (not-false _ (at-if2 .if2 .left)) ∙ at-order .order .ensures .1) (c .before .crosses .ensures .1 (c .if3 .taken)), tt)
 
 returns-4 : tie.Need-returns-4
 returns-4 c = (says-refused (c .before .before .before .before .before .before .args .sheet .now) _ _ (c .before .before .before .read-head .ensures) (c .before .k .given .1), tt)
@@ -68,7 +128,15 @@ same-length-4 : tie.Need-same-length-4
 same-length-4 c = search needs
 
 returns-5 : tie.Need-returns-5
-returns-5 c = (holds (c .before .before .before .before .before .before .before .before .before .before .before .before .before .before .before .before .before .before .before .args .sheet .now) (c .before .before .before .before .before .before .before .before .before .before .before .before .before .before .h .given .0 .0) (says-held (c .before .before .before .before .before .before .before .before .before .before .before .before .before .before .before .before .before .before .before .args .sheet .now) _ _ (c .before .before .before .before .before .before .before .before .before .before .before .before .before .before .before .before .read-head .ensures) (c .before .before .before .before .before .before .before .before .before .before .before .before .before .before .h .given .1)) (c .before .before .before .before .before .before .before .before .before .before .before .read-pairs .last .1 .1 .0) (c .before .before .before .before .before .before .order .last .0) ((c .before .before .before .before .before .before .before .before .before .before .before .read-pairs .ensures .0 (not-false _ (c .before .before .before .before .before .before .before .before .if1 .left))) .0) ((c .before .before .before .before .before .before .before .before .before .before .before .read-pairs .ensures .0 (not-false _ (c .before .before .before .before .before .before .before .before .if1 .left))) .1) (omega (arith, c .before .before .before .before .before .before .before .before .before .before .before .read-pairs .kept .1 .1 .0)) (c .before .before .before .before .before .before .order .ensures .0) (sym (not-false _ (c .before .before .before .if2 .left)) ∙ c .before .before .before .before .before .before .order .ensures .1) (c .before .crosses .ensures .0 (c .if3 .left)), fitting (c .before .before .before .before .before .before .before .before .before .before .before .before .before .before .before .before .before .before .before .args .sheet .now) (c .before .before .before .before .before .before .before .before .before .before .before .before .before .before .h .given .0 .0) (says-held (c .before .before .before .before .before .before .before .before .before .before .before .before .before .before .before .before .before .before .before .args .sheet .now) _ _ (c .before .before .before .before .before .before .before .before .before .before .before .before .before .before .before .before .read-head .ensures) (c .before .before .before .before .before .before .before .before .before .before .before .before .before .before .h .given .1)) (c .before .before .before .before .before .before .before .before .before .before .before .read-pairs .last .1 .1 .0) (c .before .before .before .before .before .before .order .last .0) ((c .before .before .before .before .before .before .before .before .before .before .before .read-pairs .ensures .0 (not-false _ (c .before .before .before .before .before .before .before .before .if1 .left))) .0) ((c .before .before .before .before .before .before .before .before .before .before .before .read-pairs .ensures .0 (not-false _ (c .before .before .before .before .before .before .before .before .if1 .left))) .1) (omega (arith, c .before .before .before .before .before .before .before .before .before .before .before .read-pairs .kept .1 .1 .0)) (c .before .before .before .before .before .before .order .ensures .0) (sym (not-false _ (c .before .before .before .if2 .left)) ∙ c .before .before .before .before .before .before .order .ensures .1) (c .before .crosses .ensures .0 (c .if3 .left)))
+returns-5 c =
+    let at-if2 = c .before .before .before in
+    let at-order = at-if2 .before .before .before in
+    let at-if1 = at-order .before .before in
+    let at-read-pairs = at-if1 .before .before .before in
+    let at-h = at-read-pairs .before .before .before in
+    let at-read-head = at-h .before .before in
+    let start = at-read-head .before .before .before in
+    (holds (start .args .sheet .now) (at-h .h .given .0 .0) (says-held (start .args .sheet .now) _ _ (at-read-head .read-head .ensures) (at-h .h .given .1)) (at-read-pairs .read-pairs .last .1 .1 .0) (at-order .order .last .0) ((at-read-pairs .read-pairs .ensures .0 (not-false _ (at-if1 .if1 .left))) .0) ((at-read-pairs .read-pairs .ensures .0 (not-false _ (at-if1 .if1 .left))) .1) (omega (arith, at-read-pairs .read-pairs .kept .1 .1 .0)) (at-order .order .ensures .0) (sym (not-false _ (at-if2 .if2 .left)) ∙ at-order .order .ensures .1) (c .before .crosses .ensures .0 (c .if3 .left)), fitting (start .args .sheet .now) (at-h .h .given .0 .0) (says-held (start .args .sheet .now) _ _ (at-read-head .read-head .ensures) (at-h .h .given .1)) (at-read-pairs .read-pairs .last .1 .1 .0) (at-order .order .last .0) ((at-read-pairs .read-pairs .ensures .0 (not-false _ (at-if1 .if1 .left))) .0) ((at-read-pairs .read-pairs .ensures .0 (not-false _ (at-if1 .if1 .left))) .1) (omega (arith, at-read-pairs .read-pairs .kept .1 .1 .0)) (at-order .order .ensures .0) (sym (not-false _ (at-if2 .if2 .left)) ∙ at-order .order .ensures .1) (c .before .crosses .ensures .0 (c .if3 .left)))
 
 pub read-sheet-spec : {M : Type 1} → statement M
 read-sheet-spec = tie.close (tie.spec read-head-requires enum-known-k enum-known-h sub-m read-pairs-requires same-length returns slice-relend-prefix-order slice-aggregate-order order-requires same-length-2 returns-2 slice-reshare-prefix-crosses slice-aggregate-crosses crosses-requires same-length-3 returns-3 returns-4 same-length-4 returns-5)

@@ -61,7 +61,14 @@ loop-less : tie.Need-loop-less Inv-loop μ-loop
 loop-less c = omega arith
 
 loop-again : tie.Need-loop-again Inv-loop μ-loop
-loop-again c = (omega arith, c .before .before .put162 .kept .0 ∙ (c .before .before .before .before .before .before .before .put16 .kept .0 ∙ c .before .before .before .before .before .before .before .before .before .before .before .before .loop .inv .1), c .before .before .put162 .ensures ∙ rw (c .before .before .before .before .before .before .before .put16 .ensures, c .before .before .before .before .before .before .before .before .low .ensures, c .before .before .before .high .ensures .0, c .before .before .before .before .before .before .before .before .before .before .before .before .loop .inv .2) (edges-next (c .before .before .before .before .before .before .before .before .before .before .before .before .before .before .before .args .keys .now) (c .before .before .before .before .before .before .before .before .before .before .before .before .before .before .before .args .out .now) (c .before .before .before .before .before .before .before .before .before .before .before .before .before .before .before .args .at) (c .before .before .before .before .before .before .before .before .before .before .before .before .loop .i) (omega arith)))
+loop-again c =
+    let at-put162 = c .before .before in
+    let at-high = at-put162 .before in
+    let at-put16 = at-high .before .before .before .before in
+    let at-low = at-put16 .before in
+    let at-loop = at-low .before .before .before .before in
+    let start = at-loop .before .before .before in
+    (omega arith, at-put162 .put162 .kept .0 ∙ (at-put16 .put16 .kept .0 ∙ at-loop .loop .inv .1), at-put162 .put162 .ensures ∙ rw (at-put16 .put16 .ensures, at-low .low .ensures, at-high .high .ensures .0, at-loop .loop .inv .2) (edges-next (start .args .keys .now) (start .args .out .now) (start .args .at) (at-loop .loop .i) (omega arith)))
 
 same-length : tie.Need-same-length Inv-loop μ-loop
 same-length c = c .before .loop .inv .1

@@ -41,17 +41,39 @@ slice-aggregate-put-edges : tie.Need-slice-aggregate-put-edges
 slice-aggregate-put-edges c = sym (length-take-le _ (c .before .before .before .before .before .before .before .before .before .before .before .args .keys .now) (omega (arith, c .before .before .before .before .before .before .before .before .before .before .before .pre .0 .most)))
 
 put-edges-requires : tie.Need-put-edges-requires
-put-edges-requires c κs = (omega (arith, c .before .before .before .before .put16 .kept .0, length-set (c .before .before .before .before .before .before .before .before .before .before .before .args .out .now) 0 (c .before .before .before .before .before .before .map-byte .result), length-take-le (c .before .before .before .before .before .before .before .before .before .before .before .args .h .n - 3) (c .before .before .before .before .before .before .before .before .before .before .before .args .keys .now) (omega (arith, c .before .before .before .before .before .before .before .before .before .before .before .pre .0 .most))), small-front (c .before .before .before .before .before .before .before .before .before .before .before .args .h .n - 3) (c .before .before .before .before .before .before .before .before .before .before .before .args .keys .now) (omega (arith, c .before .before .before .before .before .before .before .before .before .before .before .pre .0 .most)) (c .before .before .before .before .before .before .before .before .before .before .before .pre .0 .keys))
+put-edges-requires c κs =
+    let at-put16 = c .before .before .before .before in
+    let at-map-byte = at-put16 .before .before in
+    let start = at-map-byte .before .before .before .before .before in
+    (omega (arith, at-put16 .put16 .kept .0, length-set (start .args .out .now) 0 (at-map-byte .map-byte .result), length-take-le (start .args .h .n - 3) (start .args .keys .now) (omega (arith, start .pre .0 .most))), small-front (start .args .h .n - 3) (start .args .keys .now) (omega (arith, start .pre .0 .most)) (start .pre .0 .keys))
 
 put-number-requires : tie.Need-put-number-requires
-put-number-requires c κs = (omega (arith, c .before .before .before .put-edges .kept .0, c .before .before .before .before .before .before .before .before .put16 .kept .0, length-set (c .before .before .before .before .before .before .before .before .before .before .before .before .before .before .before .args .out .now) 0 (c .before .before .before .before .before .before .before .before .before .before .map-byte .result), c .before .before .before .before .before .before .before .before .before .before .before .before .number-size .ensures .1 (c .before .before .before .before .before .before .before .before .before .before .before .before .before .before .before .args .h .number)), c .before .before .before .before .before .before .before .before .before .before .before .before .before .before .before .pre .0 .number)
+put-number-requires c κs =
+    let at-put-edges = c .before .before .before in
+    let at-put16 = at-put-edges .before .before .before .before .before in
+    let at-map-byte = at-put16 .before .before in
+    let at-number-size = at-map-byte .before .before in
+    let start = at-number-size .before .before .before in
+    (omega (arith, at-put-edges .put-edges .kept .0, at-put16 .put16 .kept .0, length-set (start .args .out .now) 0 (at-map-byte .map-byte .result), at-number-size .number-size .ensures .1 (start .args .h .number)), start .pre .0 .number)
 
 same-length : tie.Need-same-length
-same-length c = c .before .before .put-number .kept .0 ∙ (c .before .before .before .before .before .before .put-edges .kept .0 ∙ (c .before .before .before .before .before .before .before .before .before .before .before .put16 .kept .0 ∙ length-set (c .before .before .before .before .before .before .before .before .before .before .before .before .before .before .before .before .before .before .args .out .now) 0 (c .before .before .before .before .before .before .before .before .before .before .before .before .before .map-byte .result)))
+same-length c =
+    let at-put-edges = c .before .before .before .before .before .before in
+    let at-put16 = at-put-edges .before .before .before .before .before in
+    let at-map-byte = at-put16 .before .before in
+    let start = at-map-byte .before .before .before .before .before in
+    c .before .before .put-number .kept .0 ∙ (at-put-edges .put-edges .kept .0 ∙ (at-put16 .put16 .kept .0 ∙ length-set (start .args .out .now) 0 (at-map-byte .map-byte .result)))
 
 returns-2 : tie.Need-returns-2
 unfolding mapByte
-returns-2 c = finished (c .before .before .before .before .before .before .before .before .before .before .before .before .before .before .before .before .before .before .args .h) (c .before .before .before .before .before .before .before .before .before .before .before .before .before .before .before .before .before .before .args .keys .now) (c .before .before .before .before .before .before .before .before .before .before .before .before .before .before .before .before .before .before .pre .0) (c .before .before .before .before .before .before .before .before .before .before .before .before .before .before .before .before .before .before .pre .1) (c .before .before .before .before .before .before .before .before .before .before .before .before .before .before .before .before .before .before .args .out .now) (c .before .before .before .before .before .before .before .before .before .before .before .before .before .before .before .number-size .result) (c .before .before .before .before .before .before .before .before .before .before .before .before .before .before .before .number-size .ensures .1 (c .before .before .before .before .before .before .before .before .before .before .before .before .before .before .before .before .before .before .args .h .number)) _ (c .before .before .before .before .before .before .before .before .before .before .before .before .before .before .if1 .left) (c .before .before .put-number .ensures ∙ rw (c .before .before .before .before .before .before .put-edges .ensures, c .before .before .before .before .before .before .before .before .before .before .before .put16 .ensures, c .before .before .before .before .before .before .before .before .before .before .before .before .before .map-byte .ensures (c .before .before .before .before .before .before .before .before .before .before .before .before .before .before .before .before .before .before .args .h .number)))
+returns-2 c =
+    let at-put-edges = c .before .before .before .before .before .before in
+    let at-put16 = at-put-edges .before .before .before .before .before in
+    let at-map-byte = at-put16 .before .before in
+    let at-if1 = at-map-byte .before in
+    let at-number-size = at-if1 .before in
+    let start = at-number-size .before .before .before in
+    finished (start .args .h) (start .args .keys .now) (start .pre .0) (start .pre .1) (start .args .out .now) (at-number-size .number-size .result) (at-number-size .number-size .ensures .1 (start .args .h .number)) _ (at-if1 .if1 .left) (c .before .before .put-number .ensures ∙ rw (at-put-edges .put-edges .ensures, at-put16 .put16 .ensures, at-map-byte .map-byte .ensures (start .args .h .number)))
 
 pub write-sheet-spec : {M : Type 1} → statement M
 write-sheet-spec = tie.close (tie.spec sub-m mul-end add-end number-size-requires add-size returns map-byte-requires slice-write-out put16-requires slice-aggregate-put-edges put-edges-requires put-number-requires same-length returns-2)
