@@ -1,8 +1,9 @@
 //! Draw: the library's `bend_draw` beside the model.
 
-use super::checks::{hex, must_be, on_a_small_stack, same_bytes, same_writing, Failure, Outcome};
+use super::checks::{hex, must_be, same_bytes, same_writing, Failure, Outcome};
 use super::faults::refusals;
-use super::sheets::{any_part, any_sheet, DAMAGES};
+use super::groups::{self, Damaged};
+use super::sheets::{any_part, any_sheet};
 use super::Tests;
 use crate::library;
 use bend_tests::chart::Chart;
@@ -10,7 +11,7 @@ use bend_tests::draw::{chart, chart_of, draw_sheet};
 use bend_tests::part::{Corner, Pair, Part};
 use bend_tests::random::Random;
 use bend_tests::search::plan_drawn;
-use bend_tests::shapes::{all_parts, part, SHAPES};
+use bend_tests::shapes::{part, SHAPES};
 use bend_tests::sheet;
 use bend_tests::truth::{fills_columns, is_true};
 
@@ -93,30 +94,10 @@ fn known_parts(tests: &mut Tests) {
 }
 
 fn searched(tests: &mut Tests) {
-    for n in 3..=9 {
-        let name = format!("draw: all parts of {n} corners, by the plan found by search");
-        tests.test(&name, || {
-            let mut random = Random::new(201);
-            for part in all_parts(n) {
-                let chart = chart(&part, &plan_drawn(&part));
-                draws(&any_sheet(&part, &mut random), &chart)?;
-            }
-            Ok(())
-        });
-    }
-    for shape in SHAPES {
-        let name = format!("draw: {shape:?}, by the plan found by search");
-        tests.test(&name, || {
-            let mut random = Random::new(202);
-            for _ in 0..200 {
-                let n = random.between(10, 60) as Corner;
-                let part = part(shape, n, &mut random);
-                let chart = chart(&part, &plan_drawn(&part));
-                draws(&any_sheet(&part, &mut random), &chart)?;
-            }
-            Ok(())
-        });
-    }
+    let beside = "by the plan found by search";
+    let by_search = |part: &Part, sheet: &[u8]| draws(sheet, &chart(part, &plan_drawn(part)));
+    groups::small_parts(tests, "draw", beside, 201, by_search);
+    groups::shaped_parts(tests, "draw", beside, 202, by_search);
 }
 
 /// A failure unless the library's bytes are a true chart with an upright in
@@ -135,20 +116,8 @@ fn is_a_true_chart(sheet: &[u8]) -> Outcome {
 }
 
 fn large_parts(tests: &mut Tests) {
+    groups::large_parts(tests, "draw", [203, 206], |sheet| same(sheet, 40_000));
     for shape in SHAPES {
-        tests.test(&format!("draw: {shape:?}, of up to 1,024 corners"), || {
-            let mut random = Random::new(203);
-            for round in 0..600 {
-                let n = match round {
-                    0..=9 => 1024,
-                    10..=19 => 1023,
-                    _ => random.between(10, 1024) as Corner,
-                };
-                let sheet = any_sheet(&part(shape, n, &mut random), &mut random);
-                same(&sheet, 40_000)?;
-            }
-            Ok(())
-        });
         tests.test(&format!("draw: {shape:?}, true charts"), || {
             let mut random = Random::new(204);
             for n in (3..200).chain([1023, 1024]) {
@@ -158,70 +127,23 @@ fn large_parts(tests: &mut Tests) {
             Ok(())
         });
     }
-    tests.test(
-        "draw: every shape of 1,024 corners on a small stack",
-        || {
-            on_a_small_stack(|| {
-                let mut random = Random::new(206);
-                for shape in SHAPES.iter().flat_map(|&shape| [shape; 4]) {
-                    let sheet = any_sheet(&part(shape, 1024, &mut random), &mut random);
-                    same(&sheet, 40_000)?;
-                }
-                Ok(())
-            })
-        },
-    );
-    tests.test("draw: the part number and the order change nothing", || {
-        let mut random = Random::new(205);
-        for _ in 0..200 {
-            let n = random.between(3, 300) as Corner;
-            let part = any_part(n, &mut random);
-            let bare = Part {
-                number: None,
-                ..part.clone()
-            };
-            let chart = chart_of(&bare);
-            for _ in 0..4 {
-                draws(&any_sheet(&part, &mut random), &chart)?;
-            }
-        }
-        Ok(())
+    groups::number_and_order(tests, "draw", 205, |bare, sheet| {
+        draws(sheet, &chart_of(bare))
     });
 }
 
 fn damaged_sheets(tests: &mut Tests) {
-    for (name, damage) in DAMAGES {
-        tests.test(&format!("draw: damaged, {name}"), || {
-            let mut random = Random::new(211);
-            for round in 0..2000 {
-                let large = round % 40 == 0;
-                let n = if large { 1024 } else { random.between(3, 24) };
-                let part = any_part(n as Corner, &mut random);
-                let mut sheet = any_sheet(&part, &mut random);
-                damage(&mut sheet, &mut random);
-                let lent = if large { 40_000 } else { random.below(800) };
-                same(&sheet, lent)?;
-            }
-            Ok(())
-        });
-    }
-    tests.test("draw: every truncation", || {
-        let mut random = Random::new(212);
-        for n in [3, 4, 5, 9, 40, 1024] {
-            let sheet = any_sheet(&any_part(n, &mut random), &mut random);
-            (0..=sheet.len()).try_for_each(|length| same(&sheet[..length], 20_000))?;
-        }
-        Ok(())
+    let how_many = Damaged {
+        rounds: 2000,
+        to_a_large_one: 40,
+        most: 24,
+    };
+    groups::damaged_sheets(tests, "draw", 211, how_many, |part, sheet, random| {
+        let large = part.n == 1024;
+        same(sheet, if large { 40_000 } else { random.below(800) })
     });
-    tests.test("draw: short and random bytes", || {
-        let mut random = Random::new(213);
-        (0..=255).try_for_each(|byte| same(&[byte], 50))?;
-        for _ in 0..20_000 {
-            let length = random.below(40);
-            same(&random.bytes(length), 100)?;
-        }
-        Ok(())
-    });
+    groups::truncated_sheets(tests, "draw", 212, |sheet| same(sheet, 20_000));
+    groups::random_bytes(tests, "draw", 213, |bytes| same(bytes, 100));
 }
 
 fn output_lengths(tests: &mut Tests) {

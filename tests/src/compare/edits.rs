@@ -3,7 +3,8 @@
 
 use super::checks::{must_be, same_bytes, same_writing, Outcome};
 use super::faults::refusals;
-use super::sheets::{any_part, any_sheet, DAMAGES};
+use super::groups::{self, Damaged};
+use super::sheets::{any_part, any_sheet};
 use super::Tests;
 use crate::library;
 use bend_tests::edit::{edit_sheet, Edit};
@@ -220,23 +221,14 @@ fn large_parts(tests: &mut Tests) {
             Ok(())
         },
     );
-    for (name, damage) in DAMAGES {
-        tests.test(&format!("edits: damaged, {name}"), || {
-            let mut random = Random::new(72);
-            for round in 0..3000 {
-                let n = if round % 20 == 0 {
-                    1024
-                } else {
-                    random.between(3, 16)
-                };
-                let part = any_part(n as Corner, &mut random);
-                let mut sheet = any_sheet(&part, &mut random);
-                damage(&mut sheet, &mut random);
-                same(&sheet, any_edit(&part, &mut random), sheet.len() + 5)?;
-            }
-            Ok(())
-        });
-    }
+    let how_many = Damaged {
+        rounds: 3000,
+        to_a_large_one: 20,
+        most: 16,
+    };
+    groups::damaged_sheets(tests, "edits", 72, how_many, |part, sheet, random| {
+        same(sheet, any_edit(part, random), sheet.len() + 5)
+    });
 }
 
 /// A random edit, most of them such that the part can take it.

@@ -23,6 +23,8 @@ mod checks;
 #[allow(dead_code)]
 mod faults;
 #[allow(dead_code)]
+mod groups;
+#[allow(dead_code)]
 mod sheets;
 
 use checks::Outcome;

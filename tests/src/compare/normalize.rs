@@ -2,7 +2,8 @@
 
 use super::checks::{must_be, same_writing, Outcome};
 use super::faults::refusals_in_twos;
-use super::sheets::{any_part, any_sheet, ordered, DAMAGES, ORDERS};
+use super::groups::{self, Damaged};
+use super::sheets::{any_part, any_sheet, ordered, ORDERS};
 use super::Tests;
 use crate::library;
 use bend_tests::part::{Corner, Pair};
@@ -93,24 +94,15 @@ fn valid_sheets(tests: &mut Tests) {
 }
 
 fn damaged_sheets(tests: &mut Tests) {
-    for (name, damage) in DAMAGES {
-        tests.test(&format!("normalize: damaged, {name}"), || {
-            let mut random = Random::new(31);
-            for round in 0..6000 {
-                let n = if round % 20 == 0 {
-                    1024
-                } else {
-                    random.between(3, 24)
-                };
-                let part = any_part(n as Corner, &mut random);
-                let mut sheet = any_sheet(&part, &mut random);
-                damage(&mut sheet, &mut random);
-                let lent = sheet.len() + 4 - random.below(8).min(sheet.len());
-                same(&sheet, lent)?;
-            }
-            Ok(())
-        });
-    }
+    let how_many = Damaged {
+        rounds: 6000,
+        to_a_large_one: 20,
+        most: 24,
+    };
+    groups::damaged_sheets(tests, "normalize", 31, how_many, |_, sheet, random| {
+        let lent = sheet.len() + 4 - random.below(8).min(sheet.len());
+        same(sheet, lent)
+    });
     tests.test(
         "normalize: damaged, every bit of small sheets flipped",
         || {
@@ -154,16 +146,7 @@ fn damaged_sheets(tests: &mut Tests) {
         }
         Ok(())
     });
-    tests.test("normalize: every truncation", || {
-        let mut random = Random::new(35);
-        for n in [3, 4, 5, 9, 40, 1024] {
-            let sheet = any_sheet(&any_part(n, &mut random), &mut random);
-            for length in 0..=sheet.len() {
-                same(&sheet[..length], sheet.len())?;
-            }
-        }
-        Ok(())
-    });
+    groups::truncated_sheets(tests, "normalize", 35, |sheet| same(sheet, 5000));
 }
 
 fn odd_inputs(tests: &mut Tests) {

@@ -1,16 +1,17 @@
 //! Plan: the library's `bend_plan` beside the model.
 
-use super::checks::{hex, must_be, on_a_small_stack, Failure, Outcome};
+use super::checks::{hex, must_be, Failure, Outcome};
 use super::faults::refusals;
-use super::sheets::{any_part, any_sheet, DAMAGES};
+use super::groups::{self, Damaged};
+use super::sheets::any_sheet;
 use super::Tests;
 use crate::library;
 use bend_tests::answer::Refusal;
-use bend_tests::part::{Corner, Pair, Part};
+use bend_tests::part::{Corner, Pair};
 use bend_tests::plan::{plan_sheet, Counts};
 use bend_tests::random::Random;
 use bend_tests::search::{least_of_all_plans, plan_drawn};
-use bend_tests::shapes::{all_parts, part, Shape, SHAPES};
+use bend_tests::shapes::{part, Shape};
 use bend_tests::sheet;
 
 pub fn run(tests: &mut Tests) {
@@ -89,60 +90,20 @@ fn known_parts(tests: &mut Tests) {
 }
 
 fn searched(tests: &mut Tests) {
-    for n in 3..=9 {
-        let name = format!("plan: all parts of {n} corners, beside a search of all plans");
-        tests.test(&name, || {
-            let mut random = Random::new(101);
-            for part in all_parts(n) {
-                let plan = plan_drawn(&part);
-                assert_eq!(plan.counts.levels, least_of_all_plans(&part, plan.piece));
-                gives(&any_sheet(&part, &mut random), Ok(plan.counts))?;
-            }
-            Ok(())
-        });
-    }
-    for shape in SHAPES {
-        let name = format!("plan: {shape:?}, beside a search of all umbrellas");
-        tests.test(&name, || {
-            let mut random = Random::new(102);
-            for _ in 0..200 {
-                let n = random.between(10, 60) as Corner;
-                let part = part(shape, n, &mut random);
-                let counts = plan_drawn(&part).counts;
-                gives(&any_sheet(&part, &mut random), Ok(counts))?;
-            }
-            Ok(())
-        });
-    }
+    let plans = "beside a search of all plans";
+    groups::small_parts(tests, "plan", plans, 101, |part, sheet| {
+        let plan = plan_drawn(part);
+        assert_eq!(plan.counts.levels, least_of_all_plans(part, plan.piece));
+        gives(sheet, Ok(plan.counts))
+    });
+    let umbrellas = "beside a search of all umbrellas";
+    groups::shaped_parts(tests, "plan", umbrellas, 102, |part, sheet| {
+        gives(sheet, Ok(plan_drawn(part).counts))
+    });
 }
 
 fn large_parts(tests: &mut Tests) {
-    for shape in SHAPES {
-        tests.test(&format!("plan: {shape:?}, of up to 1,024 corners"), || {
-            let mut random = Random::new(103);
-            for round in 0..600 {
-                let n = match round {
-                    0..=9 => 1024,
-                    10..=19 => 1023,
-                    _ => random.between(10, 1024) as Corner,
-                };
-                same(&any_sheet(&part(shape, n, &mut random), &mut random))?;
-            }
-            Ok(())
-        });
-    }
-    tests.test(
-        "plan: every shape of 1,024 corners on a small stack",
-        || {
-            on_a_small_stack(|| {
-                let mut random = Random::new(106);
-                for shape in SHAPES.iter().flat_map(|&shape| [shape; 4]) {
-                    same(&any_sheet(&part(shape, 1024, &mut random), &mut random))?;
-                }
-                Ok(())
-            })
-        },
-    );
+    groups::large_parts(tests, "plan", [103, 106], same);
     tests.test("plan: 2^(levels+1) - 1 corners and one less", || {
         let mut random = Random::new(104);
         for power in 3..=10 {
@@ -155,54 +116,18 @@ fn large_parts(tests: &mut Tests) {
         }
         Ok(())
     });
-    tests.test("plan: the part number and the order change nothing", || {
-        let mut random = Random::new(105);
-        for _ in 0..200 {
-            let n = random.between(3, 300) as Corner;
-            let part = any_part(n, &mut random);
-            let bare = Part {
-                number: None,
-                ..part.clone()
-            };
-            let expected = plan_sheet(&sheet::normal(&bare));
-            for _ in 0..4 {
-                gives(&any_sheet(&part, &mut random), expected)?;
-            }
-        }
-        Ok(())
+    groups::number_and_order(tests, "plan", 105, |bare, sheet| {
+        gives(sheet, plan_sheet(&sheet::normal(bare)))
     });
 }
 
 fn damaged_sheets(tests: &mut Tests) {
-    for (name, damage) in DAMAGES {
-        tests.test(&format!("plan: damaged, {name}"), || {
-            let mut random = Random::new(111);
-            for round in 0..3000 {
-                let large = round % 20 == 0;
-                let n = if large { 1024 } else { random.between(3, 24) };
-                let part = any_part(n as Corner, &mut random);
-                let mut sheet = any_sheet(&part, &mut random);
-                damage(&mut sheet, &mut random);
-                same(&sheet)?;
-            }
-            Ok(())
-        });
-    }
-    tests.test("plan: every truncation", || {
-        let mut random = Random::new(112);
-        for n in [3, 4, 5, 9, 40, 1024] {
-            let sheet = any_sheet(&any_part(n, &mut random), &mut random);
-            (0..=sheet.len()).try_for_each(|length| same(&sheet[..length]))?;
-        }
-        Ok(())
-    });
-    tests.test("plan: short and random bytes", || {
-        let mut random = Random::new(113);
-        (0..=255).try_for_each(|byte| same(&[byte]))?;
-        for _ in 0..20_000 {
-            let length = random.below(40);
-            same(&random.bytes(length))?;
-        }
-        Ok(())
-    });
+    let how_many = Damaged {
+        rounds: 3000,
+        to_a_large_one: 20,
+        most: 24,
+    };
+    groups::damaged_sheets(tests, "plan", 111, how_many, |_, sheet, _| same(sheet));
+    groups::truncated_sheets(tests, "plan", 112, same);
+    groups::random_bytes(tests, "plan", 113, same);
 }
