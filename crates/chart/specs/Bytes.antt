@@ -1,5 +1,5 @@
 -- Document 01, "The chart's bytes". "Numbers are unsigned, high byte first."
-use mathlib.Core.List.{List, [], _∷_, _++_, flatMap}
+use mathlib.Core.List.{List, _∷_, _++_, flatMap}
 use Prim.Native.Nat.{ℕ, _<_}
 use Rattle.polygon.specs.Lists.{All}
 use Rattle.codec.specs.Numbers.{bytes16}

@@ -2,7 +2,7 @@
 use mathlib.Core.Path.{_≡_, refl, sym, _∙_}
 use mathlib.Core.Bool.{true, false}
 use mathlib.Core.List.{List, [], _∷_, _++_, map, map-map}
-use Prim.Native.Nat.{ℕ, suc, _+_, _*_, _-_, _≤_, max}
+use Prim.Native.Nat.{ℕ, suc, _*_, _≤_, max}
 use native.Mathlib.Decide.{decLe}
 use native.Mathlib.Omega.{arith}
 use Rattle.polygon.specs.Tree.{Tree, leaf, node}

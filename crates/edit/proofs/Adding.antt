@@ -1,21 +1,21 @@
 -- A corner added in the code's table: renumbered, and the new diagonal put in.
-use mathlib.Core.Path.{_≡_, refl, ap, sym, _∙_}
+use mathlib.Core.Path.{_≡_, ap, _∙_}
 use mathlib.Core.List.{List, map}
-use Prim.Native.Nat.{ℕ, suc, _+_, _-_, _≤_, _<_, _/_, _%_}
+use Prim.Native.Nat.{ℕ, suc, _+_, _-_, _≤_, _<_}
 use native.Mathlib.Decide.{ℕ-discrete}
 use native.Mathlib.Omega.{arith}
 use native.Mathlib.Numerals.{add-one}
 use lib.ListN.{length, take, getD, length-map, List·getD-map}
 use lib.Seq.{length-take-le, getD-take}
 use Rattle.polygon.specs.Lists.{Sorted}
-use Rattle.polygon.specs.Polygon.{Edge, _—_, Diagonal, Triangulated}
+use Rattle.polygon.specs.Polygon.{_—_, Diagonal}
 use Rattle.polygon.proofs.Lists.{choose-yes, choose-no}
 use Rattle.keys.specs.Keys.{keyOf, edgeOf, edgesOf}
 use Rattle.keys.specs.Sort.{insertKey}
 use Rattle.keys.proofs.Crosses.{at-all}
 use Rattle.sheet.specs.declared.Head.{Head}
 use Rattle.sheet.specs.Sheet.{refused}
-use Rattle.sheet.specs.Held.{polygonOf, numberOf, Fitting}
+use Rattle.sheet.specs.Held.{polygonOf, Fitting}
 use Rattle.sheet.proofs.Asks.{ask-yes, ask-no}
 use Rattle.edit.specs.Rules.{addEar, rule, up, both, entering, earAdded}
 use Rattle.edit.specs.declared.shift.Shift.the-variants.{Up}

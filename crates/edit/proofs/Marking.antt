@@ -1,6 +1,6 @@
 -- The table of the corners joined to a corner, marked one edge after another; and the corners marked in two such tables.
-use mathlib.Core.Path.{_≡_, refl, ap, sym, _∙_}
-use mathlib.Core.Logic.{_⊎_, inl, inr, _↔_}
+use mathlib.Core.Path.{_≡_, refl, sym, _∙_}
+use mathlib.Core.Logic.{_⊎_, inl, inr}
 use mathlib.Core.List.{List, [], _∷_, _++_, map-append}
 use Prim.Native.Nat.{ℕ, zero, suc, _+_, _-_, _<_, _≤_}
 use native.Mathlib.Decide.{ℕ-discrete}
@@ -9,13 +9,13 @@ use native.Mathlib.Omega.{arith}
 use lib.ListN.{length, take, set, getD, length-set, length-map, List·getD-map}
 use lib.Seq.{take-suc, getD-set-same, getD-set-other}
 use Rattle.polygon.specs.Lists.{Mem, head, tail, All}
-use Rattle.polygon.specs.Polygon.{Edge, _—_, Side, Linked, Joined}
-use Rattle.polygon.proofs.Lists.{here, mem-left, mem-right, not-empty, choose-yes, choose-no}
+use Rattle.polygon.specs.Polygon.{Edge, _—_, Side, Joined}
+use Rattle.polygon.proofs.Lists.{mem-left, mem-right, not-empty, choose-yes, choose-no}
 use Rattle.polygon.proofs.Order.{edge, low-of, high-of}
 use Rattle.keys.specs.Keys.{edgeOf, edgesOf}
 use Rattle.keys.proofs.Crosses.{all-at, at-all}
 use Rattle.edit.specs.Rules.{neighbours, Away}
-use Rattle.edit.specs.Tables.{OtherEnd, Near, Common}
+use Rattle.edit.specs.Tables.{OtherEnd, Near}
 use Rattle.edit.proofs.Reading.{neighbours-read}
 
 -- the two corners next to k along the outline

@@ -1,11 +1,11 @@
 -- A corner taken off in the code's table: the ear's diagonal taken out, and the rest renumbered.
-use mathlib.Core.Path.{_≡_, refl, ap, sym, _∙_}
+use mathlib.Core.Path.{_≡_, ap, sym, _∙_}
 use mathlib.Core.List.{List, map}
-use Prim.Native.Nat.{ℕ, _+_, _-_, _≤_, _<_}
+use Prim.Native.Nat.{ℕ, _-_, _≤_, _<_}
 use native.Mathlib.Omega.{arith}
 use lib.ListN.{length, take, length-map}
 use Rattle.polygon.specs.Lists.{All}
-use Rattle.polygon.specs.Polygon.{Edge, _—_, Diagonal}
+use Rattle.polygon.specs.Polygon.{Edge, _—_}
 use Rattle.polygon.specs.Order.{remove}
 use Rattle.polygon.proofs.Order.{remove-all}
 use Rattle.keys.specs.Keys.{keyOf, edgeOf, edgesOf}

@@ -1,13 +1,13 @@
 -- A table of keys renumbered place after place.
 use mathlib.Core.Path.{_≡_, refl, ap, sym, _∙_}
-use mathlib.Core.List.{List, [], _∷_, _++_, map, map-append}
+use mathlib.Core.List.{List, [], _∷_, map, map-append}
 use Prim.Native.Nat.{ℕ, suc, _+_, _-_, _/_, _%_, _<_, _≤_}
 use native.Mathlib.Decide.{decLt}
 use native.Mathlib.Numerals.{add-one}
 use native.Mathlib.Omega.{arith}
 use lib.ListN.{length, take, drop, set, getD, length-set}
 use lib.Seq.{take-suc, take-suc-set, drop-set-lt, drop-drop, drop-cons}
-use Rattle.polygon.specs.Polygon.{Edge, _—_}
+use Rattle.polygon.specs.Polygon.{_—_}
 use Rattle.polygon.proofs.Lists.{choose-yes, choose-no}
 use Rattle.keys.specs.Keys.{keyOf, edgeOf, edgesOf}
 use Rattle.keys.proofs.InOrder.{edge-of-key}

@@ -1,6 +1,6 @@
 -- A diagonal turned in the code's table: it is taken out, and the pair of its ends' two common neighbours put in.
-use mathlib.Core.Path.{_≡_, refl, ap, sym, _∙_}
-use mathlib.Core.Logic.{_⊎_, inl, inr, _↔_}
+use mathlib.Core.Path.{_≡_, refl, ap, _∙_}
+use mathlib.Core.Logic.{_⊎_, inl, inr}
 use mathlib.Core.List.{List, [], _∷_}
 use Prim.Native.Nat.{ℕ, zero, suc, _+_, _-_, _≤_, _<_}
 use native.Mathlib.Decide.{decLt}
@@ -21,7 +21,7 @@ use Rattle.sheet.specs.Sheet.{refused}
 use Rattle.sheet.specs.Held.{polygonOf, Fitting}
 use Rattle.sheet.proofs.Asks.{ask-yes, ask-no}
 use Rattle.sheet.proofs.Pairs.{lower-below, lower-above}
-use Rattle.edit.specs.Rules.{flip, rule, common, flipped}
+use Rattle.edit.specs.Rules.{flip, rule, common}
 use Rattle.edit.specs.Tables.{Near, Common}
 use Rattle.edit.specs.Part.{Part}
 use Rattle.edit.proofs.Rule.{Takes, given}

@@ -1,12 +1,11 @@
 -- The linear test decides whether two diagonals cross. Rests on Crossing.antt of the crate polygon.
-use mathlib.Core.Path.{_≡_, refl, ap, sym, _∙_}
-use mathlib.Core.Logic.{_↔_}
+use mathlib.Core.Path.{_≡_, sym, _∙_}
 use mathlib.Core.List.{List, [], _∷_}
-use Prim.Native.Nat.{ℕ, zero, suc, _+_, _/_, _%_, _<_, _≤_}
+use Prim.Native.Nat.{ℕ, zero, suc, _+_, _/_, _%_, _<_}
 use native.Mathlib.Omega.{arith}
 use lib.ListN.{length, getD, length-map}
 use Rattle.polygon.specs.Lists.{All, all-nil, all-cons}
-use Rattle.polygon.specs.Polygon.{Edge, _—_, NoneCross, Diagonal}
+use Rattle.polygon.specs.Polygon.{_—_, NoneCross, Diagonal}
 use Rattle.polygon.specs.Tree.{far}
 use Rattle.polygon.proofs.Far.{far-ok}
 use Rattle.polygon.proofs.Crossing.{Passes, passes-free, crossing-test}

@@ -1,12 +1,11 @@
 -- Runs of bytes written one behind the other.
-use mathlib.Core.Path.{_≡_, refl, ap, sym, _∙_}
+use mathlib.Core.Path.{_≡_, ap, _∙_}
 use mathlib.Core.List.{List, [], _∷_, _++_}
-use Prim.Native.Nat.{ℕ, suc, _+_, _<_, _≤_}
-use native.Mathlib.Nat.{add-zero}
+use Prim.Native.Nat.{ℕ, _+_, _<_}
 use native.Mathlib.Numerals.{add-one}
 use native.Mathlib.Omega.{arith}
 use lib.ListN.{length, take, getD, set, length-append}
-use lib.Seq.{sets, length-sets, take-suc, length-take-le, take-all}
+use lib.Seq.{sets, length-sets, take-suc, length-take-le}
 use Rattle.codec.proofs.Stores.{sets-append}
 use Rattle.log_line.specs.Line.{decimal, partWord, cornersWord, levelsWord, umbrellasWord, stemsWord, rowsWord, columnsWord, refusedWord, numberWord, Facts, line, refusedLine}
 use Rattle.log_line.specs.Put.{Put}

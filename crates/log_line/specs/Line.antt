@@ -2,7 +2,7 @@
 -- `part - corners 3 levels 1 umbrellas 1 stems 0 rows 3 columns 2` "(part number or `-`, the rest as named, in decimal)". "A refusal prints `refused` and its number, as `refused 3`".
 use mathlib.Core.List.{List, [], _∷_, _++_}
 use mathlib.Core.Option.{Option, none, some}
-use Prim.Native.Nat.{ℕ, zero, suc, _+_, _/_, _%_, _<_}
+use Prim.Native.Nat.{ℕ, zero, suc, _+_, _/_, _%_}
 use native.Mathlib.Decide.{decLt}
 use Rattle.polygon.specs.Lists.{choose}
 

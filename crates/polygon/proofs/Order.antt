@@ -9,7 +9,7 @@ use native.Mathlib.Omega.{arith}
 use lib.ListN.{length}
 use Rattle.polygon.specs.Lists.{Mem, Sub, All, all-nil, all-cons, sorted-nil, sorted-cons, not?, keep}
 use Rattle.polygon.specs.Polygon.{Edge, _—_, Before, Ascending}
-use Rattle.polygon.specs.Order.{before?, same?, remove, place, insert}
+use Rattle.polygon.specs.Order.{same?, remove, place, insert}
 use Rattle.polygon.proofs.Lists.{here, all-imp, all-mem, all-self, keep-all, keep-test, keep-sub, keep-mem, keep-sorted, count2, once}
 
 -- an edge by its corners

@@ -4,7 +4,7 @@
 use mathlib.Core.Path.{_≡_}
 use mathlib.Core.List.{List, map}
 use Prim.Native.Nat.{ℕ, _+_, _*_, _≤_, _<_}
-use lib.ListN.{length, take}
+use lib.ListN.{take}
 use Rattle.polygon.specs.Lists.{Mem, Sub}
 use Rattle.polygon.specs.Polygon.{Edge, Polygon, Valid}
 use Rattle.polygon.specs.Tree.{treeOf}

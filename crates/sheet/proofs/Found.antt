@@ -1,8 +1,8 @@
 -- What the reading of a sheet has found out about its pairs, step by step, and what follows for the sheet.
-use mathlib.Core.Path.{_≡_, refl, ap, sym, _∙_}
-use mathlib.Core.Bool.{Bool, true, false, true≢false}
+use mathlib.Core.Path.{_≡_, ap, sym, _∙_}
+use mathlib.Core.Bool.{true, false, true≢false}
 use mathlib.Core.List.{List, _++_}
-use Prim.Native.Nat.{ℕ, _+_, _*_, _-_, _/_, _%_, _≤_, _<_}
+use Prim.Native.Nat.{ℕ, _+_, _*_, _-_, _≤_}
 use native.Mathlib.Omega.{arith}
 use lib.ListN.{length, take, drop, getD, length-append, length-map, List·getD-map}
 use lib.Seq.{take-at, getD-take, length-take-le}
@@ -20,7 +20,7 @@ use Rattle.keys.proofs.InOrder.{sort-edges, ascends-edges, edges-ascend}
 use Rattle.sheet.specs.declared.Head.{Head}
 use Rattle.sheet.specs.declared.Read.{Read}
 use Rattle.sheet.specs.declared.Read.the-variants.{Refused, Held}
-use Rattle.sheet.specs.Sheet.{Reading, refused, held, readSheet, pairs}
+use Rattle.sheet.specs.Sheet.{refused, held, readSheet, pairs}
 use Rattle.sheet.specs.Held.{polygonOf, Small, Fitting, HeadOf, Says}
 use Rattle.sheet.proofs.Asks.{refused-5, refused-6, refused-7, accepted, partIn}
 use Rattle.sheet.proofs.Fields.{length-is}

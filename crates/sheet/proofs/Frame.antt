@@ -1,13 +1,12 @@
 -- What the reading of a sheet's head has found out, put together.
-use mathlib.Core.Path.{_≡_, refl, ap, sym, _∙_}
+use mathlib.Core.Path.{_≡_, ap, sym, _∙_}
 use mathlib.Core.Bool.{true, false}
 use mathlib.Core.List.{List}
-use mathlib.Core.Option.{Option, none, some}
+use mathlib.Core.Option.{some}
 use Prim.Native.Nat.{ℕ, _+_, _*_, _-_, _≤_, _<_}
 use native.Mathlib.Omega.{arith}
 use lib.ListN.{length, getD}
 use Rattle.codec.specs.Numbers.{get16, get32}
-use Rattle.sheet.specs.declared.Head.{Head}
 use Rattle.sheet.specs.Sheet.{bit0, bit1, bit2, more, partNumber, readSheet, refused, sheetLength}
 use Rattle.sheet.specs.Framed.{Framed}
 use Rattle.sheet.specs.Held.{HeadOf}

@@ -1,13 +1,13 @@
 -- No sheet is longer than 4,091 bytes, so an input that is longer is refused as its first 4,092 bytes are.
-use mathlib.Core.Path.{_≡_, refl, ap, ap₂, sym, _∙_}
+use mathlib.Core.Path.{_≡_, ap₂, sym, _∙_}
 use mathlib.Core.List.{List}
-use Prim.Native.Nat.{ℕ, _+_, _*_, _-_, _≤_, _<_}
-use native.Mathlib.Decide.{decLe, decLt, ℕ-discrete}
+use Prim.Native.Nat.{ℕ, _+_, _*_, _≤_, _<_}
+use native.Mathlib.Decide.{decLt, ℕ-discrete}
 use native.Mathlib.Omega.{arith}
 use lib.ListN.{length, take, getD}
 use lib.Seq.{getD-take, length-take-le}
 use Rattle.codec.specs.Numbers.{get16}
-use Rattle.sheet.specs.Sheet.{Reading, refused, bit0, bit1, more, sheetLength, readSheet}
+use Rattle.sheet.specs.Sheet.{bit0, bit1, more, sheetLength, readSheet}
 use Rattle.sheet.proofs.Asks.{refused-1b, refused-1c, refused-3a, refused-3b, refused-4, refused-2b}
 use Rattle.sheet.proofs.Fields.{length-is}
 

@@ -1,16 +1,16 @@
 -- The pairs of a sheet, one after another, as the reading loop meets them.
-use mathlib.Core.Path.{_≡_, refl, ap, sym, _∙_}
+use mathlib.Core.Path.{_≡_, refl, ap}
 use mathlib.Core.List.{List, [], _∷_, _++_, map-append}
 use Prim.Native.Nat.{ℕ, zero, suc, _+_, _*_, _-_, _≤_, _<_}
-use native.Mathlib.Nat.{min-eq-left, min-eq-right, max-eq-left, max-eq-right, add-zero}
+use native.Mathlib.Nat.{min-eq-left, min-eq-right, max-eq-left, max-eq-right}
 use native.Mathlib.Numerals.{add-one}
 use native.Mathlib.Omega.{arith}
-use lib.ListN.{length, take, set, getD, length-set}
+use lib.ListN.{length, take, set, length-set}
 use lib.Seq.{take-suc-set}
-use Rattle.polygon.specs.Lists.{Mem, head, tail, All, all-nil, all-cons}
+use Rattle.polygon.specs.Lists.{Mem, tail, All, all-nil, all-cons}
 use Rattle.polygon.specs.Polygon.{Edge, _—_, Diagonal}
 use Rattle.polygon.specs.Order.{lower-first}
-use Rattle.polygon.proofs.Lists.{here, all-append, all-mem}
+use Rattle.polygon.proofs.Lists.{here, all-append}
 use Rattle.keys.specs.Keys.{keyOf, edgeOf, edgesOf}
 use Rattle.keys.proofs.InOrder.{edge-of-key}
 use Rattle.sheet.specs.Sheet.{pairs}

@@ -1,14 +1,13 @@
 -- No sheet is longer than 4,091 bytes.
-use mathlib.Core.Path.{_≡_, refl, ap, _∙_}
+use mathlib.Core.Path.{_≡_, refl}
 use mathlib.Core.List.{List}
-use mathlib.Core.Option.{Option, none, some}
 use Prim.Native.Nat.{ℕ, _+_, _-_, _≤_}
 use native.Mathlib.Decide.{decLe}
 use native.Mathlib.Omega.{arith}
 use lib.ListN.{length}
 use Rattle.polygon.specs.Polygon.{Polygon}
 use Rattle.polygon.proofs.Sort.{sort-length}
-use Rattle.codec.specs.Answer.{Outcome, refuse, write, Answer, fit, written}
+use Rattle.codec.specs.Answer.{write, fit, written}
 use Rattle.codec.specs.Numbers.{get16}
 use Rattle.sheet.specs.Sheet.{Reading, refused, held, readSheet, normalSheet, outcome, ordered}
 use Rattle.sheet.proofs.Asks.{edgesIn, held-form}

@@ -2,9 +2,6 @@
 use borrow.Author.Needs.{needs}
 use Rattle.bar_list.proofs.bar_at.Statement.{statement}
 use Rattle.bar_list.proofs.bar_at.Tie as tie
-use Rattle.bar_list.proofs.bar_at.Reads as reads
-use Rattle.bar_list.proofs.bar_at.Lts as lts
-use Rattle.codec.proofs.get16.Reads as get16-reads
 
 mul-at : tie.Need-mul-at
 mul-at c = search needs

@@ -43,7 +43,10 @@ array-share-prefix-chart : tie.Need-array-share-prefix-chart
 array-share-prefix-chart c = search needs
 
 slice-aggregate-save : tie.Need-slice-aggregate-save
-slice-aggregate-save c = sym (length-take-le (c .before .before .before .n .given .0 .0) (c .before .before .before .before .before .before .draw .last .1 .0) (omega (arith, c .before .before .before .before .before .before .draw .kept .1 .0)))
+slice-aggregate-save c =
+    let at-n = c .before .before .before in
+    let at-draw = at-n .before .before .before in
+    sym (length-take-le (at-n .n .given .0 .0) (at-draw .draw .last .1 .0) (omega (arith, at-draw .draw .kept .1 .0)))
 
 save-requires : tie.Need-save-requires
 save-requires c κs = search needs

@@ -14,7 +14,9 @@ array-share-prefix-text : tie.Need-array-share-prefix-text
 array-share-prefix-text c = omega (arith, put-length (c .before .line .ensures))
 
 slice-aggregate-write-all : tie.Need-slice-aggregate-write-all
-slice-aggregate-write-all c = sym (length-take-le (c .before .before .line .result) (c .before .before .line .last .1 .0) (omega (arith, put-length (c .before .before .line .ensures))))
+slice-aggregate-write-all c =
+    let at-line = c .before .before in
+    sym (length-take-le (at-line .line .result) (at-line .line .last .1 .0) (omega (arith, put-length (at-line .line .ensures))))
 
 write-all-requires : tie.Need-write-all-requires
 write-all-requires c κs = search needs

@@ -12,13 +12,18 @@ draw-requires : tie.Need-draw-requires
 draw-requires c κs = search needs
 
 pack-requires : tie.Need-pack-requires
-pack-requires c κs = packable (c .before .before .draw .result) (c .before .before .draw .last .1 .0) (rw (c .before .before .draw .ensures) (omega (arith, drawn-size (c .before .before .before .before .before .before .args .sheet .now) (c .before .before .before .before .before .before .args .out .now))))
+pack-requires c κs =
+    let at-draw = c .before .before in
+    let start = at-draw .before .before .before .before in
+    packable (at-draw .draw .result) (at-draw .draw .last .1 .0) (rw (at-draw .draw .ensures) (omega (arith, drawn-size (start .args .sheet .now) (start .args .out .now))))
 
 same-length : tie.Need-same-length
 same-length c = search needs
 
 returns : tie.Need-returns
-returns c = (c .pack .ensures (c .before .before .before .draw .last .1 .0) ∙ ap packed (c .before .before .before .draw .ensures), bytes-left (c .before .before .before .draw .result) (c .before .before .before .draw .last .1 .0) (c .before .before .before .draw .ensures))
+returns c =
+    let at-draw = c .before .before .before in
+    (c .pack .ensures (at-draw .draw .last .1 .0) ∙ ap packed (at-draw .draw .ensures), bytes-left (at-draw .draw .result) (at-draw .draw .last .1 .0) (at-draw .draw .ensures))
 
 pub bend-draw-spec : {M : Type 1} → statement M
 bend-draw-spec = tie.close (tie.spec draw-requires pack-requires same-length returns)

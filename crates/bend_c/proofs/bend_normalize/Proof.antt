@@ -12,13 +12,18 @@ normalize-requires : tie.Need-normalize-requires
 normalize-requires c κs = search needs
 
 pack-requires : tie.Need-pack-requires
-pack-requires c κs = packable (c .before .before .normalize .result) (c .before .before .normalize .last .1 .0) (rw (c .before .before .normalize .ensures) (omega (arith, ordered-size (c .before .before .before .before .before .before .args .sheet .now) (c .before .before .before .before .before .before .args .out .now))))
+pack-requires c κs =
+    let at-normalize = c .before .before in
+    let start = at-normalize .before .before .before .before in
+    packable (at-normalize .normalize .result) (at-normalize .normalize .last .1 .0) (rw (at-normalize .normalize .ensures) (omega (arith, ordered-size (start .args .sheet .now) (start .args .out .now))))
 
 same-length : tie.Need-same-length
 same-length c = search needs
 
 returns : tie.Need-returns
-returns c = (c .pack .ensures (c .before .before .before .normalize .last .1 .0) ∙ ap packed (c .before .before .before .normalize .ensures), bytes-left (c .before .before .before .normalize .result) (c .before .before .before .normalize .last .1 .0) (c .before .before .before .normalize .ensures))
+returns c =
+    let at-normalize = c .before .before .before in
+    (c .pack .ensures (at-normalize .normalize .last .1 .0) ∙ ap packed (at-normalize .normalize .ensures), bytes-left (at-normalize .normalize .result) (at-normalize .normalize .last .1 .0) (at-normalize .normalize .ensures))
 
 pub bend-normalize-spec : {M : Type 1} → statement M
 bend-normalize-spec = tie.close (tie.spec normalize-requires pack-requires same-length returns)

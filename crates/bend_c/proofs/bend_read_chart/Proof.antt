@@ -12,13 +12,18 @@ read-chart-requires : tie.Need-read-chart-requires
 read-chart-requires c κs = search needs
 
 pack-requires : tie.Need-pack-requires
-pack-requires c κs = packable (c .before .before .read-chart .result) (c .before .before .read-chart .last .1 .0) (rw (c .before .before .read-chart .ensures) (omega (arith, chart-read-size (c .before .before .before .before .before .before .args .chart .now) (c .before .before .before .before .before .before .args .out .now))))
+pack-requires c κs =
+    let at-read-chart = c .before .before in
+    let start = at-read-chart .before .before .before .before in
+    packable (at-read-chart .read-chart .result) (at-read-chart .read-chart .last .1 .0) (rw (at-read-chart .read-chart .ensures) (omega (arith, chart-read-size (start .args .chart .now) (start .args .out .now))))
 
 same-length : tie.Need-same-length
 same-length c = search needs
 
 returns : tie.Need-returns
-returns c = (c .pack .ensures (c .before .before .before .read-chart .last .1 .0) ∙ ap packed (c .before .before .before .read-chart .ensures), bytes-left (c .before .before .before .read-chart .result) (c .before .before .before .read-chart .last .1 .0) (c .before .before .before .read-chart .ensures))
+returns c =
+    let at-read-chart = c .before .before .before in
+    (c .pack .ensures (at-read-chart .read-chart .last .1 .0) ∙ ap packed (at-read-chart .read-chart .ensures), bytes-left (at-read-chart .read-chart .result) (at-read-chart .read-chart .last .1 .0) (at-read-chart .read-chart .ensures))
 
 pub bend-read-chart-spec : {M : Type 1} → statement M
 bend-read-chart-spec = tie.close (tie.spec read-chart-requires pack-requires same-length returns)

@@ -15,7 +15,8 @@ remove-ear-requires c κs = search needs
 
 pack-requires : tie.Need-pack-requires
 pack-requires c κs =
-    let at-remove-ear = c .before .before in
+    let earlier = c .before .before in
+    let at-remove-ear = earlier in
     let at-shared-slice-known = at-remove-ear .before .before .before in
     let start = at-shared-slice-known .before in
     packable (at-remove-ear .remove-ear .result) (at-remove-ear .remove-ear .last .1 .1 .0) (rw (at-remove-ear .remove-ear .ensures) (omega (arith, edited-size (removeEar (start .args .corner)) (start .args .sheet .now) (start .args .out .now) (all-at 0 (start .args .sheet .now) (λ i h. omega (arith, at-shared-slice-known .shared-slice-known .given i))))))
@@ -24,7 +25,9 @@ same-length : tie.Need-same-length
 same-length c = search needs
 
 returns : tie.Need-returns
-returns c = (c .pack .ensures (c .before .before .before .remove-ear .last .1 .1 .0) ∙ ap packed (c .before .before .before .remove-ear .ensures), bytes-left (c .before .before .before .remove-ear .result) (c .before .before .before .remove-ear .last .1 .1 .0) (c .before .before .before .remove-ear .ensures))
+returns c =
+    let at-remove-ear = c .before .before .before in
+    (c .pack .ensures (at-remove-ear .remove-ear .last .1 .1 .0) ∙ ap packed (at-remove-ear .remove-ear .ensures), bytes-left (at-remove-ear .remove-ear .result) (at-remove-ear .remove-ear .last .1 .1 .0) (at-remove-ear .remove-ear .ensures))
 
 pub bend-remove-ear-spec : {M : Type 1} → statement M
 bend-remove-ear-spec = tie.close (tie.spec remove-ear-requires pack-requires same-length returns)

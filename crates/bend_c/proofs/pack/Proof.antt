@@ -9,7 +9,9 @@ enum-known-w : tie.Need-enum-known-w
 enum-known-w c = search needs
 
 mul-result : tie.Need-mul-result
-mul-result c = omega (arith, packed-fits (c .before .before .before .args .w) _ (c .before .before .before .pre) (c .before .w .given .1))
+mul-result c =
+    let start = c .before .before .before in
+    omega (arith, packed-fits (start .args .w) _ (start .pre) (c .before .w .given .1))
 
 enum-known-w-2 : tie.Need-enum-known-w-2
 enum-known-w-2 c = search needs

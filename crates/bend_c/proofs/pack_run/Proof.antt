@@ -9,16 +9,28 @@ enum-known-r : tie.Need-enum-known-r
 enum-known-r c = search needs
 
 returns : tie.Need-returns
-returns c = packed-first (c .before .before .before .before .args .r) _ _ (c .before .before .r .given .1) (c .if1 .taken)
+returns c =
+    let at-r = c .before .before in
+    let start = at-r .before .before in
+    packed-first (start .args .r) _ _ (at-r .r .given .1) (c .if1 .taken)
 
 mul-result : tie.Need-mul-result
-mul-result c = omega (arith, told-fits (c .before .before .before .before .args .r) _ _ (c .before .before .before .before .pre) (c .before .before .r .given .1) .0)
+mul-result c =
+    let at-r = c .before .before in
+    let start = at-r .before .before in
+    omega (arith, told-fits (start .args .r) _ _ (start .pre) (at-r .r .given .1) .0)
 
 mul-result-2 : tie.Need-mul-result-2
-mul-result-2 c = omega (arith, told-fits (c .before .before .before .before .args .r) _ _ (c .before .before .before .before .pre) (c .before .before .r .given .1) .1 (c .if1 .left))
+mul-result-2 c =
+    let at-r = c .before .before in
+    let start = at-r .before .before in
+    omega (arith, told-fits (start .args .r) _ _ (start .pre) (at-r .r .given .1) .1 (c .if1 .left))
 
 add-result : tie.Need-add-result
-add-result c = omega (arith, told-fits (c .before .before .before .before .args .r) _ _ (c .before .before .before .before .pre) (c .before .before .r .given .1) .0, told-fits (c .before .before .before .before .args .r) _ _ (c .before .before .before .before .pre) (c .before .before .r .given .1) .1 (c .if1 .left))
+add-result c =
+    let at-r = c .before .before in
+    let start = at-r .before .before in
+    omega (arith, told-fits (start .args .r) _ _ (start .pre) (at-r .r .given .1) .0, told-fits (start .args .r) _ _ (start .pre) (at-r .r .given .1) .1 (c .if1 .left))
 
 enum-known-r-2 : tie.Need-enum-known-r-2
 enum-known-r-2 c = search needs
@@ -27,7 +39,10 @@ cast-result : tie.Need-cast-result
 cast-result c = search needs
 
 returns-2 : tie.Need-returns-2
-returns-2 c = packed-buffer (c .before .before .before .before .args .r) _ _ (c .before .before .r .given .1) (c .if1 .left)
+returns-2 c =
+    let at-r = c .before .before in
+    let start = at-r .before .before in
+    packed-buffer (start .args .r) _ _ (at-r .r .given .1) (c .if1 .left)
 
 returns-3 : tie.Need-returns-3
 returns-3 c = packed-refused (c .before .before .before .args .r) _ (c .before .r2 .given .1)

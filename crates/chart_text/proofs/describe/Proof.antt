@@ -30,22 +30,44 @@ enum-known-h : tie.Need-enum-known-h
 enum-known-h c = search needs
 
 sub-m : tie.Need-sub-m
-sub-m c = omega (arith, (held-fits (c .before .before .before .before .before .read-part .result) _ _ (c .before .before .before .before .before .read-part .ensures .1) (c .before .before .h .given .1)) .least)
+sub-m c =
+    let at-h = c .before .before in
+    let at-read-part = at-h .before .before .before in
+    omega (arith, (held-fits (at-read-part .read-part .result) _ _ (at-read-part .read-part .ensures .1) (at-h .h .given .1)) .least)
 
 array-share-prefix-keys : tie.Need-array-share-prefix-keys
-array-share-prefix-keys c = omega (arith, (held-fits (c .before .before .before .before .before .read-part .result) _ _ (c .before .before .before .before .before .read-part .ensures .1) (c .before .before .h .given .1)) .most)
+array-share-prefix-keys c =
+    let at-h = c .before .before in
+    let at-read-part = at-h .before .before .before in
+    omega (arith, (held-fits (at-read-part .read-part .result) _ _ (at-read-part .read-part .ensures .1) (at-h .h .given .1)) .most)
 
 slice-aggregate-describe-part : tie.Need-slice-aggregate-describe-part
-slice-aggregate-describe-part c = sym (length-take-le (c .before .before .before .h .given .0 .0 .n - 3) (c .before .before .before .before .before .before .read-part .last .1 .0) (omega (arith, (held-fits (c .before .before .before .before .before .before .read-part .result) _ _ (c .before .before .before .before .before .before .read-part .ensures .1) (c .before .before .before .h .given .1)) .most, c .before .before .before .before .before .before .read-part .kept)))
+slice-aggregate-describe-part c =
+    let at-h = c .before .before .before in
+    let at-read-part = at-h .before .before .before in
+    sym (length-take-le (at-h .h .given .0 .0 .n - 3) (at-read-part .read-part .last .1 .0) (omega (arith, (held-fits (at-read-part .read-part .result) _ _ (at-read-part .read-part .ensures .1) (at-h .h .given .1)) .most, at-read-part .read-part .kept)))
 
 describe-part-requires : tie.Need-describe-part-requires
-describe-part-requires c κs = (held-valid (c .before .before .before .before .before .before .before .before .before .before .args .chart .now) (c .before .before .before .before .before .before .before .read-part .result) (c .before .before .before .before .before .before .before .read-part .last .1 .0) (c .before .before .before .before .h .given .0 .0) (c .before .before .before .before .before .before .before .read-part .ensures .0) (c .before .before .before .before .h .given .1) (all-at 0 (c .before .before .before .before .before .before .before .before .before .before .args .chart .now) (λ i h. omega (arith, c .before .before .before .before .before .before .before .before .before .shared-slice-known .given i))), (held-bars (c .before .before .before .before .before .before .before .before .before .before .args .chart .now) (c .before .before .before .before .before .before .before .read-part .result) (c .before .before .before .before .before .before .before .read-part .last .1 .0) (c .before .before .before .before .h .given .0 .0) (c .before .before .before .before .before .before .before .read-part .ensures .0) (c .before .before .before .before .h .given .1), omega arith))
+describe-part-requires c κs =
+    let at-h = c .before .before .before .before in
+    let at-read-part = at-h .before .before .before in
+    let at-shared-slice-known = at-read-part .before .before in
+    let start = at-shared-slice-known .before in
+    (held-valid (start .args .chart .now) (at-read-part .read-part .result) (at-read-part .read-part .last .1 .0) (at-h .h .given .0 .0) (at-read-part .read-part .ensures .0) (at-h .h .given .1) (all-at 0 (start .args .chart .now) (λ i h. omega (arith, at-shared-slice-known .shared-slice-known .given i))), (held-bars (start .args .chart .now) (at-read-part .read-part .result) (at-read-part .read-part .last .1 .0) (at-h .h .given .0 .0) (at-read-part .read-part .ensures .0) (at-h .h .given .1), omega arith))
 
 returns : tie.Need-returns
-returns c = (rw (← refused-described (c .before .before .before .before .before .before .before .before .before .args .chart .now) (c .before .before .before .before .before .before .read-part .result) (c .before .before .before .before .before .before .read-part .last .1 .0) _ (c .before .before .before .before .before .before .read-part .ensures .0) (c .before .before .before .k .given .1)) (c .put-refused .ensures), omega (arith, c .put-refused .ensures .end, refused-size (c .before .before .before .k .given .0 .0)))
+returns c =
+    let at-k = c .before .before .before in
+    let at-read-part = at-k .before .before .before in
+    let start = at-read-part .before .before .before in
+    (rw (← refused-described (start .args .chart .now) (at-read-part .read-part .result) (at-read-part .read-part .last .1 .0) _ (at-read-part .read-part .ensures .0) (at-k .k .given .1)) (c .put-refused .ensures), omega (arith, c .put-refused .ensures .end, refused-size (at-k .k .given .0 .0)))
 
 returns-2 : tie.Need-returns-2
-returns-2 c = (rw (← held-described (c .before .before .before .before .before .before .before .before .before .before .before .args .chart .now) (c .before .before .before .before .before .before .before .before .read-part .result) (c .before .before .before .before .before .before .before .before .read-part .last .1 .0) (c .before .before .before .before .before .h .given .0 .0) (c .before .before .before .before .before .before .before .before .read-part .ensures .0) (c .before .before .before .before .before .h .given .1)) (c .describe-part .ensures .0), c .describe-part .ensures .1)
+returns-2 c =
+    let at-h = c .before .before .before .before .before in
+    let at-read-part = at-h .before .before .before in
+    let start = at-read-part .before .before .before in
+    (rw (← held-described (start .args .chart .now) (at-read-part .read-part .result) (at-read-part .read-part .last .1 .0) (at-h .h .given .0 .0) (at-read-part .read-part .ensures .0) (at-h .h .given .1)) (c .describe-part .ensures .0), c .describe-part .ensures .1)
 
 pub describe-spec : {M : Type 1} → statement M
 describe-spec = tie.close (tie.spec slice-aggregate-read-part read-part-requires enum-known-k cast-put-refused put-refused-requires enum-known-h sub-m array-share-prefix-keys slice-aggregate-describe-part describe-part-requires returns returns-2)

@@ -14,16 +14,28 @@ part-line-requires : tie.Need-part-line-requires
 part-line-requires c κs = search needs
 
 put-corners-requires : tie.Need-put-corners-requires
-put-corners-requires c κs = (omega (arith, c .before .before .before .part-line .ensures .end, c .before .before .before .part-line .kept .1 .1 .0, c .before .before .before .before .before .before .before .before .pre .1 .1, line-size (factsOf (partOf (c .before .before .before .before .before .before .before .before .args .h) (c .before .before .before .before .before .before .before .before .args .keys .now))), c .before .before .before .before .before .before .before .before .pre .0 .triangulated .full, length-map (c .before .before .before .before .before .before .before .before .args .keys .now) edgeOf, c .before .before .before .before .before .before .before .before .pre .0 .most), c .before .before .before .before .before .before .before .before .pre .1 .0)
+put-corners-requires c κs =
+    let at-part-line = c .before .before .before in
+    let start = at-part-line .before .before .before .before .before in
+    (omega (arith, at-part-line .part-line .ensures .end, at-part-line .part-line .kept .1 .1 .0, start .pre .1 .1, line-size (factsOf (partOf (start .args .h) (start .args .keys .now))), start .pre .0 .triangulated .full, length-map (start .args .keys .now) edgeOf, start .pre .0 .most), start .pre .1 .0)
 
 put-diagonals-requires : tie.Need-put-diagonals-requires
-put-diagonals-requires c κs = omega (arith, c .before .before .before .put-corners .ensures .1, c .before .before .before .put-corners .kept .0, c .before .before .before .before .before .before .before .part-line .ensures .end, c .before .before .before .before .before .before .before .part-line .kept .1 .1 .0, c .before .before .before .before .before .before .before .before .before .before .before .before .pre .1 .1, line-size (factsOf (partOf (c .before .before .before .before .before .before .before .before .before .before .before .before .args .h) (c .before .before .before .before .before .before .before .before .before .before .before .before .args .keys .now))), c .before .before .before .before .before .before .before .before .before .before .before .before .pre .0 .triangulated .full, length-map (c .before .before .before .before .before .before .before .before .before .before .before .before .args .keys .now) edgeOf, c .before .before .before .before .before .before .before .before .before .before .before .before .pre .0 .most)
+put-diagonals-requires c κs =
+    let at-put-corners = c .before .before .before in
+    let at-part-line = at-put-corners .before .before .before .before in
+    let start = at-part-line .before .before .before .before .before in
+    omega (arith, at-put-corners .put-corners .ensures .1, at-put-corners .put-corners .kept .0, at-part-line .part-line .ensures .end, at-part-line .part-line .kept .1 .1 .0, start .pre .1 .1, line-size (factsOf (partOf (start .args .h) (start .args .keys .now))), start .pre .0 .triangulated .full, length-map (start .args .keys .now) edgeOf, start .pre .0 .most)
 
 same-length : tie.Need-same-length
 same-length c = search needs
 
 returns : tie.Need-returns
-returns c = (put-then (c .before .before .before .before .before .before .before .before .before .before .part-line .ensures) (put-then (c .before .before .before .before .before .before .put-corners .ensures .0) (c .before .before .put-diagonals .ensures .0)), omega (arith, c .before .before .put-diagonals .ensures .1, c .before .before .before .before .before .before .put-corners .ensures .1, c .before .before .before .before .before .before .before .before .before .before .part-line .ensures .end, c .before .before .before .before .before .before .before .before .before .before .part-line .kept .1 .1 .0, c .before .before .before .before .before .before .before .before .before .before .before .before .before .before .before .pre .1 .1, line-size (factsOf (partOf (c .before .before .before .before .before .before .before .before .before .before .before .before .before .before .before .args .h) (c .before .before .before .before .before .before .before .before .before .before .before .before .before .before .before .args .keys .now))), c .before .before .before .before .before .before .before .before .before .before .before .before .before .before .before .pre .0 .triangulated .full, length-map (c .before .before .before .before .before .before .before .before .before .before .before .before .before .before .before .args .keys .now) edgeOf, c .before .before .before .before .before .before .before .before .before .before .before .before .before .before .before .pre .0 .most))
+returns c =
+    let at-put-diagonals = c .before .before in
+    let at-put-corners = at-put-diagonals .before .before .before .before in
+    let at-part-line = at-put-corners .before .before .before .before in
+    let start = at-part-line .before .before .before .before .before in
+    (put-then (at-part-line .part-line .ensures) (put-then (at-put-corners .put-corners .ensures .0) (at-put-diagonals .put-diagonals .ensures .0)), omega (arith, at-put-diagonals .put-diagonals .ensures .1, at-put-corners .put-corners .ensures .1, at-part-line .part-line .ensures .end, at-part-line .part-line .kept .1 .1 .0, start .pre .1 .1, line-size (factsOf (partOf (start .args .h) (start .args .keys .now))), start .pre .0 .triangulated .full, length-map (start .args .keys .now) edgeOf, start .pre .0 .most))
 
 pub describe-part-spec : {M : Type 1} → statement M
 describe-part-spec = tie.close (tie.spec part-line-requires put-corners-requires put-diagonals-requires same-length returns)

@@ -49,13 +49,29 @@ slice-aggregate-put-word : tie.Need-slice-aggregate-put-word
 slice-aggregate-put-word c = search needs
 
 put-word-requires : tie.Need-put-word-requires
-put-word-requires c κs = omega (arith, c .before .before .before .before .before .before .before .before .before .before .before .before .before .before .before .before .before .before .before .before .before .before .before .before .before .before .before .pre, c .before .before .before .before .before .before .before .before .before .before .before .before .before .before .before .before .before .before .before .put-field .ensures .1, c .before .before .before .before .before .before .before .before .before .before .before .before .before .before .before .before .before .before .before .put-field .kept .0, c .before .before .before .before .before .before .before .before .before .before .before .before .before .before .put-field2 .ensures .1, c .before .before .before .before .before .before .before .before .before .before .before .before .before .before .put-field2 .kept .0, c .before .before .before .before .before .before .before .before .before .put-field3 .ensures .1, c .before .before .before .before .before .before .before .before .before .put-field3 .kept .0, c .before .before .before .before .put-field4 .ensures .1, c .before .before .before .before .put-field4 .kept .0)
+put-word-requires c κs =
+    let at-put-field4 = c .before .before .before .before in
+    let at-put-field3 = at-put-field4 .before .before .before .before .before in
+    let at-put-field2 = at-put-field3 .before .before .before .before .before in
+    let at-put-field = at-put-field2 .before .before .before .before .before in
+    let start = at-put-field .before .before .before .before .before .before .before .before in
+    omega (arith, start .pre, at-put-field .put-field .ensures .1, at-put-field .put-field .kept .0, at-put-field2 .put-field2 .ensures .1, at-put-field2 .put-field2 .kept .0, at-put-field3 .put-field3 .ensures .1, at-put-field3 .put-field3 .kept .0, at-put-field4 .put-field4 .ensures .1, at-put-field4 .put-field4 .kept .0)
 
 same-length : tie.Need-same-length
 same-length c = search needs
 
 returns : tie.Need-returns
-returns c = (corner-put (c .before .before .before .before .before .before .before .before .before .before .before .before .before .before .before .before .before .before .before .before .before .before .before .before .before .before .before .before .before .before .args .chart .now) (c .before .before .before .before .before .before .before .before .before .before .before .before .before .before .before .before .before .before .before .before .before .before .before .before .before .before .before .before .before .before .args .bar) (c .before .before .before .before .before .before .before .before .before .before .before .before .before .before .before .before .before .before .before .before .before .before .before .before .before .before .before .before .before .before .args .corner) (c .before .before .before .before .before .before .before .before .before .before .before .before .before .before .before .before .before .before .before .before .before .before .before .before .before .before .before .get16 .result) (c .before .before .before .before .before .before .before .before .before .before .before .before .before .before .before .before .before .before .before .before .before .before .before .before .before .before .get162 .result) (c .before .before .before .before .before .before .before .before .before .before .before .before .before .before .before .before .before .before .before .before .before .before .before .before .before .get163 .result) (c .before .before .before .before .before .before .before .before .before .before .before .before .before .before .before .before .before .before .before .before .before .before .before .before .before .before .before .get16 .ensures .0) (c .before .before .before .before .before .before .before .before .before .before .before .before .before .before .before .before .before .before .before .before .before .before .before .before .before .before .get162 .ensures .0) (c .before .before .before .before .before .before .before .before .before .before .before .before .before .before .before .before .before .before .before .before .before .before .before .before .before .get163 .ensures .0) (put-then (c .before .before .before .before .before .before .before .before .before .before .before .before .before .before .before .before .before .before .before .before .before .before .put-field .ensures .0) (put-then (c .before .before .before .before .before .before .before .before .before .before .before .before .before .before .before .before .before .put-field2 .ensures .0) (put-then (c .before .before .before .before .before .before .before .before .before .before .before .before .put-field3 .ensures .0) (put-then (c .before .before .before .before .before .before .before .put-field4 .ensures .0) (c .before .before .put-word .ensures))))), omega (arith, c .before .before .put-word .ensures .end, c .before .before .before .before .before .before .before .before .before .before .before .before .before .before .before .before .before .before .before .before .before .before .put-field .ensures .1, c .before .before .before .before .before .before .before .before .before .before .before .before .before .before .before .before .before .put-field2 .ensures .1, c .before .before .before .before .before .before .before .before .before .before .before .before .put-field3 .ensures .1, c .before .before .before .before .before .before .before .put-field4 .ensures .1))
+returns c =
+    let at-put-word = c .before .before in
+    let at-put-field4 = at-put-word .before .before .before .before .before in
+    let at-put-field3 = at-put-field4 .before .before .before .before .before in
+    let at-put-field2 = at-put-field3 .before .before .before .before .before in
+    let at-put-field = at-put-field2 .before .before .before .before .before in
+    let at-get163 = at-put-field .before .before .before in
+    let at-get162 = at-get163 .before in
+    let at-get16 = at-get162 .before in
+    let start = at-get16 .before .before .before in
+    (corner-put (start .args .chart .now) (start .args .bar) (start .args .corner) (at-get16 .get16 .result) (at-get162 .get162 .result) (at-get163 .get163 .result) (at-get16 .get16 .ensures .0) (at-get162 .get162 .ensures .0) (at-get163 .get163 .ensures .0) (put-then (at-put-field .put-field .ensures .0) (put-then (at-put-field2 .put-field2 .ensures .0) (put-then (at-put-field3 .put-field3 .ensures .0) (put-then (at-put-field4 .put-field4 .ensures .0) (at-put-word .put-word .ensures))))), omega (arith, at-put-word .put-word .ensures .end, at-put-field .put-field .ensures .1, at-put-field2 .put-field2 .ensures .1, at-put-field3 .put-field3 .ensures .1, at-put-field4 .put-field4 .ensures .1))
 
 pub put-corner-spec : {M : Type 1} → statement M
 put-corner-spec = tie.close (tie.spec get16-requires add-get16 get16-requires-2 add-get16-2 get16-requires-3 slice-aggregate-put-field put-field-requires slice-aggregate-put-field-2 put-field-requires-2 slice-aggregate-put-field-3 put-field-requires-3 slice-aggregate-put-field-4 put-field-requires-4 slice-aggregate-put-word put-word-requires same-length returns)

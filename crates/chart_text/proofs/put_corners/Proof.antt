@@ -16,7 +16,9 @@ abbrev μ-loop : tie.MeasureT-loop
 μ-loop out₀ at chart n end₀ x₀ out end x = n - x
 
 loop-holds : tie.Need-loop-holds Inv-loop μ-loop
-loop-holds c = (omega arith, refl, omega arith, corners-none (c .before .before .args .chart .now) (c .before .before .args .out .now) (c .before .before .args .at))
+loop-holds c =
+    let start = c .before .before in
+    (omega arith, refl, omega arith, corners-none (start .args .chart .now) (start .args .out .now) (start .args .at))
 
 mul-put-corner : tie.Need-mul-put-corner Inv-loop μ-loop
 mul-put-corner c = omega arith
@@ -25,7 +27,10 @@ add-put-corner : tie.Need-add-put-corner Inv-loop μ-loop
 add-put-corner c = omega arith
 
 put-corner-requires : tie.Need-put-corner-requires Inv-loop μ-loop
-put-corner-requires c κs = omega (arith, c .before .before .loop .inv, c .before .before .before .before .before .pre .0, c .before .before .before .before .before .pre .1)
+put-corner-requires c κs =
+    let at-loop = c .before .before in
+    let start = at-loop .before .before .before in
+    omega (arith, at-loop .loop .inv, start .pre .0, start .pre .1)
 
 add-x : tie.Need-add-x Inv-loop μ-loop
 add-x c = omega arith
@@ -34,13 +39,19 @@ loop-less : tie.Need-loop-less Inv-loop μ-loop
 loop-less c = omega arith
 
 loop-again : tie.Need-loop-again Inv-loop μ-loop
-loop-again c = (omega arith, omega (arith, c .before .before .put-corner .kept .0, c .before .before .before .before .before .loop .inv .1), omega (arith, c .before .before .put-corner .ensures .1, c .before .before .before .before .before .loop .inv .2), corners-more (c .before .before .before .before .before .before .before .before .args .chart .now) (c .before .before .before .before .before .loop .x) (c .before .before .before .before .before .loop .inv .3) (c .before .before .put-corner .ensures .0))
+loop-again c =
+    let at-put-corner = c .before .before in
+    let at-loop = at-put-corner .before .before .before in
+    let start = at-loop .before .before .before in
+    (omega arith, omega (arith, at-put-corner .put-corner .kept .0, at-loop .loop .inv .1), omega (arith, at-put-corner .put-corner .ensures .1, at-loop .loop .inv .2), corners-more (start .args .chart .now) (at-loop .loop .x) (at-loop .loop .inv .3) (at-put-corner .put-corner .ensures .0))
 
 same-length : tie.Need-same-length Inv-loop μ-loop
 same-length c = c .before .loop .inv .1
 
 returns : tie.Need-returns Inv-loop μ-loop
-returns c = let e : c .before .loop .x ≡ countIn (c .before .before .before .before .args .chart .now) = omega (arith, c .before .before .before .before .pre .1 .count) in (rw (corners-all (c .before .before .before .before .args .chart .now) (c .before .loop .x) e) at (c .before .loop .inv .3), omega arith)
+returns c =
+    let start = c .before .before .before .before in
+    let e : c .before .loop .x ≡ countIn (start .args .chart .now) = omega (arith, start .pre .1 .count) in (rw (corners-all (start .args .chart .now) (c .before .loop .x) e) at (c .before .loop .inv .3), omega arith)
 
 pub put-corners-spec : {M : Type 1} → statement M
 put-corners-spec = tie.close (tie.spec Inv-loop μ-loop loop-holds mul-put-corner add-put-corner put-corner-requires add-x loop-less loop-again same-length returns)

@@ -34,7 +34,14 @@ same-length : tie.Need-same-length
 same-length c = search needs
 
 returns : tie.Need-returns
-returns c = (diagonal-put (c .before .before .before .before .before .before .before .before .before .before .before .before .before .before .before .before .before .before .args .key) (c .before .before .before .before .before .before .before .before .before .before .before .before .before .before .low .result) (c .before .before .before .before .before .before .before .before .high .result) (c .before .before .before .before .before .before .before .before .before .before .before .before .before .before .low .ensures) (c .before .before .before .before .before .before .before .before .high .ensures .0) (put-then (c .before .before .before .before .before .before .before .before .before .before .before .before .before .put-field .ensures .0) (put-then (c .before .before .before .before .before .before .before .put-field2 .ensures .0) (c .before .before .put-word .ensures))), omega (arith, c .before .before .put-word .ensures .end, c .before .before .before .before .before .before .before .before .before .before .before .before .before .put-field .ensures .1, c .before .before .before .before .before .before .before .put-field2 .ensures .1))
+returns c =
+    let at-put-word = c .before .before in
+    let at-put-field2 = at-put-word .before .before .before .before .before in
+    let at-high = at-put-field2 .before in
+    let at-put-field = at-high .before .before .before .before .before in
+    let at-low = at-put-field .before in
+    let start = at-low .before .before .before .before in
+    (diagonal-put (start .args .key) (at-low .low .result) (at-high .high .result) (at-low .low .ensures) (at-high .high .ensures .0) (put-then (at-put-field .put-field .ensures .0) (put-then (at-put-field2 .put-field2 .ensures .0) (at-put-word .put-word .ensures))), omega (arith, at-put-word .put-word .ensures .end, at-put-field .put-field .ensures .1, at-put-field2 .put-field2 .ensures .1))
 
 pub put-diagonal-spec : {M : Type 1} → statement M
 put-diagonal-spec = tie.close (tie.spec slice-aggregate-put-field low-requires put-field-requires slice-aggregate-put-field-2 high-requires put-field-requires-2 slice-aggregate-put-word put-word-requires same-length returns)

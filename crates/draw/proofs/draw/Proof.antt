@@ -20,13 +20,19 @@ same-length : tie.Need-same-length
 same-length c = search needs
 
 returns : tie.Need-returns
-returns c = without-bars (c .before .before .before .before .before .before .before .before .before .args .sheet .now) (c .before .before .before .before .before .before .before .before .before .args .out .now) (c .before .before .before .before .before .draw-for .last .1 .0) (c .before .before .before .before .before .draw-for .result) (c .before .before .before .before .before .draw-for .ensures .0) _ (λ bars. ap (λ (d : Drawn). drawing d (c .before .before .before .before .before .draw-for .last .1 .0) bars .answer) (c .before .k .given .1))
+returns c =
+    let at-draw-for = c .before .before .before .before .before in
+    let start = at-draw-for .before .before .before .before in
+    without-bars (start .args .sheet .now) (start .args .out .now) (at-draw-for .draw-for .last .1 .0) (at-draw-for .draw-for .result) (at-draw-for .draw-for .ensures .0) _ (λ bars. ap (λ (d : Drawn). drawing d (at-draw-for .draw-for .last .1 .0) bars .answer) (c .before .k .given .1))
 
 same-length-2 : tie.Need-same-length-2
 same-length-2 c = search needs
 
 returns-2 : tie.Need-returns-2
-returns-2 c = without-bars (c .before .before .before .before .before .before .before .before .before .args .sheet .now) (c .before .before .before .before .before .before .before .before .before .args .out .now) (c .before .before .before .before .before .draw-for .last .1 .0) (c .before .before .before .before .before .draw-for .result) (c .before .before .before .before .before .draw-for .ensures .0) _ (λ bars. ap (λ (d : Drawn). drawing d (c .before .before .before .before .before .draw-for .last .1 .0) bars .answer) (c .before .size .given .1))
+returns-2 c =
+    let at-draw-for = c .before .before .before .before .before in
+    let start = at-draw-for .before .before .before .before in
+    without-bars (start .args .sheet .now) (start .args .out .now) (at-draw-for .draw-for .last .1 .0) (at-draw-for .draw-for .result) (at-draw-for .draw-for .ensures .0) _ (λ bars. ap (λ (d : Drawn). drawing d (at-draw-for .draw-for .last .1 .0) bars .answer) (c .before .size .given .1))
 
 pub draw-spec : {M : Type 1} → statement M
 draw-spec = tie.close (tie.spec draw-for-requires enum-known-k enum-known-size same-length returns same-length-2 returns-2)

@@ -26,10 +26,15 @@ use Rattle.sheet.proofs.reader.read_sheet.Reads as read-sheet-reads
 
 -- where a part was read: its head and its keys
 fits : (c : lts.After-known-told2 (read-sheet-reads.Asked, read-sheet-reads.Learnt, draw-part-reads.Asked, draw-part-reads.Learnt) reads.Pre reads.Post) → Fitting (c .before .h .given .0 .0) (c .before .before .before .before .read-sheet .last .1 .0)
-fits c = held-fits (c .before .before .before .before .read-sheet .result) _ _ (c .before .before .before .before .read-sheet .ensures .1) (c .before .h .given .1)
+fits c =
+    let at-read-sheet = c .before .before .before .before in
+    held-fits (at-read-sheet .read-sheet .result) _ _ (at-read-sheet .read-sheet .ensures .1) (c .before .h .given .1)
 
 part : (c : lts.After-known-told2 (read-sheet-reads.Asked, read-sheet-reads.Learnt, draw-part-reads.Asked, draw-part-reads.Learnt) reads.Pre reads.Post) → readSheet (c .before .before .before .before .before .before .before .before .args .sheet .now) ≡ held (polygonOf (c .before .h .given .0 .0) (c .before .before .before .before .read-sheet .last .1 .0))
-part c = read-held (c .before .before .before .before .before .before .before .before .args .sheet .now) (c .before .before .before .before .read-sheet .result) (c .before .before .before .before .read-sheet .last .1 .0) (c .before .h .given .0 .0) (c .before .before .before .before .read-sheet .ensures .0) (c .before .h .given .1)
+part c =
+    let at-read-sheet = c .before .before .before .before in
+    let start = at-read-sheet .before .before .before .before in
+    read-held (start .args .sheet .now) (at-read-sheet .read-sheet .result) (at-read-sheet .read-sheet .last .1 .0) (c .before .h .given .0 .0) (at-read-sheet .read-sheet .ensures .0) (c .before .h .given .1)
 
 slice-aggregate-read-sheet : tie.Need-slice-aggregate-read-sheet
 slice-aggregate-read-sheet c = search needs
@@ -47,16 +52,25 @@ sub-m : tie.Need-sub-m
 sub-m c = omega (arith, fits c .least)
 
 returns : tie.Need-returns
-returns c = (for-few (c .before .before .before .before .before .before .before .before .before .args .sheet .now) (c .before .before .before .before .before .before .before .before .before .args .out .now) (c .before .before .before .before .before .before .before .before .before .args .room) _ (part (c .before)) (c .if1 .taken), tt)
+returns c =
+    let start = c .before .before .before .before .before .before .before .before .before in
+    (for-few (start .args .sheet .now) (start .args .out .now) (start .args .room) _ (part (c .before)) (c .if1 .taken), tt)
 
 array-share-prefix-keys : tie.Need-array-share-prefix-keys
 array-share-prefix-keys c = omega (arith, fits (c .before) .most)
 
 slice-aggregate-draw-part : tie.Need-slice-aggregate-draw-part
-slice-aggregate-draw-part c = sym (length-take-le (c .before .before .before .h .given .0 .0 .n - 3) (c .before .before .before .before .before .before .read-sheet .last .1 .0) (omega (arith, fits (c .before .before) .most, c .before .before .before .before .before .before .read-sheet .kept)))
+slice-aggregate-draw-part c =
+    let at-read = c .before .before in
+    let at-h = at-read .before in
+    let at-read-sheet = at-h .before .before .before in
+    sym (length-take-le (at-h .h .given .0 .0 .n - 3) (at-read-sheet .read-sheet .last .1 .0) (omega (arith, fits at-read .most, at-read-sheet .read-sheet .kept)))
 
 draw-part-requires : tie.Need-draw-part-requires
-draw-part-requires c κs = (read-triangulated (c .before .before .before .before .before .before .before .before .before .before .before .args .sheet .now) _ (part (c .before .before .before)), (omega (arith, fits (c .before .before .before) .least), omega (arith, fits (c .before .before .before) .most)))
+draw-part-requires c κs =
+    let at-read = c .before .before .before in
+    let start = at-read .before .before .before .before .before .before .before .before in
+    (read-triangulated (start .args .sheet .now) _ (part at-read), (omega (arith, fits at-read .least), omega (arith, fits at-read .most)))
 
 -- the answer of draw_part, in its case w
 drew : (c : lts.After-draw-part (read-sheet-reads.Asked, read-sheet-reads.Learnt, draw-part-reads.Asked, draw-part-reads.Learnt) reads.Pre reads.Post) (w : Written) → c .draw-part .result ≡ w → answered w (c .draw-part .last .1 .1 .0) ≡ written (write (bytesOf (chart (best (treeOf (c .before .before .before .before .before .h .given .0 .0 .n) (edgesOf (take (c .before .before .before .before .before .h .given .0 .0 .n - 3) (c .before .before .before .before .before .before .before .before .read-sheet .last .1 .0)))))))) (c .before .before .before .before .before .before .before .before .before .before .before .before .args .out .now)
@@ -69,19 +83,32 @@ enum-known-size : tie.Need-enum-known-size
 enum-known-size c = search needs
 
 returns-2 : tie.Need-returns-2
-returns-2 c = (for-refused (c .before .before .before .before .before .before .before .before .args .sheet .now) (c .before .before .before .before .before .before .before .before .args .out .now) (c .before .before .before .before .before .before .before .before .args .room) _ (read-refused (c .before .before .before .before .before .before .before .before .args .sheet .now) (c .before .before .before .before .read-sheet .result) (c .before .before .before .before .read-sheet .last .1 .0) _ (c .before .before .before .before .read-sheet .ensures .0) (c .before .k .given .1)), tt)
+returns-2 c =
+    let at-read-sheet = c .before .before .before .before in
+    let start = at-read-sheet .before .before .before .before in
+    (for-refused (start .args .sheet .now) (start .args .out .now) (start .args .room) _ (read-refused (start .args .sheet .now) (at-read-sheet .read-sheet .result) (at-read-sheet .read-sheet .last .1 .0) _ (at-read-sheet .read-sheet .ensures .0) (c .before .k .given .1)), tt)
 
 same-length : tie.Need-same-length
 same-length c = search needs
 
 returns-3 : tie.Need-returns-3
-returns-3 c = (for-none (c .before .before .before .before .before .before .before .before .before .before .before .before .before .before .before .before .before .args .sheet .now) (c .before .before .before .before .before .before .before .before .before .before .before .before .before .before .before .before .before .args .out .now) (c .before .before .before .before .before .before .before .before .before .before .before .before .before .before .before .before .before .args .room) _ (part (c .before .before .before .before .before .before .before .before .before)) (c .before .before .before .before .before .before .before .before .if1 .left) (c .before .before .before .before .before .draw-part .last .1 .1 .0) (c .before .k2 .given .0 .0) (drew (c .before .before .before .before .before) _ (c .before .k2 .given .1)), tt)
+returns-3 c =
+    let at-draw-part = c .before .before .before .before .before in
+    let at-if1 = at-draw-part .before .before .before in
+    let at-read = at-if1 .before in
+    let start = at-read .before .before .before .before .before .before .before .before in
+    (for-none (start .args .sheet .now) (start .args .out .now) (start .args .room) _ (part at-read) (at-if1 .if1 .left) (at-draw-part .draw-part .last .1 .1 .0) (c .before .k2 .given .0 .0) (drew at-draw-part _ (c .before .k2 .given .1)), tt)
 
 same-length-2 : tie.Need-same-length-2
 same-length-2 c = search needs
 
 returns-4 : tie.Need-returns-4
-returns-4 c = (for-chart (c .before .before .before .before .before .before .before .before .before .before .before .before .before .before .before .before .before .args .sheet .now) (c .before .before .before .before .before .before .before .before .before .before .before .before .before .before .before .before .before .args .out .now) (c .before .before .before .before .before .before .before .before .before .before .before .before .before .before .before .before .before .args .room) _ (part (c .before .before .before .before .before .before .before .before .before)) (c .before .before .before .before .before .before .before .before .if1 .left) (c .before .before .before .before .before .draw-part .last .1 .1 .0) (c .before .size .given .0 .0) (drew (c .before .before .before .before .before) _ (c .before .size .given .1)), chart-fits (c .before .before .before .before .before .before .before .before .before .before .before .before .before .before .before .before .before .args .sheet .now) (c .before .before .before .before .before .before .before .before .before .before .before .before .before .before .before .before .before .args .out .now) (c .before .before .before .before .before .before .before .before .before .before .before .before .before .before .before .before .before .args .room) _ (part (c .before .before .before .before .before .before .before .before .before)) (c .before .before .before .before .before .before .before .before .if1 .left) (c .before .before .before .before .before .draw-part .last .1 .1 .0) (c .before .size .given .0 .0) (drew (c .before .before .before .before .before) _ (c .before .size .given .1)))
+returns-4 c =
+    let at-draw-part = c .before .before .before .before .before in
+    let at-if1 = at-draw-part .before .before .before in
+    let at-read = at-if1 .before in
+    let start = at-read .before .before .before .before .before .before .before .before in
+    (for-chart (start .args .sheet .now) (start .args .out .now) (start .args .room) _ (part at-read) (at-if1 .if1 .left) (at-draw-part .draw-part .last .1 .1 .0) (c .before .size .given .0 .0) (drew at-draw-part _ (c .before .size .given .1)), chart-fits (start .args .sheet .now) (start .args .out .now) (start .args .room) _ (part at-read) (at-if1 .if1 .left) (at-draw-part .draw-part .last .1 .1 .0) (c .before .size .given .0 .0) (drew at-draw-part _ (c .before .size .given .1)))
 
 pub draw-for-spec : {M : Type 1} → statement M
 draw-for-spec = tie.close (tie.spec slice-aggregate-read-sheet read-sheet-requires enum-known-k enum-known-h sub-m returns array-share-prefix-keys slice-aggregate-draw-part draw-part-requires enum-known-k-2 enum-known-size returns-2 same-length returns-3 same-length-2 returns-4)

@@ -1,9 +1,8 @@
 -- The digits of n / 10 first, then the last one; the measure is n.
-use mathlib.Core.Path.{_≡_, ap, sym, _∙_}
+use mathlib.Core.Path.{ap, _∙_}
 use mathlib.Core.List.{[], _∷_}
-use Prim.Native.Nat.{_+_, _/_, _%_, _^_}
+use Prim.Native.Nat.{_+_, _/_, _%_}
 use native.Mathlib.Omega.{arith}
-use native.Mathlib.Numerals.{add-one}
 use lib.ListN.{length, length-set}
 use Rattle.codec.proofs.Stores.{sets-append}
 use Rattle.log_line.specs.Line.{digits}

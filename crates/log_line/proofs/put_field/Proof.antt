@@ -1,10 +1,9 @@
 -- The word, then the number.
-use mathlib.Core.Path.{_≡_, _∙_}
 use borrow.Author.Needs.{needs}
 use native.Mathlib.Omega.{arith}
 use Rattle.log_line.specs.Line.{decimal}
 use Rattle.log_line.proofs.Digits.{digits-length}
-use Rattle.log_line.proofs.Putting.{put-then, put-length}
+use Rattle.log_line.proofs.Putting.{put-then}
 use Rattle.log_line.proofs.put_field.Statement.{statement}
 use Rattle.log_line.proofs.put_field.Tie as tie
 

@@ -1,5 +1,4 @@
 -- The word, the number, the line's end.
-use mathlib.Core.Path.{_≡_}
 use borrow.Author.Needs.{needs}
 use native.Mathlib.Omega.{arith}
 use Rattle.log_line.proofs.Putting.{put-then, refused-put}

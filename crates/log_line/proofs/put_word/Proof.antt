@@ -1,9 +1,9 @@
 -- The loop's invariant: the first i bytes of the word are written.
 use Prim.Native.Nat.{_≤_, _-_}
-use mathlib.Core.Path.{_≡_, refl, ap, _∙_}
+use mathlib.Core.Path.{_≡_, refl, _∙_}
 use native.Mathlib.Omega.{arith}
 use lib.ListN.{length, take, length-set}
-use lib.Seq.{sets, length-sets, take-all}
+use lib.Seq.{sets, take-all}
 use Rattle.log_line.proofs.Putting.{word-next}
 use Rattle.log_line.proofs.put_word.Statement.{statement}
 use Rattle.log_line.proofs.put_word.Tie as tie

@@ -30,22 +30,44 @@ enum-known-h : tie.Need-enum-known-h
 enum-known-h c = search needs
 
 sub-m : tie.Need-sub-m
-sub-m c = omega (arith, (held-fits (c .before .before .before .before .before .read-sheet .result) _ _ (c .before .before .before .before .before .read-sheet .ensures .1) (c .before .before .h .given .1)) .least)
+sub-m c =
+    let at-h = c .before .before in
+    let at-read-sheet = at-h .before .before .before in
+    omega (arith, (held-fits (at-read-sheet .read-sheet .result) _ _ (at-read-sheet .read-sheet .ensures .1) (at-h .h .given .1)) .least)
 
 array-share-prefix-keys : tie.Need-array-share-prefix-keys
-array-share-prefix-keys c = omega (arith, (held-fits (c .before .before .before .before .before .read-sheet .result) _ _ (c .before .before .before .before .before .read-sheet .ensures .1) (c .before .before .h .given .1)) .most)
+array-share-prefix-keys c =
+    let at-h = c .before .before in
+    let at-read-sheet = at-h .before .before .before in
+    omega (arith, (held-fits (at-read-sheet .read-sheet .result) _ _ (at-read-sheet .read-sheet .ensures .1) (at-h .h .given .1)) .most)
 
 slice-aggregate-part-line : tie.Need-slice-aggregate-part-line
-slice-aggregate-part-line c = sym (length-take-le (c .before .before .before .h .given .0 .0 .n - 3) (c .before .before .before .before .before .before .read-sheet .last .1 .0) (omega (arith, (held-fits (c .before .before .before .before .before .before .read-sheet .result) _ _ (c .before .before .before .before .before .before .read-sheet .ensures .1) (c .before .before .before .h .given .1)) .most, c .before .before .before .before .before .before .read-sheet .kept)))
+slice-aggregate-part-line c =
+    let at-h = c .before .before .before in
+    let at-read-sheet = at-h .before .before .before in
+    sym (length-take-le (at-h .h .given .0 .0 .n - 3) (at-read-sheet .read-sheet .last .1 .0) (omega (arith, (held-fits (at-read-sheet .read-sheet .result) _ _ (at-read-sheet .read-sheet .ensures .1) (at-h .h .given .1)) .most, at-read-sheet .read-sheet .kept)))
 
 part-line-requires : tie.Need-part-line-requires
-part-line-requires c κs = (read-valid (c .before .before .before .before .before .before .before .before .before .before .args .sheet .now) _ (all-at 0 (c .before .before .before .before .before .before .before .before .before .before .args .sheet .now) (λ i h. omega (arith, c .before .before .before .before .before .before .before .before .before .shared-slice-known .given i))) (read-held (c .before .before .before .before .before .before .before .before .before .before .args .sheet .now) (c .before .before .before .before .before .before .before .read-sheet .result) (c .before .before .before .before .before .before .before .read-sheet .last .1 .0) (c .before .before .before .before .h .given .0 .0) (c .before .before .before .before .before .before .before .read-sheet .ensures .0) (c .before .before .before .before .h .given .1)), omega arith)
+part-line-requires c κs =
+    let at-h = c .before .before .before .before in
+    let at-read-sheet = at-h .before .before .before in
+    let at-shared-slice-known = at-read-sheet .before .before in
+    let start = at-shared-slice-known .before in
+    (read-valid (start .args .sheet .now) _ (all-at 0 (start .args .sheet .now) (λ i h. omega (arith, at-shared-slice-known .shared-slice-known .given i))) (read-held (start .args .sheet .now) (at-read-sheet .read-sheet .result) (at-read-sheet .read-sheet .last .1 .0) (at-h .h .given .0 .0) (at-read-sheet .read-sheet .ensures .0) (at-h .h .given .1)), omega arith)
 
 returns : tie.Need-returns
-returns c = rw (← refused-line (c .before .before .before .before .before .before .before .before .before .args .sheet .now) _ (read-refused (c .before .before .before .before .before .before .before .before .before .args .sheet .now) (c .before .before .before .before .before .before .read-sheet .result) (c .before .before .before .before .before .before .read-sheet .last .1 .0) _ (c .before .before .before .before .before .before .read-sheet .ensures .0) (c .before .before .before .k .given .1))) (c .put-refused .ensures)
+returns c =
+    let at-k = c .before .before .before in
+    let at-read-sheet = at-k .before .before .before in
+    let start = at-read-sheet .before .before .before in
+    rw (← refused-line (start .args .sheet .now) _ (read-refused (start .args .sheet .now) (at-read-sheet .read-sheet .result) (at-read-sheet .read-sheet .last .1 .0) _ (at-read-sheet .read-sheet .ensures .0) (at-k .k .given .1))) (c .put-refused .ensures)
 
 returns-2 : tie.Need-returns-2
-returns-2 c = rw (← held-line (c .before .before .before .before .before .before .before .before .before .before .before .args .sheet .now) _ (read-held (c .before .before .before .before .before .before .before .before .before .before .before .args .sheet .now) (c .before .before .before .before .before .before .before .before .read-sheet .result) (c .before .before .before .before .before .before .before .before .read-sheet .last .1 .0) (c .before .before .before .before .before .h .given .0 .0) (c .before .before .before .before .before .before .before .before .read-sheet .ensures .0) (c .before .before .before .before .before .h .given .1))) (c .part-line .ensures)
+returns-2 c =
+    let at-h = c .before .before .before .before .before in
+    let at-read-sheet = at-h .before .before .before in
+    let start = at-read-sheet .before .before .before in
+    rw (← held-line (start .args .sheet .now) _ (read-held (start .args .sheet .now) (at-read-sheet .read-sheet .result) (at-read-sheet .read-sheet .last .1 .0) (at-h .h .given .0 .0) (at-read-sheet .read-sheet .ensures .0) (at-h .h .given .1))) (c .part-line .ensures)
 
 pub line-spec : {M : Type 1} → statement M
 line-spec = tie.close (tie.spec slice-aggregate-read-sheet read-sheet-requires enum-known-k cast-put-refused put-refused-requires enum-known-h sub-m array-share-prefix-keys slice-aggregate-part-line part-line-requires returns returns-2)

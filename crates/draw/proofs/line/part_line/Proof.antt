@@ -26,13 +26,22 @@ same-length : tie.Need-same-length
 same-length c = search needs
 
 returns : tie.Need-returns
-returns c = absurd (planned-refused (c .before .before .before .before .before .before .before .before .before .before .args .h) (c .before .before .before .before .before .before .before .before .before .before .args .keys .now) (c .before .before .before .before .before .before .before .before .before .before .pre .0) (c .before .before .before .before .before .before .before .plan-part .result) (c .before .before .before .before .before .before .before .plan-part .ensures) _ (c .before .before .before .before .before .k .given .1))
+returns c =
+    let at-k = c .before .before .before .before .before in
+    let at-plan-part = at-k .before .before in
+    let start = at-plan-part .before .before .before in
+    absurd (planned-refused (start .args .h) (start .args .keys .now) (start .pre .0) (at-plan-part .plan-part .result) (at-plan-part .plan-part .ensures) _ (at-k .k .given .1))
 
 same-length-2 : tie.Need-same-length-2
 same-length-2 c = search needs
 
 returns-2 : tie.Need-returns-2
-returns-2 c = rw (← told-facts (c .before .before .before .before .before .before .before .before .before .before .args .h) (c .before .before .before .before .before .before .before .before .before .before .args .keys .now) (c .before .before .before .before .before .before .before .before .before .before .pre .0) (c .before .before .before .before .before .before .before .plan-part .result) (c .before .before .before .before .before .before .before .plan-part .ensures) _ _ _ (c .before .before .before .before .before .l .given .1)) (c .before .before .counts-line .ensures)
+returns-2 c =
+    let at-counts-line = c .before .before in
+    let at-l = at-counts-line .before .before .before in
+    let at-plan-part = at-l .before .before in
+    let start = at-plan-part .before .before .before in
+    rw (← told-facts (start .args .h) (start .args .keys .now) (start .pre .0) (at-plan-part .plan-part .result) (at-plan-part .plan-part .ensures) _ _ _ (at-l .l .given .1)) (at-counts-line .counts-line .ensures)
 
 pub part-line-spec : {M : Type 1} → statement M
 part-line-spec = tie.close (tie.spec plan-part-requires enum-known-k cast-put-refused put-refused-requires enum-known-l counts-line-requires same-length returns same-length-2 returns-2)

@@ -1,5 +1,5 @@
 -- Refused by the rule's tests, or renumbered, entered and written, by the laws of Adding.antt.
-use mathlib.Core.Path.{_≡_, _∙_}
+use mathlib.Core.Path.{_∙_}
 use borrow.Author.Needs.{needs}
 use native.Mathlib.Omega.{arith}
 use Rattle.sheet.specs.Held.{polygonOf}

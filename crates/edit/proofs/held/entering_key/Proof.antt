@@ -1,5 +1,5 @@
 -- By the test.
-use mathlib.Core.Path.{_≡_, ap, sym, _∙_}
+use mathlib.Core.Path.{ap, sym, _∙_}
 use borrow.Author.Needs.{needs}
 use Rattle.keys.specs.Keys.{keyOf}
 use Rattle.edit.proofs.Adding.{entering-root, entering-side}

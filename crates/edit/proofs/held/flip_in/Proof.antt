@@ -1,8 +1,8 @@
 -- Either corner first: the rule is the same.
-use mathlib.Core.Path.{_≡_, ap, _∙_}
+use mathlib.Core.Path.{ap, _∙_}
 use borrow.Author.Needs.{needs}
 use native.Mathlib.Omega.{arith}
-use Rattle.codec.specs.Answer.{Answer, written}
+use Rattle.codec.specs.Answer.{written}
 use Rattle.sheet.specs.Sheet.{Reading, outcome}
 use Rattle.sheet.specs.Held.{polygonOf}
 use Rattle.edit.specs.Rules.{flip}

@@ -1,5 +1,5 @@
 -- Refused by the rule's tests, or taken out, renumbered and written, by the laws of Removing.antt.
-use mathlib.Core.Path.{_≡_, sym, _∙_}
+use mathlib.Core.Path.{sym, _∙_}
 use borrow.Author.Needs.{needs}
 use borrow.Author.Tests.{not-true, not-false}
 use native.Mathlib.Omega.{arith}

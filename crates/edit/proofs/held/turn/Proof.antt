@@ -1,10 +1,9 @@
 -- Refused if the diagonal is not there, or turned and written, by the laws of Turning.antt.
-use mathlib.Core.Path.{_≡_, sym, _∙_}
+use mathlib.Core.Path.{sym, _∙_}
 use Prim.Native.Nat.{_-_}
 use borrow.Author.Needs.{needs}
 use borrow.Author.Tests.{not-true, not-false}
 use native.Mathlib.Omega.{arith}
-use lib.ListN.{length, take}
 use lib.Seq.{length-take-le}
 use Rattle.sheet.specs.Held.{polygonOf}
 use Rattle.sheet.proofs.Writing.{small-front}

@@ -5,7 +5,7 @@ use native.Mathlib.Omega.{arith}
 use lib.ListN.{length, take, getD, length-set}
 use lib.Seq.{take-all}
 use Rattle.keys.specs.Keys.{edgeOf, edgesOf}
-use Rattle.edit.specs.Tables.{Near, OtherEnd}
+use Rattle.edit.specs.Tables.{Near}
 use Rattle.edit.proofs.Marking.{near-begin, near-next, edges-next, end-below}
 use Rattle.edit.proofs.near.mark.Statement.{statement}
 use Rattle.edit.proofs.near.mark.Tie as tie

@@ -1,7 +1,6 @@
 -- The loop's invariant is `Scanned`.
-use mathlib.Core.Path.{_≡_, refl, ap, sym, _∙_}
-use Prim.Native.Nat.{ℕ, _-_}
-use borrow.Author.Needs.{needs}
+use mathlib.Core.Path.{refl, sym, _∙_}
+use Prim.Native.Nat.{_-_}
 use native.Mathlib.Omega.{arith}
 use lib.ListN.{length}
 use Rattle.keys.proofs.Apexes.{Scanned, tops-begin, scanned-next, scanned-end, diagonal-at}

@@ -1,10 +1,7 @@
 -- The test on the tables, by the laws of Crosses.antt.
-use Prim.Native.Nat.{_+_, _<_}
-use mathlib.Core.Path.{_∙_}
 use borrow.Author.Needs.{needs}
 use borrow.Author.Tests.{not-true, not-false}
 use native.Mathlib.Omega.{arith}
-use lib.ListN.{length}
 use Rattle.keys.proofs.Crosses.{apex-below, reaches-free, fails-cross}
 use Rattle.keys.proofs.cross.crosses.Statement.{statement}
 use Rattle.keys.proofs.cross.crosses.Tie as tie

@@ -1,5 +1,5 @@
 -- Bit 1 against the corner count.
-use mathlib.Core.Path.{_≡_, sym, _∙_}
+use mathlib.Core.Path.{sym, _∙_}
 use borrow.Author.Tests.{eqb-true, eqb-false}
 use Rattle.sheet.proofs.Fields.{more-yes, more-no}
 use Rattle.sheet.proofs.reader.agrees.Statement.{statement}

@@ -1,8 +1,7 @@
 -- The loop's invariant is `Listed`.
-use mathlib.Core.Path.{_≡_, ap}
+use mathlib.Core.Path.{_≡_}
 use mathlib.Core.Bool.{true≢false, false≢true}
-use Prim.Native.Nat.{_+_, _*_, _-_}
-use borrow.Author.Needs.{needs}
+use Prim.Native.Nat.{_-_}
 use native.Mathlib.Omega.{arith}
 use lib.ListN.{length}
 use Rattle.polygon.proofs.Lists.{all-mem}

@@ -1,10 +1,10 @@
 -- The tests of the pairs in their order, by the laws of Found.antt.
-use mathlib.Core.Path.{_≡_, sym, _∙_}
-use Prim.Native.Nat.{_+_, _-_, _≤_}
+use mathlib.Core.Path.{sym, _∙_}
+use Prim.Native.Nat.{_-_}
 use borrow.Author.Needs.{needs}
 use borrow.Author.Tests.{not-true, not-false}
 use native.Mathlib.Omega.{arith}
-use lib.ListN.{length, length-append, length-drop}
+use lib.ListN.{length-append, length-drop}
 use lib.Seq.{length-take-le}
 use Rattle.sheet.proofs.Found.{says-refused, says-held, room, no-diagonals, first-count, repeated, in-order, crossing, holds, fitting}
 use Rattle.sheet.proofs.reader.read_sheet.Statement.{statement}

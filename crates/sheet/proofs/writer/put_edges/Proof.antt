@@ -1,10 +1,9 @@
 -- The loop's invariant: the first i edges are stored.
 use Prim.Native.Nat.{_≤_, _-_}
-use mathlib.Core.Path.{_≡_, refl, ap, _∙_}
-use borrow.Author.Needs.{needs}
+use mathlib.Core.Path.{_≡_, refl, _∙_}
 use native.Mathlib.Omega.{arith}
 use lib.ListN.{length, take}
-use lib.Seq.{sets, length-sets, take-all}
+use lib.Seq.{sets, take-all}
 use Rattle.keys.specs.Keys.{edgesOf}
 use Rattle.sheet.specs.Sheet.{pairBytes}
 use Rattle.sheet.proofs.Writing.{edges-next}

@@ -1,9 +1,9 @@
 -- The length is known before the first byte is written; then field by field, by the laws of Writing.antt.
-use mathlib.Core.Path.{_≡_, sym, _∙_}
-use Prim.Native.Nat.{_+_, _*_, _-_}
+use mathlib.Core.Path.{sym, _∙_}
+use Prim.Native.Nat.{_-_}
 use borrow.Author.Needs.{needs}
 use native.Mathlib.Omega.{arith}
-use lib.ListN.{length, length-set}
+use lib.ListN.{length-set}
 use lib.Seq.{length-take-le}
 use Rattle.sheet.specs.Sheet.{mapByte}
 use Rattle.sheet.proofs.Writing.{small-front, too-short, finished}
