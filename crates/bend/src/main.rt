@@ -1,6 +1,7 @@
 // The program: reads a sheet on standard input, writes its chart to the file bend.chart, and prints a line.
 // The chart is written to a new file that is then renamed, so that nobody ever sees half a chart; the line is printed only then.
 // No sheet is longer than 4,091 bytes: a longer input gets the refusal that its first 4,092 bytes get (`long-input` in the crate sheet).
+// No chart is longer than 20,465 bytes (`drawn-size` in the crate draw).
 use codec::Written;
 use libc::STDIN_FILENO;
 use libc::STDOUT_FILENO;
@@ -35,24 +36,18 @@ fn save(chart: &[u8]) -> bool {
 fn print_line(sheet: &[u8]) {
     let mut text = [0u8; 256];
     let n = draw::line::line(sheet, &mut text);
-    if n <= 256 {
-        io::write_all(STDOUT_FILENO, &text[..n]);
-    }
+    io::write_all(STDOUT_FILENO, &text[..n]);
 }
 
 fn main() {
     let mut input = [0u8; 4092];
     let size = io::read_full(STDIN_FILENO, &mut input);
-    let mut chart = [0u8; 24576];
-    if size <= 4092 {
-        match draw::draw(&input[..size], &mut chart) {
-            Written::Refused(_) => print_line(&input[..size]),
-            Written::Bytes(n) => {
-                if n <= 24576 {
-                    if save(&chart[..n]) {
-                        print_line(&input[..size]);
-                    }
-                }
+    let mut chart = [0u8; 20465];
+    match draw::draw(&input[..size], &mut chart) {
+        Written::Refused(_) => print_line(&input[..size]),
+        Written::Bytes(n) => {
+            if save(&chart[..n]) {
+                print_line(&input[..size]);
             }
         }
     }

@@ -3,11 +3,12 @@ use mathlib.Core.Path.{_≡_, ap, sym, _∙_}
 use mathlib.Core.List.{List}
 use Prim.Native.Nat.{ℕ, _+_, _*_, _-_, _≤_}
 use native.Mathlib.Omega.{arith}
+use lib.ListN.{length}
 use Rattle.polygon.specs.Polygon.{Polygon, Valid}
 use Rattle.polygon.specs.Tree.{Tree, leaf, node, span, treeOf}
 use Rattle.polygon.proofs.TreeTheorem.{tree-of}
 use Rattle.sheet.specs.declared.Head.{Head}
-use Rattle.sheet.specs.Sheet.{refused, held, readSheet}
+use Rattle.sheet.specs.Sheet.{Reading, refused, held, readSheet}
 use Rattle.umbrella.specs.Plan.{levels, umbrellas, stems}
 use Rattle.umbrella.specs.Numbers.{ud}
 use Rattle.umbrella.specs.Best.{planOf}
@@ -18,6 +19,7 @@ use Rattle.plan.specs.Answer as plan
 use Rattle.chart.specs.Chart.{chartOf}
 use Rattle.chart.proofs.Theorems.{chart-rows, chart-columns}
 use Rattle.log_line.specs.Line.{line, refusedLine}
+use Rattle.log_line.proofs.Size.{line-size, refused-size}
 use Rattle.draw.specs.Printed.{factsOf, printedOf, printed}
 use Rattle.draw.specs.Told.{partOf, told}
 
@@ -28,6 +30,15 @@ refused-line s k e = rw e
 pub held-line : (s : List ℕ) (p : Polygon) → readSheet s ≡ held p → line (factsOf p) ≡ printed s
 unfolding printed printedOf
 held-line s p e = rw e
+
+-- no line is longer than 256 bytes
+pub printed-size : (s : List ℕ) → length (printed s) ≤ 256
+unfolding printed printedOf
+printed-size s = go (readSheet s)
+  where
+    go : (r : Reading) → length (printedOf r) ≤ 256
+    go (refused k) = refused-size k
+    go (held p) = line-size (factsOf p)
 
 -- a part has a level
 some-level : (t : Tree) → 2 ≤ span t → 1 ≤ ud t

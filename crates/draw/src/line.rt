@@ -50,6 +50,7 @@ pub fn part_line(h: Head, keys: &[u32], out: &mut [u8]) -> usize
 // Writes the line of a sheet's part, or of its refusal, and says how long it is.
 pub fn line(sheet: &[u8], out: &mut [u8; 256]) -> usize
     ensures { λ r. ⌜ Put (printed (now (sheet .entry))) (now (out .entry)) 0 (now (out .exit)) r ⌝ }
+    ensures { λ r. ⌜ r ≤ 256 ⌝ }
 {
     let mut keys = [0u32; 1021];
     match read_sheet(sheet, &mut keys) {

@@ -1,4 +1,4 @@
--- The line fits, by the test.
+-- The line fits, by what `line` promises.
 use borrow.Author.Needs.{needs}
 use mathlib.Core.Path.{sym}
 use native.Mathlib.Omega.{arith}
@@ -11,12 +11,10 @@ line-requires : tie.Need-line-requires
 line-requires c κs = search needs
 
 array-share-prefix-text : tie.Need-array-share-prefix-text
-array-share-prefix-text c = omega (arith, put-length (c .before .line .ensures))
+array-share-prefix-text c = omega (arith, put-length (c .line .ensures .0), c .line .ensures .1)
 
 slice-aggregate-write-all : tie.Need-slice-aggregate-write-all
-slice-aggregate-write-all c =
-    let at-line = c .before .before in
-    sym (length-take-le (at-line .line .result) (at-line .line .last .1 .0) (omega (arith, put-length (at-line .line .ensures))))
+slice-aggregate-write-all c = sym (length-take-le (c .before .line .result) (c .before .line .last .1 .0) (omega (arith, put-length (c .before .line .ensures .0), c .before .line .ensures .1)))
 
 write-all-requires : tie.Need-write-all-requires
 write-all-requires c κs = search needs
@@ -24,8 +22,5 @@ write-all-requires c κs = search needs
 returns : tie.Need-returns
 returns c = search needs
 
-returns-2 : tie.Need-returns-2
-returns-2 c = search needs
-
 pub print-line-spec : {M : Type 1} → statement M
-print-line-spec = tie.close (tie.spec line-requires array-share-prefix-text slice-aggregate-write-all write-all-requires returns returns-2)
+print-line-spec = tie.close (tie.spec line-requires array-share-prefix-text slice-aggregate-write-all write-all-requires returns)

@@ -7,7 +7,7 @@ use lib.Seq.{length-take-le}
 use Rattle.keys.proofs.Crosses.{all-at}
 use Rattle.sheet.proofs.Valid.{read-valid}
 use Rattle.sheet.proofs.Outcomes.{read-refused, read-held, held-fits}
-use Rattle.draw.proofs.Lines.{refused-line, held-line}
+use Rattle.draw.proofs.Lines.{refused-line, held-line, printed-size}
 use Rattle.draw.proofs.line.line.Statement.{statement}
 use Rattle.draw.proofs.line.line.Tie as tie
 
@@ -60,14 +60,16 @@ returns c =
     let at-k = c .before .before .before in
     let at-read-sheet = at-k .before .before .before in
     let start = at-read-sheet .before .before .before in
-    rw (← refused-line (start .args .sheet .now) _ (read-refused (start .args .sheet .now) (at-read-sheet .read-sheet .result) (at-read-sheet .read-sheet .last .1 .0) _ (at-read-sheet .read-sheet .ensures .0) (at-k .k .given .1))) (c .put-refused .ensures)
+    let said = rw (refused-line (start .args .sheet .now) _ (read-refused (start .args .sheet .now) (at-read-sheet .read-sheet .result) (at-read-sheet .read-sheet .last .1 .0) _ (at-read-sheet .read-sheet .ensures .0) (at-k .k .given .1))) at (c .put-refused .ensures) in
+    (said, omega (arith, said .end, printed-size (start .args .sheet .now)))
 
 returns-2 : tie.Need-returns-2
 returns-2 c =
     let at-h = c .before .before .before .before .before in
     let at-read-sheet = at-h .before .before .before in
     let start = at-read-sheet .before .before .before in
-    rw (← held-line (start .args .sheet .now) _ (read-held (start .args .sheet .now) (at-read-sheet .read-sheet .result) (at-read-sheet .read-sheet .last .1 .0) (at-h .h .given .0 .0) (at-read-sheet .read-sheet .ensures .0) (at-h .h .given .1))) (c .part-line .ensures)
+    let said = rw (held-line (start .args .sheet .now) _ (read-held (start .args .sheet .now) (at-read-sheet .read-sheet .result) (at-read-sheet .read-sheet .last .1 .0) (at-h .h .given .0 .0) (at-read-sheet .read-sheet .ensures .0) (at-h .h .given .1))) at (c .part-line .ensures) in
+    (said, omega (arith, said .end, printed-size (start .args .sheet .now)))
 
 pub line-spec : {M : Type 1} → statement M
 line-spec = tie.close (tie.spec slice-aggregate-read-sheet read-sheet-requires enum-known-k cast-put-refused put-refused-requires enum-known-h sub-m array-share-prefix-keys slice-aggregate-part-line part-line-requires returns returns-2)
