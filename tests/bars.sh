@@ -5,6 +5,7 @@
 set -u
 root=$(cd "$(dirname "$0")/.." && pwd)
 work=$(mktemp -d)
+export CARGO_TARGET_DIR="${CARGO_TARGET_DIR:-$root/target/cargo}"
 trap 'rm -rf "$work"' EXIT
 
 cp -r "$root/crates" "$root/crates.txt" "$work"
