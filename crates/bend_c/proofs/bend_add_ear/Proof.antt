@@ -19,7 +19,8 @@ pack-requires c κs =
     let at-add-ear = earlier in
     let at-shared-slice-known = at-add-ear .before .before .before in
     let start = at-shared-slice-known .before in
-    packable (at-add-ear .add-ear .result) (at-add-ear .add-ear .last .1 .1 .0) (rw (at-add-ear .add-ear .ensures) (omega (arith, edited-size (addEar (start .args .side)) (start .args .sheet .now) (start .args .out .now) (all-at 0 (start .args .sheet .now) (λ i h. omega (arith, at-shared-slice-known .shared-slice-known .given i))))))
+    packable (at-add-ear .add-ear .result) (at-add-ear .add-ear .last .1 .1 .0)
+    (rw (at-add-ear .add-ear .ensures) (omega (arith, edited-size (addEar (start .args .side)) (start .args .sheet .now) (start .args .out .now) (all-at 0 (start .args .sheet .now) (λ i h. omega (arith, at-shared-slice-known .shared-slice-known .given i))))))
 
 same-length : tie.Need-same-length
 same-length c = search needs

@@ -19,7 +19,8 @@ pack-requires c κs =
     let at-flip = earlier in
     let at-shared-slice-known = at-flip .before .before .before in
     let start = at-shared-slice-known .before in
-    packable (at-flip .flip .result) (at-flip .flip .last .1 .1 .1 .0) (rw (at-flip .flip .ensures) (omega (arith, edited-size (flip (start .args .a) (start .args .b)) (start .args .sheet .now) (start .args .out .now) (all-at 0 (start .args .sheet .now) (λ i h. omega (arith, at-shared-slice-known .shared-slice-known .given i))))))
+    packable (at-flip .flip .result) (at-flip .flip .last .1 .1 .1 .0)
+    (rw (at-flip .flip .ensures) (omega (arith, edited-size (flip (start .args .a) (start .args .b)) (start .args .sheet .now) (start .args .out .now) (all-at 0 (start .args .sheet .now) (λ i h. omega (arith, at-shared-slice-known .shared-slice-known .given i))))))
 
 same-length : tie.Need-same-length
 same-length c = search needs

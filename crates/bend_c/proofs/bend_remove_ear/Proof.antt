@@ -19,7 +19,8 @@ pack-requires c κs =
     let at-remove-ear = earlier in
     let at-shared-slice-known = at-remove-ear .before .before .before in
     let start = at-shared-slice-known .before in
-    packable (at-remove-ear .remove-ear .result) (at-remove-ear .remove-ear .last .1 .1 .0) (rw (at-remove-ear .remove-ear .ensures) (omega (arith, edited-size (removeEar (start .args .corner)) (start .args .sheet .now) (start .args .out .now) (all-at 0 (start .args .sheet .now) (λ i h. omega (arith, at-shared-slice-known .shared-slice-known .given i))))))
+    packable (at-remove-ear .remove-ear .result) (at-remove-ear .remove-ear .last .1 .1 .0)
+    (rw (at-remove-ear .remove-ear .ensures) (omega (arith, edited-size (removeEar (start .args .corner)) (start .args .sheet .now) (start .args .out .now) (all-at 0 (start .args .sheet .now) (λ i h. omega (arith, at-shared-slice-known .shared-slice-known .given i))))))
 
 same-length : tie.Need-same-length
 same-length c = search needs

@@ -40,7 +40,9 @@ write-layout-requires : tie.Need-write-layout-requires
 write-layout-requires c κs =
     let at-list-edges = c .before .before .before in
     let start = at-list-edges .before .before .before .before .before .before in
-    rw (front (2 * start .args .n - 3) (at-list-edges .list-edges .last .1 .1 .0) (replicate 2045 0) (at-list-edges .list-edges .kept .1 .1 .0) (omega (arith, start .pre .0 .full, start .pre .1 .1 .0))) (listed-rising (start .args .n) (start .args .keys .now) (start .pre .0) (start .pre .1 .1 .0) (at-list-edges .list-edges .last .1 .1 .0) (at-list-edges .list-edges .ensures), (listed-keyed (start .args .n) (start .args .keys .now) (start .pre .0) (start .pre .1 .1 .0) (at-list-edges .list-edges .last .1 .1 .0) (at-list-edges .list-edges .ensures), (listed-drawn (start .args .n) (start .args .keys .now) (start .pre .0) (start .pre .1 .1 .0) (at-list-edges .list-edges .last .1 .1 .0) (at-list-edges .list-edges .ensures) (start .args .cols .now) (start .pre .1 .0), (omega (arith, start .pre .0 .full), start .pre .1 .1 .0, omega (arith, at-list-edges .list-edges .kept .1 .1 .0, length-take-le {A = ℕ} (2 * start .args .n - 3) (replicate 2045 0) (omega (arith, start .pre .0 .full, start .pre .1 .1 .0))), start .pre .1 .1 .1, start .pre .1 .1 .2, start .pre .1 .1 .3, start .pre .1 .1 .4))))
+    rw
+    (front (2 * start .args .n - 3) (at-list-edges .list-edges .last .1 .1 .0) (replicate 2045 0) (at-list-edges .list-edges .kept .1 .1 .0) (omega (arith, start .pre .0 .full, start .pre .1 .1 .0)))
+    (listed-rising (start .args .n) (start .args .keys .now) (start .pre .0) (start .pre .1 .1 .0) (at-list-edges .list-edges .last .1 .1 .0) (at-list-edges .list-edges .ensures), (listed-keyed (start .args .n) (start .args .keys .now) (start .pre .0) (start .pre .1 .1 .0) (at-list-edges .list-edges .last .1 .1 .0) (at-list-edges .list-edges .ensures), (listed-drawn (start .args .n) (start .args .keys .now) (start .pre .0) (start .pre .1 .1 .0) (at-list-edges .list-edges .last .1 .1 .0) (at-list-edges .list-edges .ensures) (start .args .cols .now) (start .pre .1 .0), (omega (arith, start .pre .0 .full), start .pre .1 .1 .0, omega (arith, at-list-edges .list-edges .kept .1 .1 .0, length-take-le {A = ℕ} (2 * start .args .n - 3) (replicate 2045 0) (omega (arith, start .pre .0 .full, start .pre .1 .1 .0))), start .pre .1 .1 .1, start .pre .1 .1 .2, start .pre .1 .1 .3, start .pre .1 .1 .4))))
 
 same-length : tie.Need-same-length
 same-length c = search needs

@@ -34,7 +34,9 @@ returns : tie.Need-returns
 returns c =
     let at-find-columns = c .before .before .before .before in
     let start = at-find-columns .before .before .before .before .before .before in
-    λ rs R. chart-short (start .args .n) (start .args .levels) rs (start .args .listed .now) (start .args .cols .now) (at-find-columns .find-columns .last .1 .1 .0) (start .args .out .now) (start .pre .1 .1 .1 .0) (omega (arith, start .pre .1 .1 .1 .6)) (at-find-columns .find-columns .ensures) (c .before .strokes-size .result) (c .before .strokes-size .ensures .0 (start .args .listed .now)) (c .if1 .taken)
+    λ rs R. chart-short (start .args .n) (start .args .levels) rs (start .args .listed .now) (start .args .cols .now) (at-find-columns .find-columns .last .1 .1 .0)
+    (start .args .out .now) (start .pre .1 .1 .1 .0) (omega (arith, start .pre .1 .1 .1 .6)) (at-find-columns .find-columns .ensures) (c .before .strokes-size .result)
+    (c .before .strokes-size .ensures .0 (start .args .listed .now)) (c .if1 .taken)
 
 cast-left : tie.Need-cast-left
 cast-left c = search needs
@@ -77,8 +79,12 @@ put-bars-requires c κs =
     let at-put162 = at-put163 .before .before .before .before in
     let at-put16 = at-put162 .before .before .before .before in
     let at-spans = at-put16 .before .before .before .before in
-    let start = at-spans .before .before .before .before .before .before .before .before .before .before .before .before .before in
-    (start .pre .1 .1 .1 .4, omega (arith, at-spans .spans .kept .1 .1 .0, start .pre .1 .1 .1 .1), omega (arith, at-spans .spans .kept .1 .1 .1 .0, start .pre .1 .1 .1 .1), omega (arith, at-put16 .put16 .kept .0, at-put162 .put162 .kept .0, at-put163 .put163 .kept .0))
+    let start = at-spans .before .before .before .before .before .before .before .before .before .before .before .before .before in (
+      start .pre .1 .1 .1 .4,
+      omega (arith, at-spans .spans .kept .1 .1 .0, start .pre .1 .1 .1 .1),
+      omega (arith, at-spans .spans .kept .1 .1 .1 .0, start .pre .1 .1 .1 .1),
+      omega (arith, at-put16 .put16 .kept .0, at-put162 .put162 .kept .0, at-put163 .put163 .kept .0),
+    )
 
 mul-put-strokes : tie.Need-mul-put-strokes
 mul-put-strokes c = omega (arith, c .before .before .before .before .before .before .before .before .before .before .before .before .before .before .before .before .before .before .before .before .before .before .before .before .before .before .before .before .before .before .before .before .before .before .pre .1 .1 .1 .1)
@@ -115,7 +121,11 @@ returns-2 c =
     let at-strokes-size = at-if1 .before in
     let at-find-columns = at-strokes-size .before .before .before in
     let start = at-find-columns .before .before .before .before .before .before in
-    λ rs R. chart-written (start .args .n) (start .args .levels) rs (start .args .listed .now) (start .args .cols .now) (at-find-columns .find-columns .last .1 .1 .0) (start .args .out .now) (start .pre .1 .1 .1 .0) (omega (arith, start .pre .1 .1 .1 .6)) (at-find-columns .find-columns .ensures) (at-strokes-size .strokes-size .result) (at-strokes-size .strokes-size .ensures .0 (start .args .listed .now)) (start .args .rows .now) (at-spans .spans .last .1 .1 .0) (at-spans .spans .last .1 .1 .1 .0) _ R (at-spans .spans .ensures) (at-if1 .if1 .left) (c .before .before .put-strokes .ensures ∙ rw (at-put-bars .put-bars .ensures, at-put163 .put163 .ensures, at-put162 .put162 .ensures, at-put16 .put16 .ensures))
+    λ rs R. chart-written (start .args .n) (start .args .levels) rs (start .args .listed .now) (start .args .cols .now) (at-find-columns .find-columns .last .1 .1 .0)
+    (start .args .out .now) (start .pre .1 .1 .1 .0) (omega (arith, start .pre .1 .1 .1 .6)) (at-find-columns .find-columns .ensures)
+    (at-strokes-size .strokes-size .result) (at-strokes-size .strokes-size .ensures .0 (start .args .listed .now)) (start .args .rows .now)
+    (at-spans .spans .last .1 .1 .0) (at-spans .spans .last .1 .1 .1 .0) _ R (at-spans .spans .ensures) (at-if1 .if1 .left)
+    (c .before .before .put-strokes .ensures ∙ rw (at-put-bars .put-bars .ensures, at-put163 .put163 .ensures, at-put162 .put162 .ensures, at-put16 .put16 .ensures))
 
 pub write-layout-spec : {M : Type 1} → statement M
 write-layout-spec = tie.close (tie.spec slice-aggregate-find-columns find-columns-requires mul-size add-size slice-aggregate-strokes-size strokes-size-requires add-size-2 returns cast-left slice-aggregate-spans slice-aggregate-spans-2 spans-requires mul-put16 add-put16 put16-requires put16-requires-2 put16-requires-3 slice-aggregate-put-bars slice-aggregate-put-bars-2 put-bars-requires mul-put-strokes add-put-strokes slice-aggregate-put-strokes put-strokes-requires same-length returns-2)

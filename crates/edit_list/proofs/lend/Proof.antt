@@ -24,7 +24,9 @@ returns c =
     let at-apply = c .before .before in
     let at-if1 = at-apply .before .before in
     let start = at-if1 .before .before .before .before in
-    lent-first (start .args .first .now) (start .args .front .now) (start .args .back .now) (start .args .place) (start .args .size) (start .args .room) (editOf (start .args .kind) (start .args .a) (start .args .b)) (at-apply .apply .result) (at-apply .apply .last .1 .1 .1 .1 .0) (at-if1 .if1 .taken) (at-apply .apply .ensures)
+    lent-first (start .args .first .now) (start .args .front .now) (start .args .back .now) (start .args .place) (start .args .size) (start .args .room)
+    (editOf (start .args .kind) (start .args .a) (start .args .b)) (at-apply .apply .result) (at-apply .apply .last .1 .1 .1 .1 .0) (at-if1 .if1 .taken)
+    (at-apply .apply .ensures)
 
 slice-reshare-prefix-apply : tie.Need-slice-reshare-prefix-apply
 slice-reshare-prefix-apply c = c .before .before .before .before .before .pre .0 (c .before .if1 .left) .0
@@ -52,7 +54,9 @@ returns-2 c =
     let at-apply2 = c .before .before in
     let at-if2 = at-apply2 .before .before .before in
     let start = at-if2 .before .before .before .before .before in
-    lent-front (start .args .first .now) (start .args .front .now) (start .args .back .now) (start .args .place) (start .args .size) (start .args .room) (editOf (start .args .kind) (start .args .a) (start .args .b)) (at-apply2 .apply2 .result) (at-apply2 .apply2 .last .1 .1 .1 .1 .0) (at-if2 .if2 .taken) (at-apply2 .apply2 .ensures)
+    lent-front (start .args .first .now) (start .args .front .now) (start .args .back .now) (start .args .place) (start .args .size) (start .args .room)
+    (editOf (start .args .kind) (start .args .a) (start .args .b)) (at-apply2 .apply2 .result) (at-apply2 .apply2 .last .1 .1 .1 .1 .0) (at-if2 .if2 .taken)
+    (at-apply2 .apply2 .ensures)
 
 slice-reshare-prefix-apply-2 : tie.Need-slice-reshare-prefix-apply-2
 slice-reshare-prefix-apply-2 c = c .before .before .before .before .before .pre .0 (c .before .if1 .left) .1
@@ -81,7 +85,9 @@ returns-3 c =
     let at-if2 = at-apply3 .before .before .before in
     let at-if1 = at-if2 .before in
     let start = at-if1 .before .before .before .before in
-    lent-back (start .args .first .now) (start .args .front .now) (start .args .back .now) (start .args .place) (start .args .size) (start .args .room) (editOf (start .args .kind) (start .args .a) (start .args .b)) (at-apply3 .apply3 .result) (at-apply3 .apply3 .last .1 .1 .1 .1 .0) (at-if1 .if1 .left) (at-if2 .if2 .left) (at-apply3 .apply3 .ensures)
+    lent-back (start .args .first .now) (start .args .front .now) (start .args .back .now) (start .args .place) (start .args .size) (start .args .room)
+    (editOf (start .args .kind) (start .args .a) (start .args .b)) (at-apply3 .apply3 .result) (at-apply3 .apply3 .last .1 .1 .1 .1 .0) (at-if1 .if1 .left)
+    (at-if2 .if2 .left) (at-apply3 .apply3 .ensures)
 
 pub lend-spec : {M : Type 1} → statement M
 lend-spec = tie.close (tie.spec slice-relend-prefix-apply slice-aggregate-apply apply-requires same-length returns slice-reshare-prefix-apply slice-aggregate-apply-2 slice-relend-prefix-apply-2 slice-aggregate-apply-3 apply-requires-2 same-length-2 same-length-3 returns-2 slice-reshare-prefix-apply-2 slice-aggregate-apply-4 slice-relend-prefix-apply-3 slice-aggregate-apply-5 apply-requires-3 same-length-4 same-length-5 returns-3)

@@ -42,7 +42,11 @@ loop-again c =
     let at-loop-test = at-step .before .before .before in
     let at-loop = at-loop-test .before in
     let start = at-loop .before .before .before .before .before .before in
-    running-next (start .args .first .now) (start .args .list .now) (start .args .front .now) (start .args .back .now) (start .args .numbers .now) (start .pre .0) (deskOf (at-loop .loop .place) (at-loop .loop .size) (at-loop .loop .front) (at-loop .loop .back)) (at-loop .loop .numbers) (at-loop .loop .i) (at-loop .loop .inv) (at-loop-test .loop-test .taken) (deskOf (at-step .step .result .place) (at-step .step .result .size) (at-step .step .last .1 .1 .1 .0) (at-step .step .last .1 .1 .1 .1 .0)) (at-step .step .result .number) (at-put16 .put16 .last .0) (at-step .step .ensures .desk-after) (at-step .step .ensures .number-given) (at-put16 .put16 .ensures)
+    running-next (start .args .first .now) (start .args .list .now) (start .args .front .now) (start .args .back .now) (start .args .numbers .now) (start .pre .0)
+    (deskOf (at-loop .loop .place) (at-loop .loop .size) (at-loop .loop .front) (at-loop .loop .back)) (at-loop .loop .numbers) (at-loop .loop .i) (at-loop .loop .inv)
+    (at-loop-test .loop-test .taken)
+    (deskOf (at-step .step .result .place) (at-step .step .result .size) (at-step .step .last .1 .1 .1 .0) (at-step .step .last .1 .1 .1 .1 .0))
+    (at-step .step .result .number) (at-put16 .put16 .last .0) (at-step .step .ensures .desk-after) (at-step .step .ensures .number-given) (at-put16 .put16 .ensures)
 
 same-length : tie.Need-same-length Inv-loop μ-loop
 same-length c = c .before .loop .inv .sound .front-length

@@ -61,7 +61,11 @@ returns c =
     let at-get32 = at-get322 .before in
     let at-wide = at-get32 .before in
     let start = at-wide .before .before .before .before .before .before in
-    stepped-taken (start .args .first .now) (deskOf (start .args .place) (start .args .size) (start .args .front .now) (start .args .back .now)) (editAt (start .args .list .now) (start .args .i)) (at-lend .lend .result) (at-lend .lend .last .1 .0) (at-lend .lend .last .1 .1 .0) (rw (edit-read (start .args .list .now) (start .args .i) (at-wide .wide .result) (at-get32 .get32 .result) (at-get322 .get322 .result) (at-get323 .get323 .result) (at-wide .wide .ensures .0) (at-get32 .get32 .ensures .0) (at-get322 .get322 .ensures .0) (at-get323 .get323 .ensures .0)) at (at-lend .lend .ensures)) (record { place = c .before .other .result; size = c .size-of .result; number = at-number-of .number-of .result }) (at-number-of .number-of .ensures .1) (at-number-of .number-of .ensures .0) (c .before .before .if1 .taken) (c .before .other .ensures) (c .size-of .ensures)
+    stepped-taken (start .args .first .now) (deskOf (start .args .place) (start .args .size) (start .args .front .now) (start .args .back .now))
+    (editAt (start .args .list .now) (start .args .i)) (at-lend .lend .result) (at-lend .lend .last .1 .0) (at-lend .lend .last .1 .1 .0)
+    (rw (edit-read (start .args .list .now) (start .args .i) (at-wide .wide .result) (at-get32 .get32 .result) (at-get322 .get322 .result) (at-get323 .get323 .result) (at-wide .wide .ensures .0) (at-get32 .get32 .ensures .0) (at-get322 .get322 .ensures .0) (at-get323 .get323 .ensures .0)) at (at-lend .lend .ensures))
+    (record { place = c .before .other .result; size = c .size-of .result; number = at-number-of .number-of .result }) (at-number-of .number-of .ensures .1)
+    (at-number-of .number-of .ensures .0) (c .before .before .if1 .taken) (c .before .other .ensures) (c .size-of .ensures)
 
 same-length-3 : tie.Need-same-length-3
 same-length-3 c = search needs
@@ -77,7 +81,11 @@ returns-2 c =
     let at-get32 = at-get322 .before in
     let at-wide = at-get32 .before in
     let start = at-wide .before .before .before .before .before .before in
-    stepped-refused (start .args .first .now) (deskOf (start .args .place) (start .args .size) (start .args .front .now) (start .args .back .now)) (editAt (start .args .list .now) (start .args .i)) (at-lend .lend .result) (at-lend .lend .last .1 .0) (at-lend .lend .last .1 .1 .0) (rw (edit-read (start .args .list .now) (start .args .i) (at-wide .wide .result) (at-get32 .get32 .result) (at-get322 .get322 .result) (at-get323 .get323 .result) (at-wide .wide .ensures .0) (at-get32 .get32 .ensures .0) (at-get322 .get322 .ensures .0) (at-get323 .get323 .ensures .0)) at (at-lend .lend .ensures)) (record { place = start .args .place; size = start .args .size; number = c .before .number-of .result }) (c .before .number-of .ensures .1) (c .before .number-of .ensures .0) (c .if1 .left) refl refl
+    stepped-refused (start .args .first .now) (deskOf (start .args .place) (start .args .size) (start .args .front .now) (start .args .back .now))
+    (editAt (start .args .list .now) (start .args .i)) (at-lend .lend .result) (at-lend .lend .last .1 .0) (at-lend .lend .last .1 .1 .0)
+    (rw (edit-read (start .args .list .now) (start .args .i) (at-wide .wide .result) (at-get32 .get32 .result) (at-get322 .get322 .result) (at-get323 .get323 .result) (at-wide .wide .ensures .0) (at-get32 .get32 .ensures .0) (at-get322 .get322 .ensures .0) (at-get323 .get323 .ensures .0)) at (at-lend .lend .ensures))
+    (record { place = start .args .place; size = start .args .size; number = c .before .number-of .result }) (c .before .number-of .ensures .1)
+    (c .before .number-of .ensures .0) (c .if1 .left) refl refl
 
 pub step-spec : {M : Type 1} → statement M
 step-spec = tie.close (tie.spec mul-at shared-slice-read-wide wide-requires add-get32 get32-requires add-get32-2 get32-requires-2 add-get32-3 get32-requires-3 lend-requires number-of-requires other-requires size-of-requires same-length same-length-2 returns same-length-3 same-length-4 returns-2)

@@ -28,7 +28,8 @@ returns : tie.Need-returns
 returns c =
     let at-read-sheet = c .before .before .before .before in
     let start = at-read-sheet .before .before .before .before in
-    ordered-refused (start .args .sheet .now) (start .args .out .now) _ (read-refused (start .args .sheet .now) (at-read-sheet .read-sheet .result) (at-read-sheet .read-sheet .last .1 .0) _ (at-read-sheet .read-sheet .ensures .0) (c .before .k .given .1))
+    ordered-refused (start .args .sheet .now) (start .args .out .now) _
+    (read-refused (start .args .sheet .now) (at-read-sheet .read-sheet .result) (at-read-sheet .read-sheet .last .1 .0) _ (at-read-sheet .read-sheet .ensures .0) (c .before .k .given .1))
 
 same-length : tie.Need-same-length
 same-length c = search needs

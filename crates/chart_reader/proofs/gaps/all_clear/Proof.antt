@@ -28,8 +28,11 @@ shared-slice-read-clear c = omega arith
 
 clear-requires : tie.Need-clear-requires Inv-loop μ-loop
 clear-requires c κs =
-    let start = c .before .before .before .before .before .before in
-    (stroke-in (start .args .chart .now) (start .args .n) (start .args .at .now) (start .pre .0) (c .before .before .loop .i) (c .before .loop-test .taken) (start .pre .1), bars-room (start .args .chart .now) (start .args .n) (start .args .at .now) (start .pre .0), start .pre .2)
+    let start = c .before .before .before .before .before .before in (
+      stroke-in (start .args .chart .now) (start .args .n) (start .args .at .now) (start .pre .0) (c .before .before .loop .i) (c .before .loop-test .taken) (start .pre .1),
+      bars-room (start .args .chart .now) (start .args .n) (start .args .at .now) (start .pre .0),
+      start .pre .2,
+    )
 
 returns : tie.Need-returns Inv-loop μ-loop
 returns c =

@@ -19,8 +19,11 @@ slice-aggregate-all-clear c = search needs
 all-clear-requires : tie.Need-all-clear-requires
 all-clear-requires c κs =
     let at-put-gaps = c .before .before in
-    let start = at-put-gaps .before .before .before .before in
-    (start .pre .0, start .pre .2 .0, omega (arith, at-put-gaps .put-gaps .ensures .1, at-put-gaps .put-gaps .kept .1 .1 .1 .0, strokes-room (start .args .chart .now) (start .args .n) (start .args .at .now) (start .pre .0), start .pre .0 .count, start .pre .0 .formed .most))
+    let start = at-put-gaps .before .before .before .before in (
+      start .pre .0,
+      start .pre .2 .0,
+      omega (arith, at-put-gaps .put-gaps .ensures .1, at-put-gaps .put-gaps .kept .1 .1 .1 .0, strokes-room (start .args .chart .now) (start .args .n) (start .args .at .now) (start .pre .0), start .pre .0 .count, start .pre .0 .formed .most),
+    )
 
 returns : tie.Need-returns
 returns c =

@@ -25,8 +25,11 @@ shared-slice-read-put-gap-of c = omega arith
 put-gap-of-requires : tie.Need-put-gap-of-requires Inv-loop μ-loop
 put-gap-of-requires c κs =
     let at-loop = c .before .before .before in
-    let start = at-loop .before .before .before .before in
-    (stroke-in (start .args .chart .now) (start .args .n) (start .args .at .now) (start .pre .0) (at-loop .loop .i) (c .before .before .loop-test .taken) (start .pre .1), bars-room (start .args .chart .now) (start .args .n) (start .args .at .now) (start .pre .0), omega (arith, at-loop .loop .inv .low, at-loop .loop .inv .size, start .pre .2))
+    let start = at-loop .before .before .before .before in (
+      stroke-in (start .args .chart .now) (start .args .n) (start .args .at .now) (start .pre .0) (at-loop .loop .i) (c .before .before .loop-test .taken) (start .pre .1),
+      bars-room (start .args .chart .now) (start .args .n) (start .args .at .now) (start .pre .0),
+      omega (arith, at-loop .loop .inv .low, at-loop .loop .inv .size, start .pre .2),
+    )
 
 add-i : tie.Need-add-i Inv-loop μ-loop
 add-i c = omega arith
@@ -40,7 +43,9 @@ loop-again c =
     let at-loop-test = at-put-gap-of .before .before .before in
     let at-loop = at-loop-test .before in
     let start = at-loop .before .before .before .before in
-    gapping-next (start .args .chart .now) (start .args .at .now) (start .args .gaps .now) (at-loop .loop .gaps) (at-loop .loop .g) (at-loop .loop .i) (at-loop .loop .inv) (at-loop-test .loop-test .taken) _ _ (at-put-gap-of .put-gap-of .kept .1 .1 .1 .0) (at-put-gap-of .put-gap-of .ensures .0) (at-put-gap-of .put-gap-of .ensures .1)
+    gapping-next (start .args .chart .now) (start .args .at .now) (start .args .gaps .now) (at-loop .loop .gaps) (at-loop .loop .g) (at-loop .loop .i)
+    (at-loop .loop .inv) (at-loop-test .loop-test .taken) _ _ (at-put-gap-of .put-gap-of .kept .1 .1 .1 .0) (at-put-gap-of .put-gap-of .ensures .0)
+    (at-put-gap-of .put-gap-of .ensures .1)
 
 same-length : tie.Need-same-length Inv-loop μ-loop
 same-length c = c .before .loop .inv .size

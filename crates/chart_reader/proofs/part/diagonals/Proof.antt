@@ -45,7 +45,10 @@ loop-again c =
     let at-loop-test = c .before .before .before in
     let at-loop = at-loop-test .before in
     let start = at-loop .before .before .before in
-    ⊎-elim (λ w. rw (w .1, w .2) (choosing-yes (start .args .n) (start .args .edges .now) (length (start .args .keys .now)) (at-loop .loop .keys) (at-loop .loop .m) (at-loop .loop .i) (at-loop .loop .inv) (start .pre .0) (at-loop-test .loop-test .taken) (c .before .is-diagonal .ensures .0 (w .0 .taken)))) (λ w. rw (w .1, w .2) (choosing-no (start .args .n) (start .args .edges .now) (length (start .args .keys .now)) (at-loop .loop .keys) (at-loop .loop .m) (at-loop .loop .i) (at-loop .loop .inv) (start .pre .0) (at-loop-test .loop-test .taken) (c .before .is-diagonal .ensures .1 (w .0 .left)))) (c .if1 .came)
+    ⊎-elim
+    (λ w. rw (w .1, w .2) (choosing-yes (start .args .n) (start .args .edges .now) (length (start .args .keys .now)) (at-loop .loop .keys) (at-loop .loop .m) (at-loop .loop .i) (at-loop .loop .inv) (start .pre .0) (at-loop-test .loop-test .taken) (c .before .is-diagonal .ensures .0 (w .0 .taken))))
+    (λ w. rw (w .1, w .2) (choosing-no (start .args .n) (start .args .edges .now) (length (start .args .keys .now)) (at-loop .loop .keys) (at-loop .loop .m) (at-loop .loop .i) (at-loop .loop .inv) (start .pre .0) (at-loop-test .loop-test .taken) (c .before .is-diagonal .ensures .1 (w .0 .left))))
+    (c .if1 .came)
 
 same-length : tie.Need-same-length Inv-loop μ-loop
 same-length c = c .before .loop .inv .size

@@ -80,7 +80,9 @@ loop-again c =
     let at-loop-test = at-get16 .before .before in
     let at-loop = at-loop-test .before in
     let start = at-loop .before .before .before .before in
-    keyed-next (start .args .chart .now) (start .args .n) (start .args .at .now) (length (start .args .keys .now)) (at-loop .loop .keys) (at-loop .loop .i) (at-loop .loop .inv) (start .pre .0) (at-loop-test .loop-test .taken) (at-get16 .get16 .result) (at-get162 .get162 .result) (at-get16 .get16 .ensures .0) (at-get162 .get162 .ensures .0) (start .pre .1) (c .before .before .if1 .left) (c .before .if2 .left) _ (c .key .ensures)
+    keyed-next (start .args .chart .now) (start .args .n) (start .args .at .now) (length (start .args .keys .now)) (at-loop .loop .keys) (at-loop .loop .i)
+    (at-loop .loop .inv) (start .pre .0) (at-loop-test .loop-test .taken) (at-get16 .get16 .result) (at-get162 .get162 .result) (at-get16 .get16 .ensures .0)
+    (at-get162 .get162 .ensures .0) (start .pre .1) (c .before .before .if1 .left) (c .before .if2 .left) _ (c .key .ensures)
 
 same-length-3 : tie.Need-same-length-3 Inv-loop μ-loop
 same-length-3 c = c .before .loop .inv .size

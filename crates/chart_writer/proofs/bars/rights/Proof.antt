@@ -56,8 +56,11 @@ loop-less c = omega arith
 loop-again : tie.Need-loop-again Inv-loop μ-loop
 loop-again c =
     let at-loop = c .before .before .before .before in
-    let start = at-loop .before .before .before in
-    (omega arith, simp (length-set, length-set) (at-loop .loop .inv .1), rw (c .before .low .ensures, c .high .ensures .0) (rights-next (start .args .cols .now) (at-loop .loop .right) (at-loop .loop .j) (start .pre .0) (at-loop .loop .inv .1) (omega arith) (at-loop .loop .inv .2)))
+    let start = at-loop .before .before .before in (
+      omega arith,
+      simp (length-set, length-set) (at-loop .loop .inv .1),
+      rw (c .before .low .ensures, c .high .ensures .0) (rights-next (start .args .cols .now) (at-loop .loop .right) (at-loop .loop .j) (start .pre .0) (at-loop .loop .inv .1) (omega arith) (at-loop .loop .inv .2)),
+    )
 
 same-length : tie.Need-same-length Inv-loop μ-loop
 same-length c = c .before .loop .inv .1 ∙ sym (c .before .before .before .before .pre .1 .1)

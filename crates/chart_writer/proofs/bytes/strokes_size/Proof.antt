@@ -41,7 +41,10 @@ loop-again : tie.Need-loop-again Inv-loop μ-loop
 loop-again c =
     let at-loop = c .before .before .before in
     let start = at-loop .before in
-    ⊎-elim (λ w. rw (w .1) (omega arith, omega arith, λ es. omega (arith, at-loop .loop .inv .2 es, level-more es (start .args .columns .now) (at-loop .loop .i) (w .0 .taken)))) (λ w. rw (w .1) (omega arith, omega arith, λ es. omega (arith, at-loop .loop .inv .2 es, upright-more es (start .args .columns .now) (at-loop .loop .i) (w .0 .left)))) (c .if1 .came)
+    ⊎-elim
+    (λ w. rw (w .1) (omega arith, omega arith, λ es. omega (arith, at-loop .loop .inv .2 es, level-more es (start .args .columns .now) (at-loop .loop .i) (w .0 .taken))))
+    (λ w. rw (w .1) (omega arith, omega arith, λ es. omega (arith, at-loop .loop .inv .2 es, upright-more es (start .args .columns .now) (at-loop .loop .i) (w .0 .left))))
+    (c .if1 .came)
 
 returns : tie.Need-returns Inv-loop μ-loop
 returns c = let e : c .before .loop .i ≡ c .before .before .args .m = omega arith in rw (← e) (c .before .loop .inv .2, c .before .loop .inv .1)

@@ -62,7 +62,9 @@ returns c =
     let at-list-sides = at-merge2 .before .before .before .before .before in
     let at-merge = at-list-sides .before .before .before in
     let start = at-merge .before .before .before .before .before in
-    listed-all (start .args .n) (start .args .keys .now) (start .pre .0) (start .pre .1 .0) (at-list-sides .list-sides .last .1 .0) (at-merge .merge .last .1 .1 .0) _ (omega (arith, at-list-sides .list-sides .kept .1 .0)) (at-list-sides .list-sides .ensures) (omega (arith, at-merge .merge .kept .1 .1 .0)) (at-merge .merge .ensures) (omega (arith, at-merge2 .merge2 .kept .1 .1 .0)) (at-merge2 .merge2 .ensures)
+    listed-all (start .args .n) (start .args .keys .now) (start .pre .0) (start .pre .1 .0) (at-list-sides .list-sides .last .1 .0) (at-merge .merge .last .1 .1 .0) _
+    (omega (arith, at-list-sides .list-sides .kept .1 .0)) (at-list-sides .list-sides .ensures) (omega (arith, at-merge .merge .kept .1 .1 .0))
+    (at-merge .merge .ensures) (omega (arith, at-merge2 .merge2 .kept .1 .1 .0)) (at-merge2 .merge2 .ensures)
 
 pub list-edges-spec : {M : Type 1} → statement M
 list-edges-spec = tie.close (tie.spec sub-s sub-c cast-t9 slice-aggregate-merge slice-aggregate-merge-2 merge-requires slice-aggregate-list-sides list-sides-requires array-share-prefix-sides slice-aggregate-merge-3 array-share-prefix-chords slice-aggregate-merge-4 merge-requires-2 same-length returns)

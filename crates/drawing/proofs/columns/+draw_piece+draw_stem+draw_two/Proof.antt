@@ -85,10 +85,7 @@ draw-piece-element-copy-out-i : (t : ℕ) → draw-piece-lts.Need-element-copy-o
 draw-piece-element-copy-out-i t c = omega (arith, (recorded-parts (c .before .before .pre .1 .0 .1) (c .before .if1 .left)) .parts .inside)
 
 draw-piece-cast-i : (t : ℕ) → draw-piece-lts.Need-cast-i (draw-piece-Cs t) (draw-piece-at t) draw-piece.Post
-draw-piece-cast-i t c =
-    let at-if1 = c .before .before in
-    let start = at-if1 .before in
-    omega (arith, (recorded-parts (start .pre .1 .0 .1) (at-if1 .if1 .left)) .parts, start .pre .1 .1)
+draw-piece-cast-i t c = omega (arith, (recorded-parts (c .before .before .before .pre .1 .0 .1) (c .before .before .if1 .left)) .parts, c .before .before .before .pre .1 .1)
 
 draw-piece-mul-j : (t : ℕ) → draw-piece-lts.Need-mul-j (draw-piece-Cs t) (draw-piece-at t) draw-piece.Post
 draw-piece-mul-j t c = omega (arith, (recorded-parts (c .before .before .before .pre .1 .0 .1) (c .before .before .if1 .left)) .parts .inside)
@@ -97,84 +94,56 @@ draw-piece-element-copy-out-j : (t : ℕ) → draw-piece-lts.Need-element-copy-o
 draw-piece-element-copy-out-j t c = omega (arith, (recorded-parts (c .before .before .before .pre .1 .0 .1) (c .before .before .if1 .left)) .parts .inside)
 
 draw-piece-cast-j : (t : ℕ) → draw-piece-lts.Need-cast-j (draw-piece-Cs t) (draw-piece-at t) draw-piece.Post
-draw-piece-cast-j t c =
-    let at-if1 = c .before .before .before in
-    let start = at-if1 .before in
-    omega (arith, (recorded-parts (start .pre .1 .0 .1) (at-if1 .if1 .left)) .parts, start .pre .1 .1)
+draw-piece-cast-j t c = omega (arith, (recorded-parts (c .before .before .before .before .pre .1 .0 .1) (c .before .before .before .if1 .left)) .parts, c .before .before .before .before .pre .1 .1)
 
 draw-piece-mul-d : (t : ℕ) → draw-piece-lts.Need-mul-d (draw-piece-Cs t) (draw-piece-at t) draw-piece.Post
-draw-piece-mul-d t c =
-    let at-if1 = c .before .before .before in
-    let start = at-if1 .before in
-    omega (arith, (recorded-parts (start .pre .1 .0 .1) (at-if1 .if1 .left)) .parts .inside)
+draw-piece-mul-d t c = omega (arith, (recorded-parts (c .before .before .before .before .pre .1 .0 .1) (c .before .before .before .if1 .left)) .parts .inside)
 
 draw-piece-element-copy-out-d : (t : ℕ) → draw-piece-lts.Need-element-copy-out-d (draw-piece-Cs t) (draw-piece-at t) draw-piece.Post
-draw-piece-element-copy-out-d t c =
-    let at-if1 = c .before .before .before in
-    let start = at-if1 .before in
-    omega (arith, (recorded-parts (start .pre .1 .0 .1) (at-if1 .if1 .left)) .parts .inside)
+draw-piece-element-copy-out-d t c = omega (arith, (recorded-parts (c .before .before .before .before .pre .1 .0 .1) (c .before .before .before .if1 .left)) .parts .inside)
 
 draw-piece-sub-d : (t : ℕ) → draw-piece-lts.Need-sub-d (draw-piece-Cs t) (draw-piece-at t) draw-piece.Post
-draw-piece-sub-d t c =
-    let at-if1 = c .before .before .before .before in
-    let start = at-if1 .before in
-    omega (arith, (recorded-parts (start .pre .1 .0 .1) (at-if1 .if1 .left)) .not-empty)
+draw-piece-sub-d t c = omega (arith, (recorded-parts (c .before .before .before .before .before .pre .1 .0 .1) (c .before .before .before .before .if1 .left)) .not-empty)
 
 draw-piece-draw-two-requires : (t : ℕ) → draw-piece-lts.Need-draw-two-requires (draw-piece-Cs t) (draw-piece-at t) draw-piece.Post
-draw-piece-draw-two-requires t c κs =
-    let at-if1 = c .before .before .before .before .before in
-    let start = at-if1 .before in
-    let k = (recorded-parts (start .pre .1 .0 .1) (at-if1 .if1 .left)) in (omega (arith, k .parts, start .pre .0), ((k .parts .l, k .of-l), ((k .parts .r, k .of-r), omega (arith, k .parts, start .pre .1 .1))))
+draw-piece-draw-two-requires t c κs = let k = (recorded-parts (c .before .before .before .before .before .before .pre .1 .0 .1) (c .before .before .before .before .before .if1 .left)) in (omega (arith, k .parts, c .before .before .before .before .before .before .pre .0), ((k .parts .l, k .of-l), ((k .parts .r, k .of-r), omega (arith, k .parts, c .before .before .before .before .before .before .pre .1 .1))))
 
 draw-piece-returns-2 : (t : ℕ) → draw-piece-lts.Need-returns-2 (draw-piece-Cs t) (draw-piece-at t) draw-piece.Post
 draw-piece-returns-2 t c =
-    let earlier = c .before .before .before .before .before .before in
-    let at-if1 = earlier in
+    let at-if1 = c .before .before .before .before .before .before in
     let start = at-if1 .before in
-    λ x d q. let k = recorded-parts q (at-if1 .if1 .left) in rims-drawn d (k .parts .l) (k .parts .r) (start .args .u) (start .args .v) _ _ (start .args .turned) (k .parts .is) (k .parts .middle) (ap (λ (n : ℕ). n - 1) (sym (k .levels-are))) (c .draw-two .ensures (k .parts .l) (k .parts .r) (k .of-l) (k .of-r))
+    λ x d q.
+    let k = recorded-parts q (at-if1 .if1 .left) in
+    rims-drawn d (k .parts .l) (k .parts .r) (start .args .u) (start .args .v) _ _ (start .args .turned) (k .parts .is) (k .parts .middle)
+    (ap (λ (n : ℕ). n - 1) (sym (k .levels-are))) (c .draw-two .ensures (k .parts .l) (k .parts .r) (k .of-l) (k .of-r))
 
 draw-stem-is-hung-requires : (t : ℕ) → draw-stem-lts.Need-is-hung-requires (draw-stem-Cs t) (draw-stem-at t) draw-stem.Post
 draw-stem-is-hung-requires t c κs = search needs
 
 draw-stem-draw-piece-requires : (t : ℕ) → draw-stem-lts.Need-draw-piece-requires (draw-stem-Cs t) (draw-stem-at t) draw-stem.Post
-draw-stem-draw-piece-requires t c κs =
-    let start = c .before .before .before in
-    (omega (arith, start .pre .0), (start .pre .1 .0, start .pre .1 .1))
+draw-stem-draw-piece-requires t c κs = (omega (arith, c .before .before .before .pre .0), (c .before .before .before .pre .1 .0, c .before .before .before .pre .1 .1))
 
 draw-stem-returns : (t : ℕ) → draw-stem-lts.Need-returns (draw-stem-Cs t) (draw-stem-at t) draw-stem.Post
-draw-stem-returns t c =
-    let at-if1 = c .before .before in
-    let at-is-hung = at-if1 .before in
-    let start = at-is-hung .before in
-    λ x k. rw (only-hung (start .args .p) (sym (at-is-hung .is-hung .ensures) ∙ at-if1 .if1 .taken)) (c .draw-piece .ensures x (start .args .d) k)
+draw-stem-returns t c = λ x k. rw (only-hung (c .before .before .before .before .args .p) (sym (c .before .before .before .is-hung .ensures) ∙ c .before .before .if1 .taken)) (c .draw-piece .ensures x (c .before .before .before .before .args .d) k)
 
 draw-stem-key-requires : (t : ℕ) → draw-stem-lts.Need-key-requires (draw-stem-Cs t) (draw-stem-at t) draw-stem.Post
-draw-stem-key-requires t c κs =
-    let start = c .before .before .before in
-    omega (arith, ends (start .pre .1 .0 .1 .shows), span-pos (start .pre .1 .0 .0), start .pre .1 .1)
+draw-stem-key-requires t c κs = omega (arith, ends (c .before .before .before .pre .1 .0 .1 .shows), span-pos (c .before .before .before .pre .1 .0 .0), c .before .before .before .pre .1 .1)
 
 draw-stem-mul-out : (t : ℕ) → draw-stem-lts.Need-mul-out (draw-stem-Cs t) (draw-stem-at t) draw-stem.Post
-draw-stem-mul-out t c =
-    let start = c .before .before .before .before in
-    omega (arith, ends (start .pre .1 .0 .1 .shows), span-pos (start .pre .1 .0 .0), start .pre .1 .1)
+draw-stem-mul-out t c = omega (arith, ends (c .before .before .before .before .pre .1 .0 .1 .shows), span-pos (c .before .before .before .before .pre .1 .0 .0), c .before .before .before .before .pre .1 .1)
 
 draw-stem-element-write-out : (t : ℕ) → draw-stem-lts.Need-element-write-out (draw-stem-Cs t) (draw-stem-at t) draw-stem.Post
-draw-stem-element-write-out t c =
-    let start = c .before .before .before .before in
-    omega (arith, ends (start .pre .1 .0 .1 .shows), span-pos (start .pre .1 .0 .0), start .pre .1 .1)
+draw-stem-element-write-out t c = omega (arith, ends (c .before .before .before .before .pre .1 .0 .1 .shows), span-pos (c .before .before .before .before .pre .1 .0 .0), c .before .before .before .before .pre .1 .1)
 
 draw-stem-add-result : (t : ℕ) → draw-stem-lts.Need-add-result (draw-stem-Cs t) (draw-stem-at t) draw-stem.Post
-draw-stem-add-result t c =
-    let start = c .before .before .before .before in
-    omega (arith, ends (start .pre .1 .0 .1 .shows), span-pos (start .pre .1 .0 .0), start .pre .1 .1)
+draw-stem-add-result t c = omega (arith, ends (c .before .before .before .before .pre .1 .0 .1 .shows), span-pos (c .before .before .before .before .pre .1 .0 .0), c .before .before .before .before .pre .1 .1)
 
 draw-stem-returns-2 : (t : ℕ) → draw-stem-lts.Need-returns-2 (draw-stem-Cs t) (draw-stem-at t) draw-stem.Post
 draw-stem-returns-2 t c =
-    let at-if1 = c .before .before in
-    let earlier = at-if1 .before in
-    let at-is-hung = earlier in
+    let at-is-hung = c .before .before .before in
     let start = at-is-hung .before in
-    λ x k. side-drawn (start .args .p) (start .args .d) x (start .args .u) (start .args .v) (start .args .turned) _ (start .args .at) (start .args .out .now) (sym (at-is-hung .is-hung .ensures) ∙ at-if1 .if1 .left) (closed (k .shows) (c .before .if2 .taken)) (c .key .ensures)
+    λ x k. side-drawn (start .args .p) (start .args .d) x (start .args .u) (start .args .v) (start .args .turned) _ (start .args .at) (start .args .out .now)
+    (sym (at-is-hung .is-hung .ensures) ∙ c .before .before .if1 .left) (closed (k .shows) (c .before .if2 .taken)) (c .key .ensures)
 
 draw-stem-mul-c : (t : ℕ) → draw-stem-lts.Need-mul-c (draw-stem-Cs t) (draw-stem-at t) draw-stem.Post
 draw-stem-mul-c t c = omega (arith, (recorded-parts (c .before .before .before .pre .1 .0 .1) (c .if2 .left)) .parts .inside)
@@ -183,9 +152,7 @@ draw-stem-element-copy-out-c : (t : ℕ) → draw-stem-lts.Need-element-copy-out
 draw-stem-element-copy-out-c t c = omega (arith, (recorded-parts (c .before .before .before .pre .1 .0 .1) (c .if2 .left)) .parts .inside)
 
 draw-stem-cast-c : (t : ℕ) → draw-stem-lts.Need-cast-c (draw-stem-Cs t) (draw-stem-at t) draw-stem.Post
-draw-stem-cast-c t c =
-    let start = c .before .before .before .before in
-    omega (arith, (recorded-parts (start .pre .1 .0 .1) (c .before .if2 .left)) .parts, start .pre .1 .1)
+draw-stem-cast-c t c = omega (arith, (recorded-parts (c .before .before .before .before .pre .1 .0 .1) (c .before .if2 .left)) .parts, c .before .before .before .before .pre .1 .1)
 
 draw-stem-mul-i : (t : ℕ) → draw-stem-lts.Need-mul-i (draw-stem-Cs t) (draw-stem-at t) draw-stem.Post
 draw-stem-mul-i t c = omega (arith, (recorded-parts (c .before .before .before .before .pre .1 .0 .1) (c .before .if2 .left)) .parts .inside)
@@ -194,28 +161,16 @@ draw-stem-element-copy-out-i : (t : ℕ) → draw-stem-lts.Need-element-copy-out
 draw-stem-element-copy-out-i t c = omega (arith, (recorded-parts (c .before .before .before .before .pre .1 .0 .1) (c .before .if2 .left)) .parts .inside)
 
 draw-stem-cast-i : (t : ℕ) → draw-stem-lts.Need-cast-i (draw-stem-Cs t) (draw-stem-at t) draw-stem.Post
-draw-stem-cast-i t c =
-    let at-if2 = c .before .before in
-    let start = at-if2 .before .before .before in
-    omega (arith, (recorded-parts (start .pre .1 .0 .1) (at-if2 .if2 .left)) .parts, start .pre .1 .1)
+draw-stem-cast-i t c = omega (arith, (recorded-parts (c .before .before .before .before .before .pre .1 .0 .1) (c .before .before .if2 .left)) .parts, c .before .before .before .before .before .pre .1 .1)
 
 draw-stem-mul-j : (t : ℕ) → draw-stem-lts.Need-mul-j (draw-stem-Cs t) (draw-stem-at t) draw-stem.Post
-draw-stem-mul-j t c =
-    let at-if2 = c .before .before in
-    let start = at-if2 .before .before .before in
-    omega (arith, (recorded-parts (start .pre .1 .0 .1) (at-if2 .if2 .left)) .parts .inside)
+draw-stem-mul-j t c = omega (arith, (recorded-parts (c .before .before .before .before .before .pre .1 .0 .1) (c .before .before .if2 .left)) .parts .inside)
 
 draw-stem-element-copy-out-j : (t : ℕ) → draw-stem-lts.Need-element-copy-out-j (draw-stem-Cs t) (draw-stem-at t) draw-stem.Post
-draw-stem-element-copy-out-j t c =
-    let at-if2 = c .before .before in
-    let start = at-if2 .before .before .before in
-    omega (arith, (recorded-parts (start .pre .1 .0 .1) (at-if2 .if2 .left)) .parts .inside)
+draw-stem-element-copy-out-j t c = omega (arith, (recorded-parts (c .before .before .before .before .before .pre .1 .0 .1) (c .before .before .if2 .left)) .parts .inside)
 
 draw-stem-cast-j : (t : ℕ) → draw-stem-lts.Need-cast-j (draw-stem-Cs t) (draw-stem-at t) draw-stem.Post
-draw-stem-cast-j t c =
-    let at-if2 = c .before .before .before in
-    let start = at-if2 .before .before .before in
-    omega (arith, (recorded-parts (start .pre .1 .0 .1) (at-if2 .if2 .left)) .parts, start .pre .1 .1)
+draw-stem-cast-j t c = omega (arith, (recorded-parts (c .before .before .before .before .before .before .pre .1 .0 .1) (c .before .before .before .if2 .left)) .parts, c .before .before .before .before .before .before .pre .1 .1)
 
 draw-stem-number-requires : (t : ℕ) → draw-stem-lts.Need-number-requires (draw-stem-Cs t) (draw-stem-at t) draw-stem.Post
 draw-stem-number-requires t c κs = search needs
@@ -246,59 +201,41 @@ draw-stem-differ-requires-2 t c κs = search needs
 
 draw-stem-draw-two-requires : (t : ℕ) → draw-stem-lts.Need-draw-two-requires (draw-stem-Cs t) (draw-stem-at t) draw-stem.Post
 draw-stem-draw-two-requires t c κs =
-    let earlier = c .before .before .before .before .before .before .before .before .before .before .before .before .before .before .before .before .before in
-    let at-if2 = earlier in
+    let at-if2 = c .before .before .before .before .before .before .before .before .before .before .before .before .before .before .before .before .before in
     let start = at-if2 .before .before .before in
-    let k = (recorded-parts (start .pre .1 .0 .1) (at-if2 .if2 .left)) in
+    let k = recorded-parts (start .pre .1 .0 .1) (at-if2 .if2 .left) in
     (omega (arith, k .parts, start .pre .0), ((k .parts .l, k .of-l), ((k .parts .r, k .of-r), omega (arith, k .parts, start .pre .1 .1))))
 
 draw-stem-key-requires-2 : (t : ℕ) → draw-stem-lts.Need-key-requires-2 (draw-stem-Cs t) (draw-stem-at t) draw-stem.Post
 draw-stem-key-requires-2 t c κs =
-    let earlier = c .before .before .before .before .before .before .before .before .before .before .before .before .before .before .before .before .before .before in
-    let at-if2 = earlier in
+    let at-if2 = c .before .before .before .before .before .before .before .before .before .before .before .before .before .before .before .before .before .before in
     let start = at-if2 .before .before .before in
     omega (arith, (recorded-parts (start .pre .1 .0 .1) (at-if2 .if2 .left)) .parts, start .pre .1 .1)
 
-draw-stem-mul-out-2 : (t : ℕ) → draw-stem-lts.Need-mul-out-2 (draw-stem-Cs t) (draw-stem-at t) draw-stem.Post
-draw-stem-mul-out-2 t c =
-    let earlier = c .before .before .before .before .before in
-    let at-pick2 = earlier in
+-- there is room for the column behind the two pieces
+two-fit : (t : ℕ) (c : draw-stem-lts.After-draw-two (draw-stem-Cs t) (draw-stem-at t) draw-stem.Post) → c .draw-two .result + 1 < 4096
+two-fit t c =
+    let at-pick2 = c .before .before .before .before in
     let at-pick = at-pick2 .before in
     let at-differ = at-pick .before in
     let at-step-at = at-differ .before .before in
     let at-if2 = at-step-at .before .before .before .before .before .before .before .before .before .before in
     let start = at-if2 .before .before .before in
-    let k = (recorded-parts (start .pre .1 .0 .1) (at-if2 .if2 .left)) in
-    omega (arith, k .parts, start .pre .1 .1, end-two (k .parts .l) (k .parts .r) (at-step-at .step-at .result .left) (at-step-at .step-at .result .right) (start .args .d) (start .args .u) (getD (start .args .apex .now) (start .args .e) 0) (start .args .v) (at-differ .differ .result) (at-pick .pick .result) (at-pick2 .pick2 .result) (c .before .draw-two .ensures (k .parts .l) (k .parts .r) (k .of-l) (k .of-r)))
+    let k = recorded-parts (start .pre .1 .0 .1) (at-if2 .if2 .left) in
+    omega (arith, k .parts, start .pre .1 .1, end-two (k .parts .l) (k .parts .r) (at-step-at .step-at .result .left) (at-step-at .step-at .result .right) (start .args .d) (start .args .u) (getD (start .args .apex .now) (start .args .e) 0) (start .args .v) (at-differ .differ .result) (at-pick .pick .result) (at-pick2 .pick2 .result) (c .draw-two .ensures (k .parts .l) (k .parts .r) (k .of-l) (k .of-r)))
+
+draw-stem-mul-out-2 : (t : ℕ) → draw-stem-lts.Need-mul-out-2 (draw-stem-Cs t) (draw-stem-at t) draw-stem.Post
+draw-stem-mul-out-2 t c = omega (arith, two-fit t (c .before))
 
 draw-stem-element-write-out-2 : (t : ℕ) → draw-stem-lts.Need-element-write-out-2 (draw-stem-Cs t) (draw-stem-at t) draw-stem.Post
-draw-stem-element-write-out-2 t c =
-    let earlier = c .before .before .before .before .before in
-    let at-pick2 = earlier in
-    let at-pick = at-pick2 .before in
-    let at-differ = at-pick .before in
-    let at-step-at = at-differ .before .before in
-    let at-if2 = at-step-at .before .before .before .before .before .before .before .before .before .before in
-    let start = at-if2 .before .before .before in
-    let k = (recorded-parts (start .pre .1 .0 .1) (at-if2 .if2 .left)) in
-    omega (arith, k .parts, start .pre .1 .1, end-two (k .parts .l) (k .parts .r) (at-step-at .step-at .result .left) (at-step-at .step-at .result .right) (start .args .d) (start .args .u) (getD (start .args .apex .now) (start .args .e) 0) (start .args .v) (at-differ .differ .result) (at-pick .pick .result) (at-pick2 .pick2 .result) (c .before .draw-two .ensures (k .parts .l) (k .parts .r) (k .of-l) (k .of-r)))
+draw-stem-element-write-out-2 t c = omega (arith, two-fit t (c .before))
 
 draw-stem-add-result-2 : (t : ℕ) → draw-stem-lts.Need-add-result-2 (draw-stem-Cs t) (draw-stem-at t) draw-stem.Post
-draw-stem-add-result-2 t c =
-    let earlier = c .before .before .before .before .before in
-    let at-pick2 = earlier in
-    let at-pick = at-pick2 .before in
-    let at-differ = at-pick .before in
-    let at-step-at = at-differ .before .before in
-    let at-if2 = at-step-at .before .before .before .before .before .before .before .before .before .before in
-    let start = at-if2 .before .before .before in
-    let k = (recorded-parts (start .pre .1 .0 .1) (at-if2 .if2 .left)) in
-    omega (arith, k .parts, start .pre .1 .1, end-two (k .parts .l) (k .parts .r) (at-step-at .step-at .result .left) (at-step-at .step-at .result .right) (start .args .d) (start .args .u) (getD (start .args .apex .now) (start .args .e) 0) (start .args .v) (at-differ .differ .result) (at-pick .pick .result) (at-pick2 .pick2 .result) (c .before .draw-two .ensures (k .parts .l) (k .parts .r) (k .of-l) (k .of-r)))
+draw-stem-add-result-2 t c = omega (arith, two-fit t (c .before))
 
 draw-stem-returns-3 : (t : ℕ) → draw-stem-lts.Need-returns-3 (draw-stem-Cs t) (draw-stem-at t) draw-stem.Post
 draw-stem-returns-3 t c =
-    let earlier = c .before .before .before in
-    let at-if3 = earlier in
+    let at-if3 = c .before .before .before in
     let at-differ2 = at-if3 .before in
     let at-pick2 = at-differ2 .before in
     let at-pick = at-pick2 .before in
@@ -312,49 +249,49 @@ draw-stem-returns-3 t c =
     let at-if1 = at-if2 .before in
     let at-is-hung = at-if1 .before in
     let start = at-is-hung .before in
-    λ x q. let k = recorded-parts q (at-if2 .if2 .left) in last-drawn (start .args .p) (start .args .d) (k .parts .l) (k .parts .r) (start .args .u) (start .args .v) _ (at-step-at .step-at .result) (start .args .turned) (sym (at-is-hung .is-hung .ensures) ∙ at-if1 .if1 .left) (k .parts .is) (k .parts .middle) (at-step-at .step-at .ensures ∙ rw (at-number .number .ensures, at-number2 .number2 .ensures, at-number3 .number3 .ensures) (k .step-is (start .args .p) (start .args .d))) (at-from-right .from-right .result) (at-differ .differ .result) (at-pick .pick .result) (at-pick2 .pick2 .result) (at-from-right .from-right .ensures) (at-differ .differ .ensures) (at-pick .pick .ensures) (at-pick2 .pick2 .ensures) (at-differ2 .differ2 .result) (at-differ2 .differ2 .ensures) (at-if3 .if3 .taken) _ (c .key2 .ensures) (c .before .draw-two .ensures (k .parts .l) (k .parts .r) (k .of-l) (k .of-r))
+    λ x q.
+    let k = recorded-parts q (at-if2 .if2 .left) in
+    last-drawn (start .args .p) (start .args .d) (k .parts .l) (k .parts .r) (start .args .u) (start .args .v) _ (at-step-at .step-at .result) (start .args .turned)
+    (sym (at-is-hung .is-hung .ensures) ∙ at-if1 .if1 .left) (k .parts .is) (k .parts .middle)
+    (at-step-at .step-at .ensures ∙ rw (at-number .number .ensures, at-number2 .number2 .ensures, at-number3 .number3 .ensures) (k .step-is (start .args .p) (start .args .d)))
+    (at-from-right .from-right .result) (at-differ .differ .result) (at-pick .pick .result) (at-pick2 .pick2 .result) (at-from-right .from-right .ensures)
+    (at-differ .differ .ensures) (at-pick .pick .ensures) (at-pick2 .pick2 .ensures) (at-differ2 .differ2 .result) (at-differ2 .differ2 .ensures) (at-if3 .if3 .taken) _
+    (c .key2 .ensures) (c .before .draw-two .ensures (k .parts .l) (k .parts .r) (k .of-l) (k .of-r))
 
 draw-stem-key-requires-3 : (t : ℕ) → draw-stem-lts.Need-key-requires-3 (draw-stem-Cs t) (draw-stem-at t) draw-stem.Post
 draw-stem-key-requires-3 t c κs =
-    let earlier = c .before .before .before .before .before .before .before .before .before .before .before .before .before .before .before .before in
-    let at-if2 = earlier in
+    let at-if2 = c .before .before .before .before .before .before .before .before .before .before .before .before .before .before .before .before in
     let start = at-if2 .before .before .before in
     omega (arith, (recorded-parts (start .pre .1 .0 .1) (at-if2 .if2 .left)) .parts, start .pre .1 .1)
 
 draw-stem-mul-out-3 : (t : ℕ) → draw-stem-lts.Need-mul-out-3 (draw-stem-Cs t) (draw-stem-at t) draw-stem.Post
 draw-stem-mul-out-3 t c =
-    let earlier = c .before .before .before .before .before .before .before .before .before .before .before .before .before .before .before .before .before in
-    let at-if2 = earlier in
+    let at-if2 = c .before .before .before .before .before .before .before .before .before .before .before .before .before .before .before .before .before in
     let start = at-if2 .before .before .before in
     omega (arith, (recorded-parts (start .pre .1 .0 .1) (at-if2 .if2 .left)) .parts, start .pre .1 .1)
 
 draw-stem-element-write-out-3 : (t : ℕ) → draw-stem-lts.Need-element-write-out-3 (draw-stem-Cs t) (draw-stem-at t) draw-stem.Post
 draw-stem-element-write-out-3 t c =
-    let earlier = c .before .before .before .before .before .before .before .before .before .before .before .before .before .before .before .before .before in
-    let at-if2 = earlier in
+    let at-if2 = c .before .before .before .before .before .before .before .before .before .before .before .before .before .before .before .before .before in
     let start = at-if2 .before .before .before in
     omega (arith, (recorded-parts (start .pre .1 .0 .1) (at-if2 .if2 .left)) .parts, start .pre .1 .1)
 
 draw-stem-add-draw-two : (t : ℕ) → draw-stem-lts.Need-add-draw-two (draw-stem-Cs t) (draw-stem-at t) draw-stem.Post
 draw-stem-add-draw-two t c =
-    let earlier = c .before .before .before .before .before .before .before .before .before .before .before .before .before .before .before .before .before in
-    let at-if2 = earlier in
+    let at-if2 = c .before .before .before .before .before .before .before .before .before .before .before .before .before .before .before .before .before in
     let start = at-if2 .before .before .before in
     omega (arith, (recorded-parts (start .pre .1 .0 .1) (at-if2 .if2 .left)) .parts, start .pre .1 .1)
 
 draw-stem-draw-two-requires-2 : (t : ℕ) → draw-stem-lts.Need-draw-two-requires-2 (draw-stem-Cs t) (draw-stem-at t) draw-stem.Post
 draw-stem-draw-two-requires-2 t c κs =
-    let earlier = c .before .before .before .before .before .before .before .before .before .before .before .before .before .before .before .before .before .before in
-    let at-if2 = earlier in
+    let at-if2 = c .before .before .before .before .before .before .before .before .before .before .before .before .before .before .before .before .before .before in
     let start = at-if2 .before .before .before in
-    let k = (recorded-parts (start .pre .1 .0 .1) (at-if2 .if2 .left)) in
+    let k = recorded-parts (start .pre .1 .0 .1) (at-if2 .if2 .left) in
     (omega (arith, k .parts, start .pre .0), ((k .parts .l, k .of-l), ((k .parts .r, k .of-r), omega (arith, k .parts, start .pre .1 .1))))
 
 draw-stem-returns-4 : (t : ℕ) → draw-stem-lts.Need-returns-4 (draw-stem-Cs t) (draw-stem-at t) draw-stem.Post
 draw-stem-returns-4 t c =
-    let at-key3 = c .before .before in
-    let earlier = at-key3 .before in
-    let at-if3 = earlier in
+    let at-if3 = c .before .before .before in
     let at-differ2 = at-if3 .before in
     let at-pick2 = at-differ2 .before in
     let at-pick = at-pick2 .before in
@@ -368,7 +305,14 @@ draw-stem-returns-4 t c =
     let at-if1 = at-if2 .before in
     let at-is-hung = at-if1 .before in
     let start = at-is-hung .before in
-    λ x q. let k = recorded-parts q (at-if2 .if2 .left) in first-drawn (start .args .p) (start .args .d) (k .parts .l) (k .parts .r) (start .args .u) (start .args .v) _ (at-step-at .step-at .result) (start .args .turned) (sym (at-is-hung .is-hung .ensures) ∙ at-if1 .if1 .left) (k .parts .is) (k .parts .middle) (at-step-at .step-at .ensures ∙ rw (at-number .number .ensures, at-number2 .number2 .ensures, at-number3 .number3 .ensures) (k .step-is (start .args .p) (start .args .d))) (at-from-right .from-right .result) (at-differ .differ .result) (at-pick .pick .result) (at-pick2 .pick2 .result) (at-from-right .from-right .ensures) (at-differ .differ .ensures) (at-pick .pick .ensures) (at-pick2 .pick2 .ensures) (at-differ2 .differ2 .result) (at-differ2 .differ2 .ensures) (at-if3 .if3 .left) _ (start .args .at) (start .args .out .now) (at-key3 .key3 .ensures) (c .draw-two2 .ensures (k .parts .l) (k .parts .r) (k .of-l) (k .of-r))
+    λ x q.
+    let k = recorded-parts q (at-if2 .if2 .left) in
+    first-drawn (start .args .p) (start .args .d) (k .parts .l) (k .parts .r) (start .args .u) (start .args .v) _ (at-step-at .step-at .result) (start .args .turned)
+    (sym (at-is-hung .is-hung .ensures) ∙ at-if1 .if1 .left) (k .parts .is) (k .parts .middle)
+    (at-step-at .step-at .ensures ∙ rw (at-number .number .ensures, at-number2 .number2 .ensures, at-number3 .number3 .ensures) (k .step-is (start .args .p) (start .args .d)))
+    (at-from-right .from-right .result) (at-differ .differ .result) (at-pick .pick .result) (at-pick2 .pick2 .result) (at-from-right .from-right .ensures)
+    (at-differ .differ .ensures) (at-pick .pick .ensures) (at-pick2 .pick2 .ensures) (at-differ2 .differ2 .result) (at-differ2 .differ2 .ensures) (at-if3 .if3 .left) _
+    (start .args .at) (start .args .out .now) (c .before .before .key3 .ensures) (c .draw-two2 .ensures (k .parts .l) (k .parts .r) (k .of-l) (k .of-r))
 
 draw-two-draw-stem-requires : (t : ℕ) → draw-two-lts.Need-draw-stem-requires (draw-two-Cs t) (draw-two-at t) draw-two.Post
 draw-two-draw-stem-requires t c κs =
@@ -381,11 +325,7 @@ draw-two-draw-stem-requires-2 t c κs =
     (omega (arith, ends (start .pre .1 .0 .1 .shows), ends (start .pre .1 .1 .0 .1 .shows), span-pos (start .pre .1 .0 .0), span-pos (start .pre .1 .1 .0 .0), start .pre .1 .1 .1, start .pre .0), (start .pre .1 .0, omega (arith, ends (start .pre .1 .0 .1 .shows), ends (start .pre .1 .1 .0 .1 .shows), span-pos (start .pre .1 .0 .0), span-pos (start .pre .1 .1 .0 .0), start .pre .1 .1 .1, end-one (start .pre .1 .1 .0 .0) (start .args .b) (start .args .d) (start .args .c) (start .args .v) (start .args .turned-r) (c .before .draw-stem .ensures (start .pre .1 .1 .0 .0) (start .pre .1 .1 .0 .1)))))
 
 draw-two-returns : (t : ℕ) → draw-two-lts.Need-returns (draw-two-Cs t) (draw-two-at t) draw-two.Post
-draw-two-returns t c =
-    let at-draw-stem = c .before .before in
-    let at-if1 = at-draw-stem .before .before in
-    let start = at-if1 .before in
-    λ l r p q. swapped-drawn (start .args .swapped) (at-if1 .if1 .taken) (at-draw-stem .draw-stem .ensures r q) (c .draw-stem2 .ensures l p)
+draw-two-returns t c = λ l r p q. swapped-drawn (c .before .before .before .before .before .args .swapped) (c .before .before .before .before .if1 .taken) (c .before .before .draw-stem .ensures r q) (c .draw-stem2 .ensures l p)
 
 draw-two-draw-stem-requires-3 : (t : ℕ) → draw-two-lts.Need-draw-stem-requires-3 (draw-two-Cs t) (draw-two-at t) draw-two.Post
 draw-two-draw-stem-requires-3 t c κs =
@@ -398,11 +338,7 @@ draw-two-draw-stem-requires-4 t c κs =
     (omega (arith, ends (start .pre .1 .0 .1 .shows), ends (start .pre .1 .1 .0 .1 .shows), span-pos (start .pre .1 .0 .0), span-pos (start .pre .1 .1 .0 .0), start .pre .1 .1 .1, start .pre .0), (start .pre .1 .1 .0, omega (arith, ends (start .pre .1 .0 .1 .shows), ends (start .pre .1 .1 .0 .1 .shows), span-pos (start .pre .1 .0 .0), span-pos (start .pre .1 .1 .0 .0), start .pre .1 .1 .1, end-one (start .pre .1 .0 .0) (start .args .a) (start .args .d) (start .args .u) (start .args .c) (start .args .turned-l) (c .before .draw-stem3 .ensures (start .pre .1 .0 .0) (start .pre .1 .0 .1)))))
 
 draw-two-returns-2 : (t : ℕ) → draw-two-lts.Need-returns-2 (draw-two-Cs t) (draw-two-at t) draw-two.Post
-draw-two-returns-2 t c =
-    let at-draw-stem3 = c .before .before in
-    let at-if1 = at-draw-stem3 .before .before in
-    let start = at-if1 .before in
-    λ l r p q. two-drawn (start .args .swapped) (at-if1 .if1 .left) (at-draw-stem3 .draw-stem3 .ensures l p) (c .draw-stem4 .ensures r q)
+draw-two-returns-2 t c = λ l r p q. two-drawn (c .before .before .before .before .before .args .swapped) (c .before .before .before .before .if1 .left) (c .before .before .draw-stem3 .ensures l p) (c .draw-stem4 .ensures r q)
 
 pub +draw-piece+draw-stem+draw-two-spec : {M : Type 1} → statement M
 +draw-piece+draw-stem+draw-two-spec = close μ-draw-piece μ-draw-stem μ-draw-two (λ t. draw-piece-lts.spec (draw-piece-Cs t) (draw-piece-at t) draw-piece.Post (draw-piece-returns t) (draw-piece-mul-c t) (draw-piece-element-copy-out-c t) (draw-piece-cast-c t) (draw-piece-mul-i t) (draw-piece-element-copy-out-i t) (draw-piece-cast-i t) (draw-piece-mul-j t) (draw-piece-element-copy-out-j t) (draw-piece-cast-j t) (draw-piece-mul-d t) (draw-piece-element-copy-out-d t) (draw-piece-sub-d t) (draw-piece-draw-two-requires t) (draw-piece-returns-2 t)) (λ t. draw-stem-lts.spec (draw-stem-Cs t) (draw-stem-at t) draw-stem.Post (draw-stem-is-hung-requires t) (draw-stem-draw-piece-requires t) (draw-stem-returns t) (draw-stem-key-requires t) (draw-stem-mul-out t) (draw-stem-element-write-out t) (draw-stem-add-result t) (draw-stem-returns-2 t) (draw-stem-mul-c t) (draw-stem-element-copy-out-c t) (draw-stem-cast-c t) (draw-stem-mul-i t) (draw-stem-element-copy-out-i t) (draw-stem-cast-i t) (draw-stem-mul-j t) (draw-stem-element-copy-out-j t) (draw-stem-cast-j t) (draw-stem-number-requires t) (draw-stem-number-requires-2 t) (draw-stem-number-requires-3 t) (draw-stem-step-at-requires t) (draw-stem-from-right-requires t) (draw-stem-differ-requires t) (draw-stem-pick-requires t) (draw-stem-pick-requires-2 t) (draw-stem-differ-requires-2 t) (draw-stem-draw-two-requires t) (draw-stem-key-requires-2 t) (draw-stem-mul-out-2 t) (draw-stem-element-write-out-2 t) (draw-stem-add-result-2 t) (draw-stem-returns-3 t) (draw-stem-key-requires-3 t) (draw-stem-mul-out-3 t) (draw-stem-element-write-out-3 t) (draw-stem-add-draw-two t) (draw-stem-draw-two-requires-2 t) (draw-stem-returns-4 t)) λ t. draw-two-lts.spec (draw-two-Cs t) (draw-two-at t) draw-two.Post (draw-two-draw-stem-requires t) (draw-two-draw-stem-requires-2 t) (draw-two-returns t) (draw-two-draw-stem-requires-3 t) (draw-two-draw-stem-requires-4 t) (draw-two-returns-2 t)

@@ -1,11 +1,12 @@
 -- The span falls at each call; each step by the laws of Placing.antt.
-use mathlib.Core.Path.{ap, _∙_}
+use mathlib.Core.Path.{_≡_, ap, _∙_}
 use Prim.Native.Nat.{_+_, _*_, _-_}
 use borrow.Author.Needs.{needs}
 use native.Mathlib.Omega.{arith}
 use Rattle.polygon.specs.Tree.{node, span}
 use Rattle.umbrella.proofs.Wide.{nine}
 use Rattle.plan.proofs.Pieces.{ends, closed}
+use Rattle.drawing.specs.Parts.{stepOf}
 use Rattle.drawing.proofs.Recording.{recorded-parts}
 use Rattle.drawing.proofs.Placing.{Small, lines-small, side-placed, lines-are, triangle-placed}
 use Prim.Native.Nat.{ℕ, _<_}
@@ -51,10 +52,7 @@ place-rows-element-copy-out-i : (t : ℕ) → place-rows-lts.Need-element-copy-o
 place-rows-element-copy-out-i t c = omega (arith, (recorded-parts (c .before .before .pre .1 .0 .1) (c .before .if1 .left)) .parts .inside)
 
 place-rows-cast-i : (t : ℕ) → place-rows-lts.Need-cast-i (place-rows-Cs t) (place-rows-at t) place-rows.Post
-place-rows-cast-i t c =
-    let at-if1 = c .before .before in
-    let start = at-if1 .before in
-    omega (arith, (recorded-parts (start .pre .1 .0 .1) (at-if1 .if1 .left)) .parts, start .pre .1 .1)
+place-rows-cast-i t c = omega (arith, (recorded-parts (c .before .before .before .pre .1 .0 .1) (c .before .before .if1 .left)) .parts, c .before .before .before .pre .1 .1)
 
 place-rows-mul-j : (t : ℕ) → place-rows-lts.Need-mul-j (place-rows-Cs t) (place-rows-at t) place-rows.Post
 place-rows-mul-j t c = omega (arith, (recorded-parts (c .before .before .before .pre .1 .0 .1) (c .before .before .if1 .left)) .parts .inside)
@@ -63,10 +61,7 @@ place-rows-element-copy-out-j : (t : ℕ) → place-rows-lts.Need-element-copy-o
 place-rows-element-copy-out-j t c = omega (arith, (recorded-parts (c .before .before .before .pre .1 .0 .1) (c .before .before .if1 .left)) .parts .inside)
 
 place-rows-cast-j : (t : ℕ) → place-rows-lts.Need-cast-j (place-rows-Cs t) (place-rows-at t) place-rows.Post
-place-rows-cast-j t c =
-    let at-if1 = c .before .before .before in
-    let start = at-if1 .before in
-    omega (arith, (recorded-parts (start .pre .1 .0 .1) (at-if1 .if1 .left)) .parts, start .pre .1 .1)
+place-rows-cast-j t c = omega (arith, (recorded-parts (c .before .before .before .before .pre .1 .0 .1) (c .before .before .before .if1 .left)) .parts, c .before .before .before .before .pre .1 .1)
 
 place-rows-number-requires : (t : ℕ) → place-rows-lts.Need-number-requires (place-rows-Cs t) (place-rows-at t) place-rows.Post
 place-rows-number-requires t c κs = search needs
@@ -85,8 +80,7 @@ place-rows-number-requires-4 t c κs = search needs
 
 place-rows-lines-at-requires : (t : ℕ) → place-rows-lts.Need-lines-at-requires (place-rows-Cs t) (place-rows-at t) place-rows.Post
 place-rows-lines-at-requires t c κs =
-    let earlier = c .before .before .before .before .before .before .before .before .before .before .before .before in
-    let at-if1 = earlier in
+    let at-if1 = c .before .before .before .before .before .before .before .before .before .before .before .before in
     let start = at-if1 .before in
     let k = recorded-parts (start .pre .1 .0 .1) (at-if1 .if1 .left) in
     omega (arith, start .pre .1 .1, c .number4 .ensures, k .levels-are, k .not-empty, nine (node (k .parts .l) (k .parts .r)) (omega (arith, ends (start .pre .1 .0 .1 .shows), ap span (k .parts .is), start .pre .1 .1)))
@@ -99,12 +93,12 @@ lines-fit t c =
     let start = at-if1 .before in
     let k = recorded-parts (start .pre .1 .0 .1) (at-if1 .if1 .left) in
     let levels = nine (node (k .parts .l) (k .parts .r)) (omega (arith, ends (start .pre .1 .0 .1 .shows), ap span (k .parts .is), start .pre .1 .1)) in
-    rw (c .lines-at .ensures) (lines-small (start .args .p) (at-number4 .before .before .step-at .result .crossed) (start .args .d) (at-number4 .number4 .result) (50000 - 20 * (start .args .v - start .args .u)) (start .args .far) (start .args .near) (omega (arith, start .pre .1 .1)) (omega (arith, start .pre .1 .1)) (omega (arith, at-number4 .number4 .ensures, k .levels-are, levels)))
+    rw (c .lines-at .ensures)
+    (lines-small (start .args .p) (at-number4 .before .before .step-at .result .crossed) (start .args .d) (at-number4 .number4 .result) (50000 - 20 * (start .args .v - start .args .u)) (start .args .far) (start .args .near) (omega (arith, start .pre .1 .1)) (omega (arith, start .pre .1 .1)) (omega (arith, at-number4 .number4 .ensures, k .levels-are, levels)))
 
 place-rows-place-rows-requires : (t : ℕ) → place-rows-lts.Need-place-rows-requires (place-rows-Cs t) (place-rows-at t) place-rows.Post
 place-rows-place-rows-requires t c κs =
-    let earlier = c .before .before .before .before in
-    let at-lines-at = earlier in
+    let at-lines-at = c .before .before .before .before in
     let at-if1 = at-lines-at .before .before .before .before .before .before .before .before .before .before .before .before .before in
     let start = at-if1 .before in
     let k = recorded-parts (start .pre .1 .0 .1) (at-if1 .if1 .left) in
@@ -113,22 +107,19 @@ place-rows-place-rows-requires t c κs =
 
 place-rows-mul-rows : (t : ℕ) → place-rows-lts.Need-mul-rows (place-rows-Cs t) (place-rows-at t) place-rows.Post
 place-rows-mul-rows t c =
-    let earlier = c .before .before .before .before .before .before .before .before .before .before .before .before .before .before .before .before .before .before in
-    let at-if1 = earlier in
+    let at-if1 = c .before .before .before .before .before .before .before .before .before .before .before .before .before .before .before .before .before .before in
     let start = at-if1 .before in
     omega (arith, (recorded-parts (start .pre .1 .0 .1) (at-if1 .if1 .left)) .parts, start .pre .1 .1)
 
 place-rows-element-write-rows : (t : ℕ) → place-rows-lts.Need-element-write-rows (place-rows-Cs t) (place-rows-at t) place-rows.Post
 place-rows-element-write-rows t c =
-    let earlier = c .before .before .before .before .before .before .before .before .before .before .before .before .before .before .before .before .before .before in
-    let at-if1 = earlier in
+    let at-if1 = c .before .before .before .before .before .before .before .before .before .before .before .before .before .before .before .before .before .before in
     let start = at-if1 .before in
     omega (arith, (recorded-parts (start .pre .1 .0 .1) (at-if1 .if1 .left)) .parts, start .pre .1 .1)
 
 place-rows-place-rows-requires-2 : (t : ℕ) → place-rows-lts.Need-place-rows-requires-2 (place-rows-Cs t) (place-rows-at t) place-rows.Post
 place-rows-place-rows-requires-2 t c κs =
-    let earlier = c .before .before .before .before .before .before in
-    let at-lines-at = earlier in
+    let at-lines-at = c .before .before .before .before .before .before in
     let at-if1 = at-lines-at .before .before .before .before .before .before .before .before .before .before .before .before .before in
     let start = at-if1 .before in
     let k = recorded-parts (start .pre .1 .0 .1) (at-if1 .if1 .left) in
@@ -137,9 +128,7 @@ place-rows-place-rows-requires-2 t c κs =
 
 place-rows-returns-2 : (t : ℕ) → place-rows-lts.Need-returns-2 (place-rows-Cs t) (place-rows-at t) place-rows.Post
 place-rows-returns-2 t c =
-    let at-place-rows = c .before .before in
-    let earlier = at-place-rows .before .before .before .before .before in
-    let at-lines-at = earlier in
+    let at-lines-at = c .before .before .before .before .before .before .before in
     let at-number4 = at-lines-at .before in
     let at-step-at = at-number4 .before .before in
     let at-number3 = at-step-at .before in
@@ -147,7 +136,13 @@ place-rows-returns-2 t c =
     let at-number = at-number2 .before .before in
     let at-if1 = at-number .before .before .before .before .before in
     let start = at-if1 .before in
-    λ x w. let k = recorded-parts w (at-if1 .if1 .left) in triangle-placed (start .args .p) (start .args .d) (start .args .far) (start .args .near) (k .parts .l) (k .parts .r) (start .args .u) _ (at-step-at .step-at .result) (at-lines-at .lines-at .result) (start .args .rows .now) _ _ (k .parts .is) (k .parts .middle) (at-step-at .step-at .ensures ∙ rw (at-number .number .ensures, at-number2 .number2 .ensures, at-number3 .number3 .ensures) (k .step-is (start .args .p) (start .args .d))) (lines-are (start .args .p) (start .args .d) (at-number4 .number4 .result) (start .args .far) (start .args .near) (k .parts .l) (k .parts .r) (at-step-at .step-at .result) (at-lines-at .lines-at .result) (at-step-at .step-at .ensures ∙ rw (at-number .number .ensures, at-number2 .number2 .ensures, at-number3 .number3 .ensures) (k .step-is (start .args .p) (start .args .d))) (at-number4 .number4 .ensures ∙ k .levels-are) (at-lines-at .lines-at .ensures)) (at-place-rows .place-rows .ensures (k .parts .l) (k .of-l)) (c .place-rows2 .ensures (k .parts .r) (k .of-r))
+    λ x w.
+    let k = recorded-parts w (at-if1 .if1 .left) in
+    let step : at-step-at .step-at .result ≡ stepOf (start .args .p) (start .args .d) (k .parts .l) (k .parts .r) = at-step-at .step-at .ensures ∙ rw (at-number .number .ensures, at-number2 .number2 .ensures, at-number3 .number3 .ensures) (k .step-is (start .args .p) (start .args .d)) in
+    triangle-placed (start .args .p) (start .args .d) (start .args .far) (start .args .near) (k .parts .l) (k .parts .r) (start .args .u) _ (at-step-at .step-at .result)
+    (at-lines-at .lines-at .result) (start .args .rows .now) _ _ (k .parts .is) (k .parts .middle) step
+    (lines-are (start .args .p) (start .args .d) (at-number4 .number4 .result) (start .args .far) (start .args .near) (k .parts .l) (k .parts .r) (at-step-at .step-at .result) (at-lines-at .lines-at .result) step (at-number4 .number4 .ensures ∙ k .levels-are) (at-lines-at .lines-at .ensures))
+    (c .before .before .place-rows .ensures (k .parts .l) (k .of-l)) (c .place-rows2 .ensures (k .parts .r) (k .of-r))
 
 pub +place-rows-spec : {M : Type 1} → statement M
 +place-rows-spec = close μ-place-rows λ t. place-rows-lts.spec (place-rows-Cs t) (place-rows-at t) place-rows.Post (place-rows-returns t) (place-rows-mul-c t) (place-rows-element-copy-out-c t) (place-rows-cast-c t) (place-rows-mul-i t) (place-rows-element-copy-out-i t) (place-rows-cast-i t) (place-rows-mul-j t) (place-rows-element-copy-out-j t) (place-rows-cast-j t) (place-rows-number-requires t) (place-rows-number-requires-2 t) (place-rows-number-requires-3 t) (place-rows-step-at-requires t) (place-rows-number-requires-4 t) (place-rows-lines-at-requires t) (place-rows-place-rows-requires t) (place-rows-mul-rows t) (place-rows-element-write-rows t) (place-rows-place-rows-requires-2 t) (place-rows-returns-2 t)

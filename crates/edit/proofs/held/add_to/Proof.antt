@@ -17,7 +17,8 @@ returns c =
 returns-2 : tie.Need-returns-2
 returns-2 c =
     let start = c .before .before .before .before in
-    rule-refused (addEar (start .args .side)) (polygonOf (start .args .h) (start .args .keys .now)) (start .args .out .now) 10 (add-full (start .args .h) (start .args .keys .now) (start .pre) (start .args .side) (omega arith) (c .if2 .taken))
+    rule-refused (addEar (start .args .side)) (polygonOf (start .args .h) (start .args .keys .now)) (start .args .out .now) 10
+    (add-full (start .args .h) (start .args .keys .now) (start .pre) (start .args .side) (omega arith) (c .if2 .taken))
 
 sub-m : tie.Need-sub-m
 sub-m c = omega (arith, c .before .before .before .before .pre .fits .least)

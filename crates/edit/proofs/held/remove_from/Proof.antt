@@ -19,7 +19,8 @@ returns c =
 returns-2 : tie.Need-returns-2
 returns-2 c =
     let start = c .before .before .before .before in
-    rule-refused (removeEar (start .args .corner)) (polygonOf (start .args .h) (start .args .keys .now)) (start .args .out .now) 11 (remove-triangle (start .args .h) (start .args .keys .now) (start .pre) (start .args .corner) (omega arith) (c .if2 .taken))
+    rule-refused (removeEar (start .args .corner)) (polygonOf (start .args .h) (start .args .keys .now)) (start .args .out .now) 11
+    (remove-triangle (start .args .h) (start .args .keys .now) (start .pre) (start .args .corner) (omega arith) (c .if2 .taken))
 
 sub-m : tie.Need-sub-m
 sub-m c = omega (arith, c .before .before .before .before .pre .fits .least)
@@ -40,7 +41,8 @@ returns-3 : tie.Need-returns-3
 returns-3 c =
     let at-if2 = c .before .before .before in
     let start = at-if2 .before .before .before .before in
-    rule-refused (removeEar (start .args .corner)) (polygonOf (start .args .h) (start .args .keys .now)) (start .args .out .now) 12 (remove-no-ear (start .args .h) (start .args .keys .now) (start .pre) (start .args .corner) (omega arith) (at-if2 .if2 .left) (c .before .is-ear .ensures .1 (not-true _ (c .if3 .taken))))
+    rule-refused (removeEar (start .args .corner)) (polygonOf (start .args .h) (start .args .keys .now)) (start .args .out .now) 12
+    (remove-no-ear (start .args .h) (start .args .keys .now) (start .pre) (start .args .corner) (omega arith) (at-if2 .if2 .left) (c .before .is-ear .ensures .1 (not-true _ (c .if3 .taken))))
 
 low-neighbour-requires : tie.Need-low-neighbour-requires
 low-neighbour-requires c κs = omega (arith, c .before .before .before .before .before .before .before .pre .fits .least, c .before .before .before .before .before .before .before .pre .fits .most)
@@ -72,7 +74,11 @@ renumber-requires c κs =
     let at-is-ear = at-if3 .before in
     let at-if2 = at-is-ear .before .before in
     let start = at-if2 .before .before .before .before in
-    can-fall (start .args .h) (start .args .keys .now) (start .pre) (start .args .corner) (omega arith) (at-if2 .if2 .left) (at-is-ear .is-ear .ensures .0 (not-false _ (at-if3 .if3 .left))) (at-low-neighbour .low-neighbour .result) (at-high-neighbour .high-neighbour .result) (at-key .key .result) (at-low-neighbour .low-neighbour .ensures .0) (at-high-neighbour .high-neighbour .ensures .0) (at-high-neighbour .high-neighbour .ensures .1) (at-key .key .ensures) (at-remove .remove .last .0) (at-remove .remove .result) (at-remove .remove .ensures .0) (at-remove .remove .ensures .1) (omega (arith, at-remove .remove .kept .0, start .pre .room))
+    can-fall (start .args .h) (start .args .keys .now) (start .pre) (start .args .corner) (omega arith) (at-if2 .if2 .left)
+    (at-is-ear .is-ear .ensures .0 (not-false _ (at-if3 .if3 .left))) (at-low-neighbour .low-neighbour .result) (at-high-neighbour .high-neighbour .result)
+    (at-key .key .result) (at-low-neighbour .low-neighbour .ensures .0) (at-high-neighbour .high-neighbour .ensures .0) (at-high-neighbour .high-neighbour .ensures .1)
+    (at-key .key .ensures) (at-remove .remove .last .0) (at-remove .remove .result) (at-remove .remove .ensures .0) (at-remove .remove .ensures .1)
+    (omega (arith, at-remove .remove .kept .0, start .pre .room))
 
 sub-t14 : tie.Need-sub-t14
 sub-t14 c = omega (arith, c .before .before .before .before .before .before .before .before .before .before .before .before .before .before .before .before .before .before .pre .fits .least)

@@ -35,7 +35,8 @@ returns : tie.Need-returns
 returns c =
     let at-key = c .before .before .before in
     let start = at-key .before .before .before in
-    rule-refused (flip (start .args .a) (start .args .b)) (polygonOf (start .args .h) (start .args .keys .now)) (start .args .out .now) 13 (turn-lacks (start .args .h) (start .args .keys .now) (start .pre .0) (start .args .a) (start .args .b) (start .pre .1 .0) (start .pre .1 .1) (at-key .key .result) (at-key .key .ensures) (c .before .has .ensures .1 (not-true _ (c .if1 .taken))))
+    rule-refused (flip (start .args .a) (start .args .b)) (polygonOf (start .args .h) (start .args .keys .now)) (start .args .out .now) 13
+    (turn-lacks (start .args .h) (start .args .keys .now) (start .pre .0) (start .args .a) (start .args .b) (start .pre .1 .0) (start .pre .1 .1) (at-key .key .result) (at-key .key .ensures) (c .before .has .ensures .1 (not-true _ (c .if1 .taken))))
 
 slice-reshare-prefix-turned-key : tie.Need-slice-reshare-prefix-turned-key
 slice-reshare-prefix-turned-key c = omega (arith, c .before .before .before .before .before .before .pre .0 .room, c .before .before .before .before .before .before .pre .0 .fits .most)
@@ -45,8 +46,13 @@ slice-aggregate-turned-key c = sym (length-take-le _ (c .before .before .before 
 
 turned-key-requires : tie.Need-turned-key-requires
 turned-key-requires c κs =
-    let start = c .before .before .before .before .before .before .before in
-    (start .pre .0 .fits .least, start .pre .0 .fits .most, omega (arith, start .pre .1), start .pre .1 .1, small-front (start .args .h .n - 3) (start .args .keys .now) (omega (arith, start .pre .0 .room, start .pre .0 .fits .most)) (start .pre .0 .fits .keys))
+    let start = c .before .before .before .before .before .before .before in (
+      start .pre .0 .fits .least,
+      start .pre .0 .fits .most,
+      omega (arith, start .pre .1),
+      start .pre .1 .1,
+      small-front (start .args .h .n - 3) (start .args .keys .now) (omega (arith, start .pre .0 .room, start .pre .0 .fits .most)) (start .pre .0 .fits .keys),
+    )
 
 remove-requires : tie.Need-remove-requires
 remove-requires c κs = omega (arith, c .before .before .before .before .before .before .before .before .before .pre .0 .room, c .before .before .before .before .before .before .before .before .before .pre .0 .fits .most)

@@ -35,7 +35,8 @@ returns c =
     let at-mark2 = c .before .before .before .before .before in
     let at-mark = at-mark2 .before .before .before in
     let start = at-mark .before .before .before in
-    λ x y e. absurd (omega (arith, c .if1 .taken, first-found (start .args .n) (start .args .a) (start .args .b) (edgesOf (start .args .keys .now)) (at-mark .mark .last .1 .1 .1 .0) (at-mark2 .mark2 .last .1 .1 .1 .0) (at-mark .mark .ensures) (at-mark2 .mark2 .ensures) x y e _ (c .before .first-common .ensures)))
+    λ x y e. absurd
+    (omega (arith, c .if1 .taken, first-found (start .args .n) (start .args .a) (start .args .b) (edgesOf (start .args .keys .now)) (at-mark .mark .last .1 .1 .1 .0) (at-mark2 .mark2 .last .1 .1 .1 .0) (at-mark .mark .ensures) (at-mark2 .mark2 .ensures) x y e _ (c .before .first-common .ensures)))
 
 slice-aggregate-first-common-3 : tie.Need-slice-aggregate-first-common-3
 slice-aggregate-first-common-3 c = search needs
@@ -55,7 +56,10 @@ returns-2 c =
     let at-mark2 = at-first-common .before .before .before .before in
     let at-mark = at-mark2 .before .before .before in
     let start = at-mark .before .before .before in
-    λ x y e. let F = first-found (start .args .n) (start .args .a) (start .args .b) (edgesOf (start .args .keys .now)) (at-mark .mark .last .1 .1 .1 .0) (at-mark2 .mark2 .last .1 .1 .1 .0) (at-mark .mark .ensures) (at-mark2 .mark2 .ensures) x y e _ (at-first-common .first-common .ensures) in let C : Common (at-mark .mark .last .1 .1 .1 .0) (at-mark2 .mark2 .last .1 .1 .1 .0) (x + 1) (start .args .n) (c .before .first-common2 .result) = rw (F .0) at (c .before .first-common2 .ensures) in absurd (omega (arith, c .if2 .taken, second-found (start .args .n) (start .args .a) (start .args .b) (edgesOf (start .args .keys .now)) (at-mark .mark .last .1 .1 .1 .0) (at-mark2 .mark2 .last .1 .1 .1 .0) (at-mark .mark .ensures) (at-mark2 .mark2 .ensures) x y e _ C))
+    λ x y e.
+    let F = first-found (start .args .n) (start .args .a) (start .args .b) (edgesOf (start .args .keys .now)) (at-mark .mark .last .1 .1 .1 .0) (at-mark2 .mark2 .last .1 .1 .1 .0) (at-mark .mark .ensures) (at-mark2 .mark2 .ensures) x y e _ (at-first-common .first-common .ensures) in
+    let C : Common (at-mark .mark .last .1 .1 .1 .0) (at-mark2 .mark2 .last .1 .1 .1 .0) (x + 1) (start .args .n) (c .before .first-common2 .result) = rw (F .0) at (c .before .first-common2 .ensures) in
+    absurd (omega (arith, c .if2 .taken, second-found (start .args .n) (start .args .a) (start .args .b) (edgesOf (start .args .keys .now)) (at-mark .mark .last .1 .1 .1 .0) (at-mark2 .mark2 .last .1 .1 .1 .0) (at-mark .mark .ensures) (at-mark2 .mark2 .ensures) x y e _ C))
 
 key-requires : tie.Need-key-requires
 key-requires c κs = omega (arith, c .before .before .before .before .before .before .before .before .before .before .before .before .before .before .before .pre .1, c .before .before .before .before .before .first-common .ensures, c .before .first-common2 .ensures, c .before .before .before .before .if1 .left, c .if2 .left)
@@ -67,7 +71,10 @@ returns-3 c =
     let at-mark2 = at-first-common .before .before .before .before in
     let at-mark = at-mark2 .before .before .before in
     let start = at-mark .before .before .before in
-    λ x y e. let F = first-found (start .args .n) (start .args .a) (start .args .b) (edgesOf (start .args .keys .now)) (at-mark .mark .last .1 .1 .1 .0) (at-mark2 .mark2 .last .1 .1 .1 .0) (at-mark .mark .ensures) (at-mark2 .mark2 .ensures) x y e _ (at-first-common .first-common .ensures) in let C : Common (at-mark .mark .last .1 .1 .1 .0) (at-mark2 .mark2 .last .1 .1 .1 .0) (x + 1) (start .args .n) (at-first-common2 .first-common2 .result) = rw (F .0) at (at-first-common2 .first-common2 .ensures) in c .key .ensures ∙ rw (F .0, second-found (start .args .n) (start .args .a) (start .args .b) (edgesOf (start .args .keys .now)) (at-mark .mark .last .1 .1 .1 .0) (at-mark2 .mark2 .last .1 .1 .1 .0) (at-mark .mark .ensures) (at-mark2 .mark2 .ensures) x y e _ C .0)
+    λ x y e.
+    let F = first-found (start .args .n) (start .args .a) (start .args .b) (edgesOf (start .args .keys .now)) (at-mark .mark .last .1 .1 .1 .0) (at-mark2 .mark2 .last .1 .1 .1 .0) (at-mark .mark .ensures) (at-mark2 .mark2 .ensures) x y e _ (at-first-common .first-common .ensures) in
+    let C : Common (at-mark .mark .last .1 .1 .1 .0) (at-mark2 .mark2 .last .1 .1 .1 .0) (x + 1) (start .args .n) (at-first-common2 .first-common2 .result) = rw (F .0) at (at-first-common2 .first-common2 .ensures) in
+    c .key .ensures ∙ rw (F .0, second-found (start .args .n) (start .args .a) (start .args .b) (edgesOf (start .args .keys .now)) (at-mark .mark .last .1 .1 .1 .0) (at-mark2 .mark2 .last .1 .1 .1 .0) (at-mark .mark .ensures) (at-mark2 .mark2 .ensures) x y e _ C .0)
 
 pub turned-key-spec : {M : Type 1} → statement M
 turned-key-spec = tie.close (tie.spec slice-aggregate-mark mark-requires slice-aggregate-mark-2 mark-requires-2 slice-aggregate-first-common slice-aggregate-first-common-2 first-common-requires returns slice-aggregate-first-common-3 slice-aggregate-first-common-4 add-first-common first-common-requires-2 returns-2 key-requires returns-3)

@@ -30,8 +30,11 @@ slice-write-near-2 c = simp length-set (omega (arith, c .high-neighbour .ensures
 
 loop-holds : tie.Need-loop-holds Inv-loop μ-loop
 loop-holds c =
-    let start = c .before .before .before .before in
-    (omega arith, simp (length-set, length-set) (start .pre .0 .3), rw (c .before .low-neighbour .ensures .0, c .high-neighbour .ensures .0) (near-begin (start .args .n) (start .args .c) (start .args .near .now) (start .pre .0 .0) (start .pre .0 .1) (start .pre .0 .2) (start .pre .0 .3) (start .pre .1)))
+    let start = c .before .before .before .before in (
+      omega arith,
+      simp (length-set, length-set) (start .pre .0 .3),
+      rw (c .before .low-neighbour .ensures .0, c .high-neighbour .ensures .0) (near-begin (start .args .n) (start .args .c) (start .args .near .now) (start .pre .0 .0) (start .pre .0 .1) (start .pre .0 .2) (start .pre .0 .3) (start .pre .1)),
+    )
 
 mul-other-end : tie.Need-mul-other-end Inv-loop μ-loop
 mul-other-end c = omega arith
@@ -57,8 +60,11 @@ loop-less c = omega arith
 loop-again : tie.Need-loop-again Inv-loop μ-loop
 loop-again c =
     let at-loop = c .before .before .before in
-    let start = at-loop .before .before .before .before .before in
-    (omega arith, simp length-set (at-loop .loop .inv .1), rw (edges-next (start .args .keys .now) (at-loop .loop .j) (c .before .before .loop-test .taken)) (near-next (start .args .n) (start .args .c) (edgesOf (take (at-loop .loop .j) (start .args .keys .now))) (edgeOf (getD (start .args .keys .now) (at-loop .loop .j) 0)) (at-loop .loop .near) (at-loop .loop .inv .2) (start .pre .0 .1) (at-loop .loop .inv .1) (c .other-end .result) (c .other-end .ensures)))
+    let start = at-loop .before .before .before .before .before in (
+      omega arith,
+      simp length-set (at-loop .loop .inv .1),
+      rw (edges-next (start .args .keys .now) (at-loop .loop .j) (c .before .before .loop-test .taken)) (near-next (start .args .n) (start .args .c) (edgesOf (take (at-loop .loop .j) (start .args .keys .now))) (edgeOf (getD (start .args .keys .now) (at-loop .loop .j) 0)) (at-loop .loop .near) (at-loop .loop .inv .2) (start .pre .0 .1) (at-loop .loop .inv .1) (c .other-end .result) (c .other-end .ensures)),
+    )
 
 same-length : tie.Need-same-length Inv-loop μ-loop
 same-length c = c .before .loop .inv .1 ∙ sym (c .before .before .before .before .before .before .pre .0 .3)

@@ -70,7 +70,8 @@ loop-again c =
     let shift = start .args .shift in
     let low = c .before .before .before .before .moved .ensures .0 ∙ ap (moved shift) (c .before .before .before .before .before .low .ensures) in
     let high = c .before .moved2 .ensures .0 ∙ ap (moved shift) (c .before .before .high .ensures .0) in
-    mapping-next (moved shift) (start .args .m) (start .args .keys .now) (loop .keys) (loop .j) (loop .inv) (start .pre .0) (c .before .before .before .before .before .before .before .loop-test .taken) _ _ _ low high (c .before .moved2 .ensures .1) (c .key .ensures)
+    mapping-next (moved shift) (start .args .m) (start .args .keys .now) (loop .keys) (loop .j) (loop .inv) (start .pre .0)
+    (c .before .before .before .before .before .before .before .loop-test .taken) _ _ _ low high (c .before .moved2 .ensures .1) (c .key .ensures)
 
 same-length : tie.Need-same-length Inv-loop μ-loop
 same-length c = c .before .loop .inv .kept

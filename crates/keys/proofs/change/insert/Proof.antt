@@ -40,7 +40,10 @@ loop-again c =
     let at-loop-test = c .before .before in
     let at-loop = at-loop-test .before in
     let start = at-loop .before in
-    ⊎-elim (λ w. carry-less (start .args .m) _ _ (at-loop .loop .keys) (at-loop .loop .x) (at-loop .loop .j) (at-loop .loop .inv) (start .pre .0) _ _ (at-loop-test .loop-test .taken) (w .0 .taken) (w .1) (w .2)) (λ w. carry-more (start .args .m) _ _ (at-loop .loop .keys) (at-loop .loop .x) (at-loop .loop .j) (at-loop .loop .inv) (start .pre .0) _ _ (at-loop-test .loop-test .taken) (w .0 .left) (w .1) (w .2)) (c .if1 .came)
+    ⊎-elim
+    (λ w. carry-less (start .args .m) _ _ (at-loop .loop .keys) (at-loop .loop .x) (at-loop .loop .j) (at-loop .loop .inv) (start .pre .0) _ _ (at-loop-test .loop-test .taken) (w .0 .taken) (w .1) (w .2))
+    (λ w. carry-more (start .args .m) _ _ (at-loop .loop .keys) (at-loop .loop .x) (at-loop .loop .j) (at-loop .loop .inv) (start .pre .0) _ _ (at-loop-test .loop-test .taken) (w .0 .left) (w .1) (w .2))
+    (c .if1 .came)
 
 mul-keys-2 : tie.Need-mul-keys-2 Inv-loop μ-loop
 mul-keys-2 c = omega arith

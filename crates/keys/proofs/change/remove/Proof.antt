@@ -41,7 +41,10 @@ loop-again c =
     let at-loop-test = c .before .before in
     let at-loop = at-loop-test .before in
     let start = at-loop .before in
-    ⊎-elim (λ w. rw (w .1, w .2) (removing-other (start .args .k) (start .args .m) (start .args .keys .now) (at-loop .loop .keys) (at-loop .loop .left) (at-loop .loop .j) (at-loop .loop .inv) (start .pre) (at-loop-test .loop-test .taken) (w .0 .taken))) (λ w. rw (w .1, w .2) (removing-same (start .args .k) (start .args .m) (start .args .keys .now) (at-loop .loop .keys) (at-loop .loop .left) (at-loop .loop .j) (at-loop .loop .inv) (start .pre) (at-loop-test .loop-test .taken) (w .0 .left))) (c .if1 .came)
+    ⊎-elim
+    (λ w. rw (w .1, w .2) (removing-other (start .args .k) (start .args .m) (start .args .keys .now) (at-loop .loop .keys) (at-loop .loop .left) (at-loop .loop .j) (at-loop .loop .inv) (start .pre) (at-loop-test .loop-test .taken) (w .0 .taken)))
+    (λ w. rw (w .1, w .2) (removing-same (start .args .k) (start .args .m) (start .args .keys .now) (at-loop .loop .keys) (at-loop .loop .left) (at-loop .loop .j) (at-loop .loop .inv) (start .pre) (at-loop-test .loop-test .taken) (w .0 .left)))
+    (c .if1 .came)
 
 same-length : tie.Need-same-length Inv-loop μ-loop
 same-length c = c .before .loop .inv .kept

@@ -82,7 +82,8 @@ loop-again c =
     let at-loop-test = at-low .before .before in
     let at-loop = at-loop-test .before in
     let start = at-loop .before .before .before .before .before .before .before .before in
-    rw (at-low .low .ensures, c .high .ensures .0) (scanned-next (start .args .n) (start .args .keys .now) (start .pre .0) (at-loop .loop .j) (at-loop-test .loop-test .taken) (length (start .args .apex .now)) (at-loop .loop .top) (at-loop .loop .apex) (at-loop .loop .inv) (start .pre .1 .0) (start .pre .1 .2))
+    rw (at-low .low .ensures, c .high .ensures .0)
+    (scanned-next (start .args .n) (start .args .keys .now) (start .pre .0) (at-loop .loop .j) (at-loop-test .loop-test .taken) (length (start .args .apex .now)) (at-loop .loop .top) (at-loop .loop .apex) (at-loop .loop .inv) (start .pre .1 .0) (start .pre .1 .2))
 
 same-length : tie.Need-same-length Inv-loop μ-loop
 same-length c = c .before .loop .inv .tops-size ∙ sym (c .before .before .before .before .before .before .before .before .before .pre .1 .1)

@@ -55,7 +55,9 @@ summed t c =
     let at-if1 = at-step-at .before .before .before .before .before .before .before .before .before .before .before .before .before .before .before .before in
     let start = at-if1 .before in
     let k = knows t at-if1 in
-    sums (start .args .role) (start .args .d) (k .parts .l) (k .parts .r) (at-step-at .step-at .result) (c .before .count .result) (c .count2 .result) (stepped t at-step-at _ k) (c .before .count .ensures (k .parts .l) (k .known-l)) (c .count2 .ensures (k .parts .r) (k .known-r)) (omega (arith, k .parts, start .pre .1 .1))
+    sums (start .args .role) (start .args .d) (k .parts .l) (k .parts .r) (at-step-at .step-at .result) (c .before .count .result) (c .count2 .result)
+    (stepped t at-step-at _ k) (c .before .count .ensures (k .parts .l) (k .known-l)) (c .count2 .ensures (k .parts .r) (k .known-r))
+    (omega (arith, k .parts, start .pre .1 .1))
 
 count-mul-c : (t : ℕ) → count-lts.Need-mul-c (count-Cs t) (count-at t) count.Post
 count-mul-c t c = omega (arith, knows t c .parts .inside)
@@ -136,7 +138,11 @@ count-returns-2 t c =
     let at-step-at = at-count .before in
     let at-if1 = at-step-at .before .before .before .before .before .before .before .before .before .before .before .before .before .before .before .before in
     let start = at-if1 .before in
-    λ x q. let k = known-parts q (at-if1 .if1 .left) in counted-triangle (start .args .role) (start .args .d) (k .parts .l) (k .parts .r) (at-step-at .step-at .result) (at-count .count .result) (at-count2 .count2 .result) (k .parts .is) (stepped t (c .before .before .before .before .before .before .before .before) _ k) (at-count .count .ensures (k .parts .l) (k .known-l)) (at-count2 .count2 .ensures (k .parts .r) (k .known-r))
+    λ x q.
+    let k = known-parts q (at-if1 .if1 .left) in
+    counted-triangle (start .args .role) (start .args .d) (k .parts .l) (k .parts .r) (at-step-at .step-at .result) (at-count .count .result) (at-count2 .count2 .result)
+    (k .parts .is) (stepped t (c .before .before .before .before .before .before .before .before) _ k) (at-count .count .ensures (k .parts .l) (k .known-l))
+    (at-count2 .count2 .ensures (k .parts .r) (k .known-r))
 
 pub +count-spec : {M : Type 1} → statement M
 +count-spec = close μ-count λ t. count-lts.spec (count-Cs t) (count-at t) count.Post (count-returns t) (count-mul-c t) (count-element-copy-out-c t) (count-cast-c t) (count-mul-i t) (count-element-copy-out-i t) (count-cast-i t) (count-mul-j t) (count-element-copy-out-j t) (count-cast-j t) (count-number-requires t) (count-number-requires-2 t) (count-number-requires-3 t) (count-number-requires-4 t) (count-number-requires-5 t) (count-number-requires-6 t) (count-step-at-requires t) (count-count-requires t) (count-count-requires-2 t) (count-add-t25 t) (count-add-t44 t) (count-add-t41 t) (count-add-t38 t) (count-returns-2 t)

@@ -102,7 +102,9 @@ levels-returns-2 t c =
     let at-levels = c .before .before .before .before .before .before in
     let at-if1 = at-levels .before .before .before .before .before .before .before .before in
     let start = at-if1 .before in
-    λ x s. let d = opened s (at-if1 .if1 .left) in stored-triangle (start .args .left .now) (start .args .right .now) (start .args .e) (d .is) (at-levels .levels .ensures (d .l) (d .shows-l)) (c .before .levels2 .ensures (d .r) (d .shows-r)) (c .join .ensures)
+    λ x s.
+    let d = opened s (at-if1 .if1 .left) in
+    stored-triangle (start .args .left .now) (start .args .right .now) (start .args .e) (d .is) (at-levels .levels .ensures (d .l) (d .shows-l)) (c .before .levels2 .ensures (d .r) (d .shows-r)) (c .join .ensures)
 
 pub +levels-spec : {M : Type 1} → statement M
 +levels-spec = close μ-levels λ t. levels-lts.spec (levels-Cs t) (levels-at t) levels.Post (levels-returns t) (levels-mul-c t) (levels-element-copy-out-c t) (levels-cast-c t) (levels-mul-i t) (levels-element-copy-out-i t) (levels-cast-i t) (levels-mul-j t) (levels-element-copy-out-j t) (levels-cast-j t) (levels-levels-requires t) (levels-levels-requires-2 t) (levels-join-requires t) (levels-mul-ud t) (levels-element-write-ud t) (levels-mul-handle t) (levels-element-write-handle t) (levels-mul-fan-a t) (levels-element-write-fan-a t) (levels-mul-fan-b t) (levels-element-write-fan-b t) (levels-returns-2 t)

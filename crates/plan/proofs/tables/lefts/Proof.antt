@@ -69,7 +69,9 @@ loop-again : tie.Need-loop-again Inv-loop μ-loop
 loop-again c =
     let at-loop = c .before .before .before .before in
     let start = at-loop .before .before .before .before in
-    filled-next (start .args .n) (edgesOf (start .args .keys .now)) (start .pre .0) (at-loop .loop .j) (omega (arith, length-map (start .args .keys .now) edgeOf)) (length (start .args .left .now)) (at-loop .loop .last) (at-loop .loop .left) (at-loop .loop .inv) (start .pre .1 .0 .0) (omega (arith, start .pre .1 .0, length-map (start .args .keys .now) edgeOf)) _ (c .before .low .ensures ∙ low-at (start .args .keys .now) (at-loop .loop .j))
+    filled-next (start .args .n) (edgesOf (start .args .keys .now)) (start .pre .0) (at-loop .loop .j) (omega (arith, length-map (start .args .keys .now) edgeOf))
+    (length (start .args .left .now)) (at-loop .loop .last) (at-loop .loop .left) (at-loop .loop .inv) (start .pre .1 .0 .0)
+    (omega (arith, start .pre .1 .0, length-map (start .args .keys .now) edgeOf)) _ (c .before .low .ensures ∙ low-at (start .args .keys .now) (at-loop .loop .j))
 
 same-length : tie.Need-same-length Inv-loop μ-loop
 same-length c = c .before .loop .inv .lasts-size ∙ sym (c .before .before .before .before .before .pre .1 .0 .3)

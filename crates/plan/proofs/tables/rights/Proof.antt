@@ -46,8 +46,11 @@ loop-less c = omega arith
 loop-again : tie.Need-loop-again Inv-loop μ-loop
 loop-again c =
     let at-loop = c .before .before .before in
-    let start = at-loop .before in
-    (omega arith, simp length-set (at-loop .loop .inv .1), table-next (λ i. getD (start .args .last .now) (getD (start .args .apex .now) i 0) 0) (at-loop .loop .right) (at-loop .loop .j) _ (omega (arith, start .pre .0, at-loop .loop .inv .1)) refl (at-loop .loop .inv .2))
+    let start = at-loop .before in (
+      omega arith,
+      simp length-set (at-loop .loop .inv .1),
+      table-next (λ i. getD (start .args .last .now) (getD (start .args .apex .now) i 0) 0) (at-loop .loop .right) (at-loop .loop .j) _ (omega (arith, start .pre .0, at-loop .loop .inv .1)) refl (at-loop .loop .inv .2),
+    )
 
 same-length : tie.Need-same-length Inv-loop μ-loop
 same-length c = c .before .loop .inv .1

@@ -76,7 +76,12 @@ returns c =
     let at-lefts = at-rights .before .before .before .before .before .before .before in
     let at-apexes = at-lefts .before .before .before .before .before .before in
     let start = at-apexes .before .before .before .before .before .before .before in
-    filled-shows (start .args .n) (edgesOf (start .args .keys .now)) (start .pre .0) (length (start .args .keys .now)) (sym (length-map (start .args .keys .now) edgeOf)) (at-apexes .apexes .last .1 .1 .0) (at-lefts .lefts .last .1 .1 .0) (at-apexes .apexes .last .1 .1 .1 .0) (at-lefts .lefts .last .1 .1 .1 .0) (at-apexes .apexes .ensures .0) (at-lefts .lefts .ensures .0) (at-apexes .apexes .ensures .1) (at-lefts .lefts .ensures .1) (omega (arith, start .pre .1, (start .pre .0) .full, length-map (start .args .keys .now) edgeOf, at-apexes .apexes .kept .1 .1 .1 .0, at-lefts .lefts .kept .1 .1 .1 .0)) (omega (arith, start .pre .1, (start .pre .0) .full, length-map (start .args .keys .now) edgeOf, at-apexes .apexes .kept .1 .1 .1 .0, at-lefts .lefts .kept .1 .1 .1 .0)) (start .pre .1 .0) (at-rights .rights .last .1 .1 .1 .0) (at-rights .rights .ensures)
+    filled-shows (start .args .n) (edgesOf (start .args .keys .now)) (start .pre .0) (length (start .args .keys .now)) (sym (length-map (start .args .keys .now) edgeOf))
+    (at-apexes .apexes .last .1 .1 .0) (at-lefts .lefts .last .1 .1 .0) (at-apexes .apexes .last .1 .1 .1 .0) (at-lefts .lefts .last .1 .1 .1 .0)
+    (at-apexes .apexes .ensures .0) (at-lefts .lefts .ensures .0) (at-apexes .apexes .ensures .1) (at-lefts .lefts .ensures .1)
+    (omega (arith, start .pre .1, (start .pre .0) .full, length-map (start .args .keys .now) edgeOf, at-apexes .apexes .kept .1 .1 .1 .0, at-lefts .lefts .kept .1 .1 .1 .0))
+    (omega (arith, start .pre .1, (start .pre .0) .full, length-map (start .args .keys .now) edgeOf, at-apexes .apexes .kept .1 .1 .1 .0, at-lefts .lefts .kept .1 .1 .1 .0))
+    (start .pre .1 .0) (at-rights .rights .last .1 .1 .1 .0) (at-rights .rights .ensures)
 
 pub tables-spec : {M : Type 1} → statement M
 tables-spec = tie.close (tie.spec slice-aggregate-apexes apexes-requires slice-aggregate-lefts lefts-requires array-read-apex mul-apex slice-write-apex array-read-left mul-left slice-write-left slice-aggregate-rights add-rights rights-requires same-length same-length-2 same-length-3 returns)

@@ -85,7 +85,8 @@ slice-reshare-prefix-crosses c =
     let at-read-head = at-h .before .before in
     let start = at-read-head .before .before .before in
     let R = room (start .args .sheet .now) (at-h .h .given .0 .0) (says-held (start .args .sheet .now) _ _ (at-read-head .read-head .ensures) (at-h .h .given .1)) in
-    simp (length-append, length-drop) (omega (arith, at-read-pairs .read-pairs .kept .1 .1 .0, at-order .order .kept .0, length-take-le (at-h .h .given .0 .0 .n - 3) (at-read-pairs .read-pairs .last .1 .1 .0) (omega (arith, at-read-pairs .read-pairs .kept .1 .1 .0))))
+    simp (length-append, length-drop)
+    (omega (arith, at-read-pairs .read-pairs .kept .1 .1 .0, at-order .order .kept .0, length-take-le (at-h .h .given .0 .0 .n - 3) (at-read-pairs .read-pairs .last .1 .1 .0) (omega (arith, at-read-pairs .read-pairs .kept .1 .1 .0))))
 
 slice-aggregate-crosses : tie.Need-slice-aggregate-crosses
 slice-aggregate-crosses c =

@@ -73,7 +73,9 @@ returns-2 c =
     let at-if1 = at-map-byte .before in
     let at-number-size = at-if1 .before in
     let start = at-number-size .before .before .before in
-    finished (start .args .h) (start .args .keys .now) (start .pre .0) (start .pre .1) (start .args .out .now) (at-number-size .number-size .result) (at-number-size .number-size .ensures .1 (start .args .h .number)) _ (at-if1 .if1 .left) (c .before .before .put-number .ensures ∙ rw (at-put-edges .put-edges .ensures, at-put16 .put16 .ensures, at-map-byte .map-byte .ensures (start .args .h .number)))
+    finished (start .args .h) (start .args .keys .now) (start .pre .0) (start .pre .1) (start .args .out .now) (at-number-size .number-size .result)
+    (at-number-size .number-size .ensures .1 (start .args .h .number)) _ (at-if1 .if1 .left)
+    (c .before .before .put-number .ensures ∙ rw (at-put-edges .put-edges .ensures, at-put16 .put16 .ensures, at-map-byte .map-byte .ensures (start .args .h .number)))
 
 pub write-sheet-spec : {M : Type 1} → statement M
 write-sheet-spec = tie.close (tie.spec sub-m mul-end add-end number-size-requires add-size returns map-byte-requires slice-write-out put16-requires slice-aggregate-put-edges put-edges-requires put-number-requires same-length returns-2)
