@@ -5,7 +5,7 @@ use native.Mathlib.Omega.{arith}
 use Rattle.polygon.specs.Lists.{Mem}
 use Rattle.polygon.specs.Tree.{Tree, span}
 use Rattle.polygon.proofs.Lists.{all-of}
-use Rattle.umbrella.specs.Plan.{Plan, levels}
+use Rattle.umbrella.specs.Plan.{Plan}
 use Rattle.umbrella.proofs.Bounds.{bounds}
 use Rattle.chart.specs.Chart.{Stroke, level, upright, Chart, chart, True}
 use Rattle.chart.specs.Bytes.{Fits, StrokeFits}
