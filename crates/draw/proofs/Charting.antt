@@ -36,7 +36,7 @@ sizes : {t : Tree} (p : Plan t) → 2 ≤ span t → span t ≤ 1023 → (1 ≤ 
 sizes {t} p h k = omega (arith, width p 0 (span t), umbrellas-bound p)
 
 -- a part drawn: what its writer asks for, and the chart that comes of it
-module _ (n : ℕ) (ds : List Edge) (T : Triangulated n ds) (h : 3 ≤ n) (columns ranks : List ℕ) (s : Size) (P : Placed n (treeOf n ds) columns ranks s) where
+module _ {n : ℕ} {ds : List Edge} (T : Triangulated n ds) (h : 3 ≤ n) {columns ranks : List ℕ} {s : Size} (P : Placed n (treeOf n ds) columns ranks s) where
   last : n - 1 ≡ span (treeOf n ds)
   last = omega (arith, tree-of n ds T .size)
 

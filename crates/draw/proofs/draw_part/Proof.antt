@@ -22,14 +22,17 @@ cast-write-chart c = search needs
 
 array-share-prefix-columns : tie.Need-array-share-prefix-columns
 array-share-prefix-columns c =
-    let start = c .before .before .before .before .before .before in
-    omega (arith, placed-sizes (start .args .n) (edgesOf (start .args .keys .now)) (start .pre .0) (start .pre .1 .0) (c .before .place-part .last .1 .1 .0) (c .before .place-part .last .1 .1 .1 .0) (c .before .place-part .result) (c .before .place-part .ensures) (start .pre .1 .1), c .before .place-part .ensures .columns-kept)
+    let at-place-part = c .before in
+    let start = at-place-part .before .before .before .before .before in
+    let placed = at-place-part .place-part .ensures in
+    omega (arith, placed-sizes (start .pre .0) (start .pre .1 .0) placed (start .pre .1 .1), placed .columns-kept)
 
 slice-aggregate-write-chart : tie.Need-slice-aggregate-write-chart
 slice-aggregate-write-chart c =
     let at-place-part = c .before .before in
     let start = at-place-part .before .before .before .before .before in
-    sym (length-take-le (at-place-part .place-part .result .columns) (at-place-part .place-part .last .1 .1 .0) (omega (arith, placed-sizes (start .args .n) (edgesOf (start .args .keys .now)) (start .pre .0) (start .pre .1 .0) (at-place-part .place-part .last .1 .1 .0) (at-place-part .place-part .last .1 .1 .1 .0) (at-place-part .place-part .result) (at-place-part .place-part .ensures) (start .pre .1 .1), at-place-part .place-part .ensures .columns-kept)))
+    let placed = at-place-part .place-part .ensures in
+    sym (length-take-le (at-place-part .place-part .result .columns) (at-place-part .place-part .last .1 .1 .0) (omega (arith, placed-sizes (start .pre .0) (start .pre .1 .0) placed (start .pre .1 .1), placed .columns-kept)))
 
 slice-aggregate-write-chart-2 : tie.Need-slice-aggregate-write-chart-2
 slice-aggregate-write-chart-2 c = sym (c .before .before .before .place-part .ensures .ranks-kept)
@@ -38,17 +41,22 @@ write-chart-requires : tie.Need-write-chart-requires
 write-chart-requires c κs =
     let at-place-part = c .before .before .before .before in
     let start = at-place-part .before .before .before .before .before in
-    (start .pre .0, (uprights-are-edges (start .args .n) (edgesOf (start .args .keys .now)) (start .pre .0) (start .pre .1 .0) (at-place-part .place-part .last .1 .1 .0) (at-place-part .place-part .last .1 .1 .1 .0) (at-place-part .place-part .result) (at-place-part .place-part .ensures), omega (arith, placed-sizes (start .args .n) (edgesOf (start .args .keys .now)) (start .pre .0) (start .pre .1 .0) (at-place-part .place-part .last .1 .1 .0) (at-place-part .place-part .last .1 .1 .1 .0) (at-place-part .place-part .result) (at-place-part .place-part .ensures) (start .pre .1 .1), start .pre .1 .1, length-take-le (at-place-part .place-part .result .columns) (at-place-part .place-part .last .1 .1 .0) (omega (arith, placed-sizes (start .args .n) (edgesOf (start .args .keys .now)) (start .pre .0) (start .pre .1 .0) (at-place-part .place-part .last .1 .1 .0) (at-place-part .place-part .last .1 .1 .1 .0) (at-place-part .place-part .result) (at-place-part .place-part .ensures) (start .pre .1 .1), at-place-part .place-part .ensures .columns-kept)), at-place-part .place-part .ensures .ranks-kept)))
+    let placed = at-place-part .place-part .ensures in
+    let sizes = placed-sizes (start .pre .0) (start .pre .1 .0) placed (start .pre .1 .1) in
+    let width = length-take-le (at-place-part .place-part .result .columns) (at-place-part .place-part .last .1 .1 .0) (omega (arith, sizes, placed .columns-kept)) in
+    (start .pre .0, (uprights-are-edges (start .pre .0) (start .pre .1 .0) placed, omega (arith, sizes, start .pre .1 .1, width, placed .ranks-kept)))
 
 same-length : tie.Need-same-length
 same-length c = search needs
 
 returns : tie.Need-returns
 returns c =
-    let at-write-chart = c .before .before in
-    let at-place-part = at-write-chart .before .before .before .before .before in
+    let at-place-part = c .before .before .before .before .before .before .before in
     let start = at-place-part .before .before .before .before .before in
-    at-write-chart .write-chart .ensures (rows (best (treeOf (start .args .n) (edgesOf (start .args .keys .now))))) (rows-are (start .args .n) (edgesOf (start .args .keys .now)) (start .pre .0) (start .pre .1 .0) (at-place-part .place-part .last .1 .1 .0) (at-place-part .place-part .last .1 .1 .1 .0) (at-place-part .place-part .result) (at-place-part .place-part .ensures)) ∙ ap (λ (bs : List ℕ). written (write bs) (start .args .out .now)) (placed-chart (start .args .n) (edgesOf (start .args .keys .now)) (start .pre .0) (start .pre .1 .0) (at-place-part .place-part .last .1 .1 .0) (at-place-part .place-part .last .1 .1 .1 .0) (at-place-part .place-part .result) (at-place-part .place-part .ensures))
+    let placed = at-place-part .place-part .ensures in
+    let tree = treeOf (start .args .n) (edgesOf (start .args .keys .now)) in
+    c .before .before .write-chart .ensures (rows (best tree)) (rows-are (start .pre .0) (start .pre .1 .0) placed)
+    ∙ ap (λ (bs : List ℕ). written (write bs) (start .args .out .now)) (placed-chart (start .pre .0) (start .pre .1 .0) placed)
 
 pub draw-part-spec : {M : Type 1} → statement M
 draw-part-spec = tie.close (tie.spec place-part-requires cast-write-chart array-share-prefix-columns slice-aggregate-write-chart slice-aggregate-write-chart-2 write-chart-requires same-length returns)
