@@ -41,7 +41,7 @@ entering-low n i h k = go (ℕ-discrete (i + 1) n)
     go (yes e) = rw (entering-root n i e) (omega arith)
     go (no e) = rw (entering-side n i e) (omega arith)
 
-module _ (h : Head) (ks : List ℕ) (P : Part h ks) (i : ℕ) where
+module _ {h : Head} {ks : List ℕ} (P : Part h ks) (i : ℕ) where
   pub add-outside : ¬ (i < h .n) → rule (addEar i) (polygonOf h ks) ≡ refused 9
   unfolding rule
   add-outside f = ask-no 9 _ _ f
@@ -66,7 +66,7 @@ module _ (h : Head) (ks : List ℕ) (P : Part h ks) (i : ℕ) where
         pub moved-sorted : Sorted _<_ (take (h .n - 3) moved)
         moved-sorted = keys-sorted (take (h .n - 3) moved) (rw M (moved-ascending (h .n) i (edgesOf (take (h .n - 3) ks)) (P .triangulated) inside))
 
-        module _ (k : ℕ) (E : k ≡ keyOf (entering (h .n) i)) (after : List ℕ) (I : take (h .n - 3 + 1) after ≡ insertKey k (take (h .n - 3) moved)) (long : 1021 ≤ length after) where
+        module _ {k : ℕ} (E : k ≡ keyOf (entering (h .n) i)) (after : List ℕ) (I : take (h .n - 3 + 1) after ≡ insertKey k (take (h .n - 3) moved)) (long : 1021 ≤ length after) where
           edges : edgesOf (take (h .n + 1 - 3) after) ≡ earAdded (h .n) i (edgesOf (take (h .n - 3) ks))
           unfolding earAdded
           edges =

@@ -32,7 +32,7 @@ taken-out m k e ks after r p h t l =
     let q : edgesOf (removeKey k (take m ks)) ≡ remove e (edgesOf (take m ks)) = remove-edges k (take m ks) ∙ ap (λ (f : Edge). remove f (edgesOf (take m ks))) (ap edgeOf p ∙ edge-of-key e h) in
     (rw t q, l ∙ (sym (length-map (removeKey k (take m ks)) edgeOf) ∙ ap length q))
 
-module _ (h : Head) (ks : List ℕ) (P : Part h ks) (c : ℕ) where
+module _ {h : Head} {ks : List ℕ} (P : Part h ks) (c : ℕ) where
   pub remove-outside : ¬ (c < h .n) → rule (removeEar c) (polygonOf h ks) ≡ refused 9
   unfolding rule
   remove-outside f = ask-no 9 _ _ f
@@ -47,8 +47,8 @@ module _ (h : Head) (ks : List ℕ) (P : Part h ks) (c : ℕ) where
       unfolding rule
       remove-no-ear f = ask-yes 9 _ _ inside ∙ (ask-yes 11 _ _ big ∙ ask-no 12 _ _ f)
 
-      module _ (ear : All (Away c) (edgesOf (take (h .n - 3) ks))) (a b k : ℕ) (A : a ≡ neighbours (h .n) c .0) (B : b ≡ neighbours (h .n) c .1) (low : b < h .n) (K : k ≡ keyOf (a — b))
-          (out : List ℕ) (r : ℕ) (T : take r out ≡ removeKey k (take (h .n - 3) ks)) (L : r ≡ length (removeKey k (take (h .n - 3) ks))) (room : 1021 ≤ length out) where
+      module _ (ear : All (Away c) (edgesOf (take (h .n - 3) ks))) {a b k : ℕ} (A : a ≡ neighbours (h .n) c .0) (B : b ≡ neighbours (h .n) c .1) (low : b < h .n) (K : k ≡ keyOf (a — b))
+          (out : List ℕ) {r : ℕ} (T : take r out ≡ removeKey k (take (h .n - 3) ks)) (L : r ≡ length (removeKey k (take (h .n - 3) ks))) (room : 1021 ≤ length out) where
         gone : (edgesOf (take r out) ≡ remove (neighbours (h .n) c) (edgesOf (take (h .n - 3) ks))) × (r ≡ length (remove (neighbours (h .n) c) (edgesOf (take (h .n - 3) ks))))
         gone =
             let e : keyOf (a — b) ≡ keyOf (neighbours (h .n) c) = rw (A, B) in

@@ -86,12 +86,12 @@ in-order a b h = go (decLt a b)
     go (yes l) = lower-below a b l
     go (no l) = let e : a ≡ b = omega arith in lower-above a b (omega arith) ∙ rw e
 
-module _ (h : Head) (ks : List ℕ) (P : Part h ks) (a b : ℕ) where
+module _ {h : Head} {ks : List ℕ} (P : Part h ks) (a b : ℕ) where
   pub turn-outside : ¬ ((a < h .n) × (b < h .n)) → rule (flip a b) (polygonOf h ks) ≡ refused 9
   unfolding rule
   turn-outside f = ask-no 9 _ _ f
 
-  module _ (up : a ≤ b) (inside : b < h .n) (k : ℕ) (K : k ≡ keyOf (a — b)) where
+  module _ (up : a ≤ b) (inside : b < h .n) {k : ℕ} (K : k ≡ keyOf (a — b)) where
     edge-k : edgeOf k ≡ a — b
     edge-k = ap edgeOf K ∙ edge-of-key (a — b) (omega (arith, P .fits .most))
 
@@ -110,7 +110,7 @@ module _ (h : Head) (ks : List ℕ) (P : Part h ks) (a b : ℕ) where
       turn-takes = ((omega arith, inside), rw (in-order a b up) member)
 
       module _ (other : ℕ) (O : (x y : ℕ) → common (h .n) (edgesOf (take (h .n - 3) ks)) (a — b) ≡ x ∷ (y ∷ []) → other ≡ keyOf (x — y))
-          (out : List ℕ) (r : ℕ) (T : take r out ≡ removeKey k (take (h .n - 3) ks)) (L : r ≡ length (removeKey k (take (h .n - 3) ks))) where
+          (out : List ℕ) {r : ℕ} (T : take r out ≡ removeKey k (take (h .n - 3) ks)) (L : r ≡ length (removeKey k (take (h .n - 3) ks))) where
         abbrev f : Edge
         f = turned .0
 

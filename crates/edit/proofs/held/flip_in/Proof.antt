@@ -16,13 +16,13 @@ returns : tie.Need-returns
 returns c =
     let start = c .before .before .before in
     rule-refused (flip (start .args .a) (start .args .b)) (polygonOf (start .args .h) (start .args .keys .now)) (start .args .out .now) 9
-    (turn-outside (start .args .h) (start .args .keys .now) (start .pre) (start .args .a) (start .args .b) (λ t. omega arith))
+    (turn-outside (start .pre) (start .args .a) (start .args .b) (λ t. omega arith))
 
 returns-2 : tie.Need-returns-2
 returns-2 c =
     let start = c .before .before .before .before in
     rule-refused (flip (start .args .a) (start .args .b)) (polygonOf (start .args .h) (start .args .keys .now)) (start .args .out .now) 9
-    (turn-outside (start .args .h) (start .args .keys .now) (start .pre) (start .args .a) (start .args .b) (λ t. omega arith))
+    (turn-outside (start .pre) (start .args .a) (start .args .b) (λ t. omega arith))
 
 turn-requires : tie.Need-turn-requires
 turn-requires c κs = (c .before .before .before .before .before .before .before .pre, (omega arith, omega arith))

@@ -14,13 +14,13 @@ use Rattle.edit.proofs.held.remove_from.Tie as tie
 returns : tie.Need-returns
 returns c =
     let start = c .before .before .before in
-    rule-refused (removeEar (start .args .corner)) (polygonOf (start .args .h) (start .args .keys .now)) (start .args .out .now) 9 (remove-outside (start .args .h) (start .args .keys .now) (start .pre) (start .args .corner) (omega arith))
+    rule-refused (removeEar (start .args .corner)) (polygonOf (start .args .h) (start .args .keys .now)) (start .args .out .now) 9 (remove-outside (start .pre) (start .args .corner) (omega arith))
 
 returns-2 : tie.Need-returns-2
 returns-2 c =
     let start = c .before .before .before .before in
     rule-refused (removeEar (start .args .corner)) (polygonOf (start .args .h) (start .args .keys .now)) (start .args .out .now) 11
-    (remove-triangle (start .args .h) (start .args .keys .now) (start .pre) (start .args .corner) (omega arith) (c .if2 .taken))
+    (remove-triangle (start .pre) (start .args .corner) (omega arith) (c .if2 .taken))
 
 sub-m : tie.Need-sub-m
 sub-m c = omega (arith, c .before .before .before .before .pre .fits .least)
@@ -42,7 +42,7 @@ returns-3 c =
     let at-if2 = c .before .before .before in
     let start = at-if2 .before .before .before .before in
     rule-refused (removeEar (start .args .corner)) (polygonOf (start .args .h) (start .args .keys .now)) (start .args .out .now) 12
-    (remove-no-ear (start .args .h) (start .args .keys .now) (start .pre) (start .args .corner) (omega arith) (at-if2 .if2 .left) (c .before .is-ear .ensures .1 (not-true _ (c .if3 .taken))))
+    (remove-no-ear (start .pre) (start .args .corner) (omega arith) (at-if2 .if2 .left) (c .before .is-ear .ensures .1 (not-true _ (c .if3 .taken))))
 
 low-neighbour-requires : tie.Need-low-neighbour-requires
 low-neighbour-requires c κs = omega (arith, c .before .before .before .before .before .before .before .pre .fits .least, c .before .before .before .before .before .before .before .pre .fits .most)
@@ -74,10 +74,9 @@ renumber-requires c κs =
     let at-is-ear = at-if3 .before in
     let at-if2 = at-is-ear .before .before in
     let start = at-if2 .before .before .before .before in
-    can-fall (start .args .h) (start .args .keys .now) (start .pre) (start .args .corner) (omega arith) (at-if2 .if2 .left)
-    (at-is-ear .is-ear .ensures .0 (not-false _ (at-if3 .if3 .left))) (at-low-neighbour .low-neighbour .result) (at-high-neighbour .high-neighbour .result)
-    (at-key .key .result) (at-low-neighbour .low-neighbour .ensures .0) (at-high-neighbour .high-neighbour .ensures .0) (at-high-neighbour .high-neighbour .ensures .1)
-    (at-key .key .ensures) (at-remove .remove .last .0) (at-remove .remove .result) (at-remove .remove .ensures .0) (at-remove .remove .ensures .1)
+    can-fall (start .pre) (start .args .corner) (omega arith) (at-if2 .if2 .left)
+    (at-is-ear .is-ear .ensures .0 (not-false _ (at-if3 .if3 .left))) (at-low-neighbour .low-neighbour .ensures .0) (at-high-neighbour .high-neighbour .ensures .0) (at-high-neighbour .high-neighbour .ensures .1)
+    (at-key .key .ensures) (at-remove .remove .last .0) (at-remove .remove .ensures .0) (at-remove .remove .ensures .1)
     (omega (arith, at-remove .remove .kept .0, start .pre .room))
 
 sub-t14 : tie.Need-sub-t14
@@ -94,7 +93,7 @@ write-sheet-requires c κs =
     let at-is-ear = at-if3 .before in
     let at-if2 = at-is-ear .before .before in
     let start = at-if2 .before .before .before .before in
-    (shrunk-fits (start .args .h) (start .args .keys .now) (start .pre) (start .args .corner) (omega arith) (at-if2 .if2 .left) (at-is-ear .is-ear .ensures .0 (not-false _ (at-if3 .if3 .left))) (at-low-neighbour .low-neighbour .result) (at-high-neighbour .high-neighbour .result) (at-key .key .result) (at-low-neighbour .low-neighbour .ensures .0) (at-high-neighbour .high-neighbour .ensures .0) (at-high-neighbour .high-neighbour .ensures .1) (at-key .key .ensures) (at-remove .remove .last .0) (at-remove .remove .result) (at-remove .remove .ensures .0) (at-remove .remove .ensures .1) (omega (arith, at-remove .remove .kept .0, start .pre .room)) (at-renumber .renumber .last .0) (at-renumber .renumber .ensures) (omega (arith, at-renumber .renumber .kept .0, at-remove .remove .kept .0, start .pre .room)), omega (arith, at-renumber .renumber .kept .0, at-remove .remove .kept .0, start .pre .room))
+    (shrunk-fits (start .pre) (start .args .corner) (omega arith) (at-if2 .if2 .left) (at-is-ear .is-ear .ensures .0 (not-false _ (at-if3 .if3 .left))) (at-low-neighbour .low-neighbour .ensures .0) (at-high-neighbour .high-neighbour .ensures .0) (at-high-neighbour .high-neighbour .ensures .1) (at-key .key .ensures) (at-remove .remove .last .0) (at-remove .remove .ensures .0) (at-remove .remove .ensures .1) (omega (arith, at-remove .remove .kept .0, start .pre .room)) (at-renumber .renumber .last .0) (at-renumber .renumber .ensures) (omega (arith, at-renumber .renumber .kept .0, at-remove .remove .kept .0, start .pre .room)), omega (arith, at-renumber .renumber .kept .0, at-remove .remove .kept .0, start .pre .room))
 
 same-length-2 : tie.Need-same-length-2
 same-length-2 c = search needs
@@ -113,7 +112,7 @@ returns-4 c =
     let at-is-ear = at-if3 .before in
     let at-if2 = at-is-ear .before .before in
     let start = at-if2 .before .before .before .before in
-    c .before .before .write-sheet .ensures ∙ rule-written (removeEar (start .args .corner)) (polygonOf (start .args .h) (start .args .keys .now)) _ (start .args .out .now) (omega arith, at-if2 .if2 .left, (at-is-ear .is-ear .ensures .0 (not-false _ (at-if3 .if3 .left)))) (shrunk (start .args .h) (start .args .keys .now) (start .pre) (start .args .corner) (omega arith) (at-if2 .if2 .left) (at-is-ear .is-ear .ensures .0 (not-false _ (at-if3 .if3 .left))) (at-low-neighbour .low-neighbour .result) (at-high-neighbour .high-neighbour .result) (at-key .key .result) (at-low-neighbour .low-neighbour .ensures .0) (at-high-neighbour .high-neighbour .ensures .0) (at-high-neighbour .high-neighbour .ensures .1) (at-key .key .ensures) (at-remove .remove .last .0) (at-remove .remove .result) (at-remove .remove .ensures .0) (at-remove .remove .ensures .1) (omega (arith, at-remove .remove .kept .0, start .pre .room)) (at-renumber .renumber .last .0) (at-renumber .renumber .ensures) (omega (arith, at-renumber .renumber .kept .0, at-remove .remove .kept .0, start .pre .room)))
+    c .before .before .write-sheet .ensures ∙ rule-written (removeEar (start .args .corner)) (polygonOf (start .args .h) (start .args .keys .now)) _ (start .args .out .now) (omega arith, at-if2 .if2 .left, (at-is-ear .is-ear .ensures .0 (not-false _ (at-if3 .if3 .left)))) (shrunk (start .pre) (start .args .corner) (omega arith) (at-if2 .if2 .left) (at-is-ear .is-ear .ensures .0 (not-false _ (at-if3 .if3 .left))) (at-low-neighbour .low-neighbour .ensures .0) (at-high-neighbour .high-neighbour .ensures .0) (at-high-neighbour .high-neighbour .ensures .1) (at-key .key .ensures) (at-remove .remove .last .0) (at-remove .remove .ensures .0) (at-remove .remove .ensures .1) (omega (arith, at-remove .remove .kept .0, start .pre .room)) (at-renumber .renumber .last .0) (at-renumber .renumber .ensures) (omega (arith, at-renumber .renumber .kept .0, at-remove .remove .kept .0, start .pre .room)))
 
 pub remove-from-spec : {M : Type 1} → statement M
 remove-from-spec = tie.close (tie.spec returns returns-2 sub-m slice-reshare-prefix-is-ear slice-aggregate-is-ear is-ear-requires same-length returns-3 low-neighbour-requires high-neighbour-requires key-requires remove-requires sub-renumber renumber-requires sub-t14 write-sheet-requires same-length-2 same-length-3 returns-4)

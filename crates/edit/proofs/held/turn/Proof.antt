@@ -36,7 +36,7 @@ returns c =
     let at-key = c .before .before .before in
     let start = at-key .before .before .before in
     rule-refused (flip (start .args .a) (start .args .b)) (polygonOf (start .args .h) (start .args .keys .now)) (start .args .out .now) 13
-    (turn-lacks (start .args .h) (start .args .keys .now) (start .pre .0) (start .args .a) (start .args .b) (start .pre .1 .0) (start .pre .1 .1) (at-key .key .result) (at-key .key .ensures) (c .before .has .ensures .1 (not-true _ (c .if1 .taken))))
+    (turn-lacks (start .pre .0) (start .args .a) (start .args .b) (start .pre .1 .0) (start .pre .1 .1) (at-key .key .ensures) (c .before .has .ensures .1 (not-true _ (c .if1 .taken))))
 
 slice-reshare-prefix-turned-key : tie.Need-slice-reshare-prefix-turned-key
 slice-reshare-prefix-turned-key c = omega (arith, c .before .before .before .before .before .before .pre .0 .room, c .before .before .before .before .before .before .pre .0 .fits .most)
@@ -65,7 +65,7 @@ sub-insert c =
     let at-has = at-if1 .before in
     let at-key = at-has .before .before in
     let start = at-key .before .before .before in
-    omega (arith, count (start .args .h) (start .args .keys .now) (start .pre .0) (start .args .a) (start .args .b) (start .pre .1 .0) (start .pre .1 .1) (at-key .key .result) (at-key .key .ensures) (at-has .has .ensures .0 (not-false _ (at-if1 .if1 .left))) (at-turned-key .turned-key .result) (at-turned-key .turned-key .ensures) (at-remove .remove .last .0) (at-remove .remove .result) (at-remove .remove .ensures .0) (at-remove .remove .ensures .1))
+    omega (arith, count (start .pre .0) (start .args .a) (start .args .b) (start .pre .1 .0) (start .pre .1 .1) (at-key .key .ensures) (at-has .has .ensures .0 (not-false _ (at-if1 .if1 .left))) (at-turned-key .turned-key .result) (at-turned-key .turned-key .ensures) (at-remove .remove .last .0) (at-remove .remove .ensures .0) (at-remove .remove .ensures .1))
 
 insert-requires : tie.Need-insert-requires
 insert-requires c κs =
@@ -75,7 +75,7 @@ insert-requires c κs =
     let at-has = at-if1 .before in
     let at-key = at-has .before .before in
     let start = at-key .before .before .before in
-    (omega (arith, at-remove .remove .kept .0, start .pre .0 .room, start .pre .0 .fits .most), out-sorted (start .args .h) (start .args .keys .now) (start .pre .0) (start .args .a) (start .args .b) (start .pre .1 .0) (start .pre .1 .1) (at-key .key .result) (at-key .key .ensures) (at-has .has .ensures .0 (not-false _ (at-if1 .if1 .left))) (at-turned-key .turned-key .result) (at-turned-key .turned-key .ensures) (at-remove .remove .last .0) (at-remove .remove .result) (at-remove .remove .ensures .0) (at-remove .remove .ensures .1))
+    (omega (arith, at-remove .remove .kept .0, start .pre .0 .room, start .pre .0 .fits .most), out-sorted (start .pre .0) (start .args .a) (start .args .b) (start .pre .1 .0) (start .pre .1 .1) (at-key .key .ensures) (at-has .has .ensures .0 (not-false _ (at-if1 .if1 .left))) (at-turned-key .turned-key .result) (at-turned-key .turned-key .ensures) (at-remove .remove .last .0) (at-remove .remove .ensures .0) (at-remove .remove .ensures .1))
 
 write-sheet-requires : tie.Need-write-sheet-requires
 write-sheet-requires c κs =
@@ -86,7 +86,7 @@ write-sheet-requires c κs =
     let at-has = at-if1 .before in
     let at-key = at-has .before .before in
     let start = at-key .before .before .before in
-    (flipped-fits (start .args .h) (start .args .keys .now) (start .pre .0) (start .args .a) (start .args .b) (start .pre .1 .0) (start .pre .1 .1) (at-key .key .result) (at-key .key .ensures) (at-has .has .ensures .0 (not-false _ (at-if1 .if1 .left))) (at-turned-key .turned-key .result) (at-turned-key .turned-key .ensures) (at-remove .remove .last .0) (at-remove .remove .result) (at-remove .remove .ensures .0) (at-remove .remove .ensures .1) (at-insert .insert .last .0) (at-insert .insert .ensures) (omega (arith, at-insert .insert .kept .0, at-remove .remove .kept .0, start .pre .0 .room)), omega (arith, at-insert .insert .kept .0, at-remove .remove .kept .0, start .pre .0 .room))
+    (flipped-fits (start .pre .0) (start .args .a) (start .args .b) (start .pre .1 .0) (start .pre .1 .1) (at-key .key .ensures) (at-has .has .ensures .0 (not-false _ (at-if1 .if1 .left))) (at-turned-key .turned-key .result) (at-turned-key .turned-key .ensures) (at-remove .remove .last .0) (at-remove .remove .ensures .0) (at-remove .remove .ensures .1) (at-insert .insert .last .0) (at-insert .insert .ensures) (omega (arith, at-insert .insert .kept .0, at-remove .remove .kept .0, start .pre .0 .room)), omega (arith, at-insert .insert .kept .0, at-remove .remove .kept .0, start .pre .0 .room))
 
 same-length-2 : tie.Need-same-length-2
 same-length-2 c = search needs
@@ -103,7 +103,7 @@ returns-2 c =
     let at-has = at-if1 .before in
     let at-key = at-has .before .before in
     let start = at-key .before .before .before in
-    c .before .before .write-sheet .ensures ∙ rule-written (flip (start .args .a) (start .args .b)) (polygonOf (start .args .h) (start .args .keys .now)) _ (start .args .out .now) (turn-takes (start .args .h) (start .args .keys .now) (start .pre .0) (start .args .a) (start .args .b) (start .pre .1 .0) (start .pre .1 .1) (at-key .key .result) (at-key .key .ensures) (at-has .has .ensures .0 (not-false _ (at-if1 .if1 .left)))) (flipped-over (start .args .h) (start .args .keys .now) (start .pre .0) (start .args .a) (start .args .b) (start .pre .1 .0) (start .pre .1 .1) (at-key .key .result) (at-key .key .ensures) (at-has .has .ensures .0 (not-false _ (at-if1 .if1 .left))) (at-turned-key .turned-key .result) (at-turned-key .turned-key .ensures) (at-remove .remove .last .0) (at-remove .remove .result) (at-remove .remove .ensures .0) (at-remove .remove .ensures .1) (at-insert .insert .last .0) (at-insert .insert .ensures) (omega (arith, at-insert .insert .kept .0, at-remove .remove .kept .0, start .pre .0 .room)))
+    c .before .before .write-sheet .ensures ∙ rule-written (flip (start .args .a) (start .args .b)) (polygonOf (start .args .h) (start .args .keys .now)) _ (start .args .out .now) (turn-takes (start .pre .0) (start .args .a) (start .args .b) (start .pre .1 .0) (start .pre .1 .1) (at-key .key .ensures) (at-has .has .ensures .0 (not-false _ (at-if1 .if1 .left)))) (flipped-over (start .pre .0) (start .args .a) (start .args .b) (start .pre .1 .0) (start .pre .1 .1) (at-key .key .ensures) (at-has .has .ensures .0 (not-false _ (at-if1 .if1 .left))) (at-turned-key .turned-key .result) (at-turned-key .turned-key .ensures) (at-remove .remove .last .0) (at-remove .remove .ensures .0) (at-remove .remove .ensures .1) (at-insert .insert .last .0) (at-insert .insert .ensures) (omega (arith, at-insert .insert .kept .0, at-remove .remove .kept .0, start .pre .0 .room)))
 
 pub turn-spec : {M : Type 1} → statement M
 turn-spec = tie.close (tie.spec sub-m key-requires slice-reshare-prefix-has slice-aggregate-has has-requires same-length returns slice-reshare-prefix-turned-key slice-aggregate-turned-key turned-key-requires remove-requires sub-insert insert-requires write-sheet-requires same-length-2 same-length-3 returns-2)
