@@ -16,7 +16,7 @@ use Rattle.plan.proofs.Held.{held-root}
 use Rattle.drawing.specs.declared.steps.Part.{Part}
 use Rattle.drawing.specs.declared.steps.Part.the-variants.{Hung, LeftRim, RightRim}
 use Rattle.drawing.specs.declared.steps.Step.{Step}
-use Rattle.drawing.specs.Parts.{fromRight, isHung, stepAt, stepOf, columns}
+use Rattle.drawing.specs.Parts.{fromRight, isHung, stepAt, stepOf, columns, around}
 use Rattle.drawing.specs.Tables.{Recorded, differ, pick, lay, both, Drawn}
 use Rattle.drawing.proofs.Writing.{none, one, seq, same}
 use Rattle.drawing.proofs.Orders.{own-first, own-last, no-own, side-columns, own-columns, hung-side, rims, lay-length, both-length, few-columns}
@@ -59,24 +59,37 @@ pub rims-drawn : (d : ℕ) (l r : Tree) {t : Tree} (u v c k : ℕ) (turned : Boo
     → Drawn (both turned (lay turned (columns LeftRim k l u c)) (lay turned (columns RightRim k r c v))) at o o₁ n → Drawn (lay turned (columns Hung d t u v)) at o o₁ n
 rims-drawn d l r u v c k turned e m q D = rw (rims d l r u v c k e m q) (same (no-own turned (columns LeftRim k l u c) (columns RightRim k r c v)) D)
 
--- a rim or a stem, whose own column is the last one, or the first
-module _ (p : Part) (d : ℕ) (l r : Tree) {t : Tree} (u v c : ℕ) (s : Step) (turned : Bool) (f : isHung p ≡ false) (is : t ≡ node l r) (mid : c ≡ u + span l) (step : s ≡ stepOf p d l r)
-    (back other tl tr : Bool) (back-is : back ≡ fromRight p) (other-is : other ≡ differ turned (s .crossed)) (tl-is : tl ≡ pick back other turned) (tr-is : tr ≡ pick back turned other) where
+-- how a rim or a stem goes on from its triangle: its parts, and the flags of the two pieces
+pub record Going (p : Part) (d : ℕ) (l r t : Tree) (u c : ℕ) (s : Step) (turned back other tl tr : Bool) : Type 0 where
+  pub not-hung : isHung p ≡ false
+  pub is : t ≡ node l r
+  pub middle : c ≡ u + span l
+  pub step-is : s ≡ stepOf p d l r
+  pub back-is : back ≡ fromRight p
+  pub other-is : other ≡ differ turned (s .crossed)
+  pub left-is : tl ≡ pick back other turned
+  pub right-is : tr ≡ pick back turned other
+
+-- its own column is the last one, or the first
+module _ {p : Part} {d : ℕ} {l r t : Tree} {u c : ℕ} {s : Step} {turned back other tl tr : Bool} (G : Going p d l r t u c s turned back other tl tr) (v : ℕ) where
   abbrev Within : List Edge
   Within = both other (lay tl (columns (s .left) d l u c)) (lay tr (columns (s .right) d r c v))
 
+  own : columns p d t u v ≡ around (fromRight p) (s .crossed) (u — v) (columns (s .left) d l u c) (columns (s .right) d r c v)
+  own = own-columns p d l r u v c s (G .not-hung) (G .is) (G .middle) (G .step-is)
+
   pub last-drawn : (flag : Bool) → flag ≡ differ back turned → flag ≡ true → (k : ℕ) {at n : ℕ} {o o₁ : List ℕ} → k ≡ keyOf (u — v) → Drawn Within at o o₁ n → Drawn (lay turned (columns p d t u v)) at o (set o₁ n k) (n + 1)
   last-drawn flag g h k {n = n} {o₁ = o₁} q D =
-      let E : differ (fromRight p) turned ≡ true = rw back-is at (sym g ∙ h) in
-      rw (own-columns p d l r u v c s f is mid step)
-      (same (rw (tl-is, tr-is, other-is, back-is) (own-last (u — v) (columns (s .left) d l u c) (columns (s .right) d r c v) (fromRight p) turned (s .crossed) E))
+      let E : differ (fromRight p) turned ≡ true = rw (G .back-is) at (sym g ∙ h) in
+      rw own
+      (same (rw (G .left-is, G .right-is, G .other-is, G .back-is) (own-last (u — v) (columns (s .left) d l u c) (columns (s .right) d r c v) (fromRight p) turned (s .crossed) E))
       (seq D (one (u — v) k n o₁ q)))
 
   pub first-drawn : (flag : Bool) → flag ≡ differ back turned → flag ≡ false → (k at : ℕ) {n : ℕ} (o : List ℕ) {o₁ : List ℕ} → k ≡ keyOf (u — v) → Drawn Within (at + 1) (set o at k) o₁ n → Drawn (lay turned (columns p d t u v)) at o o₁ n
   first-drawn flag g h k at o q D =
-      let E : differ (fromRight p) turned ≡ false = rw back-is at (sym g ∙ h) in
-      rw (own-columns p d l r u v c s f is mid step)
-      (same (rw (tl-is, tr-is, other-is, back-is) (own-first (u — v) (columns (s .left) d l u c) (columns (s .right) d r c v) (fromRight p) turned (s .crossed) E))
+      let E : differ (fromRight p) turned ≡ false = rw (G .back-is) at (sym g ∙ h) in
+      rw own
+      (same (rw (G .left-is, G .right-is, G .other-is, G .back-is) (own-first (u — v) (columns (s .left) d l u c) (columns (s .right) d r c v) (fromRight p) turned (s .crossed) E))
       (seq (one (u — v) k at o q) D))
 
 -- where the columns end

@@ -1,14 +1,15 @@
 -- The span falls at each call; at the same span a stem calls a piece, and both call for two pieces. Each step by the laws of Recording.antt.
 use mathlib.Core.Path.{ap, sym, _∙_}
-use Prim.Native.Nat.{_+_, _*_, _-_}
+use Prim.Native.Nat.{ℕ, _+_, _*_, _-_, _<_, _≤_}
 use borrow.Author.Needs.{needs}
 use native.Mathlib.Omega.{arith}
 use lib.ListN.{getD}
+use Rattle.polygon.specs.Tree.{Tree}
 use Rattle.polygon.proofs.Chords.{span-pos}
 use Rattle.plan.proofs.Pieces.{ends, closed}
+use Rattle.drawing.specs.Tables.{Recorded}
 use Rattle.drawing.proofs.Orders.{only-hung}
-use Rattle.drawing.proofs.Recording.{recorded-parts, hung-drawn, side-drawn, rims-drawn, last-drawn, first-drawn, end-one, end-two, two-drawn, swapped-drawn}
-use Prim.Native.Nat.{ℕ, _<_}
+use Rattle.drawing.proofs.Recording.{recorded-parts, hung-drawn, side-drawn, rims-drawn, Going, last-drawn, first-drawn, end-one, end-two, two-drawn, swapped-drawn}
 use borrow.Fn.Kinds.{In}
 use borrow.Fn.PlainCycle.{Measures, is, falls, and}
 use Rattle.drawing.proofs.columns.draw_piece.Reads as draw-piece
@@ -206,11 +207,14 @@ draw-stem-draw-two-requires t c κs =
     let k = recorded-parts (start .pre .1 .0 .1) (at-if2 .if2 .left) in
     (omega (arith, k .parts, start .pre .0), ((k .parts .l, k .of-l), ((k .parts .r, k .of-r), omega (arith, k .parts, start .pre .1 .1))))
 
+-- the corners and the column of a triangle fit
+stem-fits : (t : ℕ) (c : draw-stem-lts.Else2 (draw-stem-Cs t) (draw-stem-at t) draw-stem.Post) → let args = c .before .before .before .args in (args .u < args .v) × (args .v < 1024) × (args .at + 4 ≤ 4096)
+stem-fits t c =
+    let start = c .before .before .before in
+    omega (arith, (recorded-parts (start .pre .1 .0 .1) (c .if2 .left)) .parts, start .pre .1 .1)
+
 draw-stem-key-requires-2 : (t : ℕ) → draw-stem-lts.Need-key-requires-2 (draw-stem-Cs t) (draw-stem-at t) draw-stem.Post
-draw-stem-key-requires-2 t c κs =
-    let at-if2 = c .before .before .before .before .before .before .before .before .before .before .before .before .before .before .before .before .before .before in
-    let start = at-if2 .before .before .before in
-    omega (arith, (recorded-parts (start .pre .1 .0 .1) (at-if2 .if2 .left)) .parts, start .pre .1 .1)
+draw-stem-key-requires-2 t c κs = omega (arith, stem-fits t (c .before .before .before .before .before .before .before .before .before .before .before .before .before .before .before .before .before .before))
 
 -- there is room for the column behind the two pieces
 two-fit : (t : ℕ) (c : draw-stem-lts.After-draw-two (draw-stem-Cs t) (draw-stem-at t) draw-stem.Post) → c .draw-two .result + 1 < 4096
@@ -233,54 +237,55 @@ draw-stem-element-write-out-2 t c = omega (arith, two-fit t (c .before))
 draw-stem-add-result-2 : (t : ℕ) → draw-stem-lts.Need-add-result-2 (draw-stem-Cs t) (draw-stem-at t) draw-stem.Post
 draw-stem-add-result-2 t c = omega (arith, two-fit t (c .before))
 
-draw-stem-returns-3 : (t : ℕ) → draw-stem-lts.Need-returns-3 (draw-stem-Cs t) (draw-stem-at t) draw-stem.Post
-draw-stem-returns-3 t c =
-    let at-if3 = c .before .before .before in
-    let at-differ2 = at-if3 .before in
-    let at-pick2 = at-differ2 .before in
-    let at-pick = at-pick2 .before in
-    let at-differ = at-pick .before in
-    let at-from-right = at-differ .before in
-    let at-step-at = at-from-right .before in
+-- how the drawing goes on from the triangle
+going : (t : ℕ) (c : draw-stem-lts.After-differ2 (draw-stem-Cs t) (draw-stem-at t) draw-stem.Post) (x : Tree)
+    → let at-if2 = c .before .before .before .before .before .before .before .before .before .before .before .before .before .before .before in
+    let start = at-if2 .before .before .before in
+    (w : Recorded (start .args .apex .now) (start .args .left .now) (start .args .right .now) (start .args .ud .now) (start .args .handle .now) (start .args .e) (start .args .u) (start .args .v) x)
+    → let k = recorded-parts w (at-if2 .if2 .left) in
+    Going (start .args .p) (start .args .d) (k .parts .l) (k .parts .r) x (start .args .u) (getD (start .args .apex .now) (start .args .e) 0) (c .before .before .before .before .before .step-at .result) (start .args .turned) (c .before .before .before .before .from-right .result) (c .before .before .before .differ .result) (c .before .before .pick .result) (c .before .pick2 .result)
+going t c x w =
+    let at-step-at = c .before .before .before .before .before in
     let at-number3 = at-step-at .before in
     let at-number2 = at-number3 .before .before in
     let at-number = at-number2 .before .before in
     let at-if2 = at-number .before .before .before .before .before in
     let at-if1 = at-if2 .before in
-    let at-is-hung = at-if1 .before in
-    let start = at-is-hung .before in
-    λ x q.
-    let k = recorded-parts q (at-if2 .if2 .left) in
-    last-drawn (start .args .p) (start .args .d) (k .parts .l) (k .parts .r) (start .args .u) (start .args .v) _ (at-step-at .step-at .result) (start .args .turned)
-    (sym (at-is-hung .is-hung .ensures) ∙ at-if1 .if1 .left) (k .parts .is) (k .parts .middle)
-    (at-step-at .step-at .ensures ∙ rw (at-number .number .ensures, at-number2 .number2 .ensures, at-number3 .number3 .ensures) (k .step-is (start .args .p) (start .args .d)))
-    (at-from-right .from-right .result) (at-differ .differ .result) (at-pick .pick .result) (at-pick2 .pick2 .result) (at-from-right .from-right .ensures)
-    (at-differ .differ .ensures) (at-pick .pick .ensures) (at-pick2 .pick2 .ensures) (at-differ2 .differ2 .result) (at-differ2 .differ2 .ensures) (at-if3 .if3 .taken) _
-    (c .key2 .ensures) (c .before .draw-two .ensures (k .parts .l) (k .parts .r) (k .of-l) (k .of-r))
+    let start = at-if1 .before .before in
+    let k = recorded-parts w (at-if2 .if2 .left) in
+    record {
+      not-hung = sym (at-if1 .before .is-hung .ensures) ∙ at-if1 .if1 .left;
+      is = k .parts .is;
+      middle = k .parts .middle;
+      step-is = at-step-at .step-at .ensures ∙ rw (at-number .number .ensures, at-number2 .number2 .ensures, at-number3 .number3 .ensures) (k .step-is (start .args .p) (start .args .d));
+      back-is = c .before .before .before .before .from-right .ensures;
+      other-is = c .before .before .before .differ .ensures;
+      left-is = c .before .before .pick .ensures;
+      right-is = c .before .pick2 .ensures;
+    }
+
+draw-stem-returns-3 : (t : ℕ) → draw-stem-lts.Need-returns-3 (draw-stem-Cs t) (draw-stem-at t) draw-stem.Post
+draw-stem-returns-3 t c =
+    let at-if3 = c .before .before .before in
+    let at-differ2 = at-if3 .before in
+    let at-if2 = at-differ2 .before .before .before .before .before .before .before .before .before .before .before .before .before .before .before in
+    let start = at-if2 .before .before .before in
+    λ x w.
+    let k = recorded-parts w (at-if2 .if2 .left) in
+    last-drawn (going t at-differ2 x w) (start .args .v) (at-differ2 .differ2 .result) (at-differ2 .differ2 .ensures) (at-if3 .if3 .taken) _ (c .key2 .ensures)
+    (c .before .draw-two .ensures (k .parts .l) (k .parts .r) (k .of-l) (k .of-r))
 
 draw-stem-key-requires-3 : (t : ℕ) → draw-stem-lts.Need-key-requires-3 (draw-stem-Cs t) (draw-stem-at t) draw-stem.Post
-draw-stem-key-requires-3 t c κs =
-    let at-if2 = c .before .before .before .before .before .before .before .before .before .before .before .before .before .before .before .before in
-    let start = at-if2 .before .before .before in
-    omega (arith, (recorded-parts (start .pre .1 .0 .1) (at-if2 .if2 .left)) .parts, start .pre .1 .1)
+draw-stem-key-requires-3 t c κs = omega (arith, stem-fits t (c .before .before .before .before .before .before .before .before .before .before .before .before .before .before .before .before))
 
 draw-stem-mul-out-3 : (t : ℕ) → draw-stem-lts.Need-mul-out-3 (draw-stem-Cs t) (draw-stem-at t) draw-stem.Post
-draw-stem-mul-out-3 t c =
-    let at-if2 = c .before .before .before .before .before .before .before .before .before .before .before .before .before .before .before .before .before in
-    let start = at-if2 .before .before .before in
-    omega (arith, (recorded-parts (start .pre .1 .0 .1) (at-if2 .if2 .left)) .parts, start .pre .1 .1)
+draw-stem-mul-out-3 t c = omega (arith, stem-fits t (c .before .before .before .before .before .before .before .before .before .before .before .before .before .before .before .before .before))
 
 draw-stem-element-write-out-3 : (t : ℕ) → draw-stem-lts.Need-element-write-out-3 (draw-stem-Cs t) (draw-stem-at t) draw-stem.Post
-draw-stem-element-write-out-3 t c =
-    let at-if2 = c .before .before .before .before .before .before .before .before .before .before .before .before .before .before .before .before .before in
-    let start = at-if2 .before .before .before in
-    omega (arith, (recorded-parts (start .pre .1 .0 .1) (at-if2 .if2 .left)) .parts, start .pre .1 .1)
+draw-stem-element-write-out-3 t c = omega (arith, stem-fits t (c .before .before .before .before .before .before .before .before .before .before .before .before .before .before .before .before .before))
 
 draw-stem-add-draw-two : (t : ℕ) → draw-stem-lts.Need-add-draw-two (draw-stem-Cs t) (draw-stem-at t) draw-stem.Post
-draw-stem-add-draw-two t c =
-    let at-if2 = c .before .before .before .before .before .before .before .before .before .before .before .before .before .before .before .before .before in
-    let start = at-if2 .before .before .before in
-    omega (arith, (recorded-parts (start .pre .1 .0 .1) (at-if2 .if2 .left)) .parts, start .pre .1 .1)
+draw-stem-add-draw-two t c = omega (arith, stem-fits t (c .before .before .before .before .before .before .before .before .before .before .before .before .before .before .before .before .before))
 
 draw-stem-draw-two-requires-2 : (t : ℕ) → draw-stem-lts.Need-draw-two-requires-2 (draw-stem-Cs t) (draw-stem-at t) draw-stem.Post
 draw-stem-draw-two-requires-2 t c κs =
@@ -293,26 +298,12 @@ draw-stem-returns-4 : (t : ℕ) → draw-stem-lts.Need-returns-4 (draw-stem-Cs t
 draw-stem-returns-4 t c =
     let at-if3 = c .before .before .before in
     let at-differ2 = at-if3 .before in
-    let at-pick2 = at-differ2 .before in
-    let at-pick = at-pick2 .before in
-    let at-differ = at-pick .before in
-    let at-from-right = at-differ .before in
-    let at-step-at = at-from-right .before in
-    let at-number3 = at-step-at .before in
-    let at-number2 = at-number3 .before .before in
-    let at-number = at-number2 .before .before in
-    let at-if2 = at-number .before .before .before .before .before in
-    let at-if1 = at-if2 .before in
-    let at-is-hung = at-if1 .before in
-    let start = at-is-hung .before in
-    λ x q.
-    let k = recorded-parts q (at-if2 .if2 .left) in
-    first-drawn (start .args .p) (start .args .d) (k .parts .l) (k .parts .r) (start .args .u) (start .args .v) _ (at-step-at .step-at .result) (start .args .turned)
-    (sym (at-is-hung .is-hung .ensures) ∙ at-if1 .if1 .left) (k .parts .is) (k .parts .middle)
-    (at-step-at .step-at .ensures ∙ rw (at-number .number .ensures, at-number2 .number2 .ensures, at-number3 .number3 .ensures) (k .step-is (start .args .p) (start .args .d)))
-    (at-from-right .from-right .result) (at-differ .differ .result) (at-pick .pick .result) (at-pick2 .pick2 .result) (at-from-right .from-right .ensures)
-    (at-differ .differ .ensures) (at-pick .pick .ensures) (at-pick2 .pick2 .ensures) (at-differ2 .differ2 .result) (at-differ2 .differ2 .ensures) (at-if3 .if3 .left) _
-    (start .args .at) (start .args .out .now) (c .before .before .key3 .ensures) (c .draw-two2 .ensures (k .parts .l) (k .parts .r) (k .of-l) (k .of-r))
+    let at-if2 = at-differ2 .before .before .before .before .before .before .before .before .before .before .before .before .before .before .before in
+    let start = at-if2 .before .before .before in
+    λ x w.
+    let k = recorded-parts w (at-if2 .if2 .left) in
+    first-drawn (going t at-differ2 x w) (start .args .v) (at-differ2 .differ2 .result) (at-differ2 .differ2 .ensures) (at-if3 .if3 .left) _ (start .args .at) (start .args .out .now) (c .before .before .key3 .ensures)
+    (c .draw-two2 .ensures (k .parts .l) (k .parts .r) (k .of-l) (k .of-r))
 
 draw-two-draw-stem-requires : (t : ℕ) → draw-two-lts.Need-draw-stem-requires (draw-two-Cs t) (draw-two-at t) draw-two.Post
 draw-two-draw-stem-requires t c κs =
