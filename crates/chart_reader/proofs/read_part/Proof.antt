@@ -115,7 +115,10 @@ part-requires c κs =
     let at-if1 = at-bars-keep .before in
     let at-frame = at-if1 .before .before in
     let start = at-frame .before .before .before .before in (
-      edges-found (start .args .chart .now) (at-frame .frame .result) (take (2 * at-frame .frame .result - 3) (at-frame .frame .last .1 .0)) (at-frame .frame .ensures .1 (at-if1 .if1 .left)) (at-bars-keep .bars-keep .ensures .0 (not-false _ (at-if2 .if2 .left))) ((at-strokes-keep .strokes-keep .ensures .0 (not-false _ (at-if3 .if3 .left))) .0) (at-strokes-keep .strokes-keep .last .1 .1 .1 .0) ((at-strokes-keep .strokes-keep .ensures .0 (not-false _ (at-if3 .if3 .left))) .1),
+      edges-found (start .args .chart .now) (at-frame .frame .result) (take (2 * at-frame .frame .result - 3) (at-frame .frame .last .1 .0))
+          (at-frame .frame .ensures .1 (at-if1 .if1 .left)) (at-bars-keep .bars-keep .ensures .0 (not-false _ (at-if2 .if2 .left)))
+          ((at-strokes-keep .strokes-keep .ensures .0 (not-false _ (at-if3 .if3 .left))) .0) (at-strokes-keep .strokes-keep .last .1 .1 .1 .0)
+          ((at-strokes-keep .strokes-keep .ensures .0 (not-false _ (at-if3 .if3 .left))) .1),
       omega (arith, (at-frame .frame .ensures .1 (at-if1 .if1 .left)) .count, (at-frame .frame .ensures .1 (at-if1 .if1 .left)) .formed .least, (at-frame .frame .ensures .1 (at-if1 .if1 .left)) .formed .most),
       omega (arith, (at-frame .frame .ensures .1 (at-if1 .if1 .left)) .count, (at-frame .frame .ensures .1 (at-if1 .if1 .left)) .formed .least, (at-frame .frame .ensures .1 (at-if1 .if1 .left)) .formed .most, start .pre, length-take-le (2 * at-frame .frame .result - 3) (at-strokes-keep .strokes-keep .last .1 .1 .1 .0) (omega (arith, at-strokes-keep .strokes-keep .kept .1 .1 .1 .0, (at-frame .frame .ensures .1 (at-if1 .if1 .left)) .count, (at-frame .frame .ensures .1 (at-if1 .if1 .left)) .formed .least, (at-frame .frame .ensures .1 (at-if1 .if1 .left)) .formed .most))),
     )

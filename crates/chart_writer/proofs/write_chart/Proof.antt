@@ -51,7 +51,9 @@ returns : tie.Need-returns
 returns c =
     let at-list-edges = c .before .before .before .before .before .before in
     let start = at-list-edges .before .before .before .before .before .before in
-    λ rs R. c .before .before .write-layout .ensures rs R ∙ ap (λ (es : List Edge). written (write (bytesOf (layout (start .args .n - 1) (start .args .levels) rs (edgesOf (start .args .cols .now)) es))) (start .args .out .now)) (ap edgesOf (front (2 * start .args .n - 3) (at-list-edges .list-edges .last .1 .1 .0) (replicate 2045 0) (at-list-edges .list-edges .kept .1 .1 .0) (omega (arith, start .pre .0 .full, start .pre .1 .1 .0))) ∙ at-list-edges .list-edges .ensures)
+    λ rs R. c .before .before .write-layout .ensures rs R ∙ ap
+    (λ (es : List Edge). written (write (bytesOf (layout (start .args .n - 1) (start .args .levels) rs (edgesOf (start .args .cols .now)) es))) (start .args .out .now))
+    (ap edgesOf (front (2 * start .args .n - 3) (at-list-edges .list-edges .last .1 .1 .0) (replicate 2045 0) (at-list-edges .list-edges .kept .1 .1 .0) (omega (arith, start .pre .0 .full, start .pre .1 .1 .0))) ∙ at-list-edges .list-edges .ensures)
 
 pub write-chart-spec : {M : Type 1} → statement M
 write-chart-spec = tie.close (tie.spec mul-m sub-m array-borrow-prefix-listed slice-aggregate-list-edges list-edges-requires array-share-prefix-listed slice-aggregate-write-layout write-layout-requires same-length returns)

@@ -48,7 +48,8 @@ returns-2 c =
     let at-h = at-add-to .before .before .before .before in
     let at-read-sheet = at-h .before .before .before in
     let start = at-read-sheet .before .before .before .before in
-    at-add-to .add-to .ensures ∙ edited-held (addEar (start .args .side)) (start .args .sheet .now) (start .args .out .now) _ (read-held (start .args .sheet .now) (at-read-sheet .read-sheet .result) (at-read-sheet .read-sheet .last .1 .0) (at-h .h .given .0 .0) (at-read-sheet .read-sheet .ensures .0) (at-h .h .given .1))
+    at-add-to .add-to .ensures ∙ edited-held (addEar (start .args .side)) (start .args .sheet .now) (start .args .out .now) _
+    (read-held (start .args .sheet .now) (at-read-sheet .read-sheet .result) (at-read-sheet .read-sheet .last .1 .0) (at-h .h .given .0 .0) (at-read-sheet .read-sheet .ensures .0) (at-h .h .given .1))
 
 pub add-ear-spec : {M : Type 1} → statement M
 add-ear-spec = tie.close (tie.spec slice-aggregate-read-sheet read-sheet-requires enum-known-k enum-known-h slice-aggregate-add-to add-to-requires returns same-length returns-2)

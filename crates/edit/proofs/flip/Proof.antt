@@ -48,7 +48,8 @@ returns-2 c =
     let at-h = at-flip-in .before .before .before .before in
     let at-read-sheet = at-h .before .before .before in
     let start = at-read-sheet .before .before .before .before in
-    at-flip-in .flip-in .ensures ∙ edited-held (flip (start .args .a) (start .args .b)) (start .args .sheet .now) (start .args .out .now) _ (read-held (start .args .sheet .now) (at-read-sheet .read-sheet .result) (at-read-sheet .read-sheet .last .1 .0) (at-h .h .given .0 .0) (at-read-sheet .read-sheet .ensures .0) (at-h .h .given .1))
+    at-flip-in .flip-in .ensures ∙ edited-held (flip (start .args .a) (start .args .b)) (start .args .sheet .now) (start .args .out .now) _
+    (read-held (start .args .sheet .now) (at-read-sheet .read-sheet .result) (at-read-sheet .read-sheet .last .1 .0) (at-h .h .given .0 .0) (at-read-sheet .read-sheet .ensures .0) (at-h .h .given .1))
 
 pub flip-spec : {M : Type 1} → statement M
 flip-spec = tie.close (tie.spec slice-aggregate-read-sheet read-sheet-requires enum-known-k enum-known-h slice-aggregate-flip-in flip-in-requires returns same-length returns-2)

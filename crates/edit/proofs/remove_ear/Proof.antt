@@ -48,7 +48,8 @@ returns-2 c =
     let at-h = at-remove-from .before .before .before .before in
     let at-read-sheet = at-h .before .before .before in
     let start = at-read-sheet .before .before .before .before in
-    at-remove-from .remove-from .ensures ∙ edited-held (removeEar (start .args .corner)) (start .args .sheet .now) (start .args .out .now) _ (read-held (start .args .sheet .now) (at-read-sheet .read-sheet .result) (at-read-sheet .read-sheet .last .1 .0) (at-h .h .given .0 .0) (at-read-sheet .read-sheet .ensures .0) (at-h .h .given .1))
+    at-remove-from .remove-from .ensures ∙ edited-held (removeEar (start .args .corner)) (start .args .sheet .now) (start .args .out .now) _
+    (read-held (start .args .sheet .now) (at-read-sheet .read-sheet .result) (at-read-sheet .read-sheet .last .1 .0) (at-h .h .given .0 .0) (at-read-sheet .read-sheet .ensures .0) (at-h .h .given .1))
 
 pub remove-ear-spec : {M : Type 1} → statement M
 remove-ear-spec = tie.close (tie.spec slice-aggregate-read-sheet read-sheet-requires enum-known-k enum-known-h slice-aggregate-remove-from remove-from-requires returns same-length returns-2)

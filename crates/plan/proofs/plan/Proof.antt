@@ -46,7 +46,8 @@ returns-2 c =
     let at-h = c .before .before .before in
     let at-read-sheet = at-h .before .before .before in
     let start = at-read-sheet .before .before .before in
-    c .plan-part .ensures ∙ held-planned (start .args .sheet .now) (at-h .h .given .0 .0) (at-read-sheet .read-sheet .last .1 .0) (read-held (start .args .sheet .now) (at-read-sheet .read-sheet .result) (at-read-sheet .read-sheet .last .1 .0) (at-h .h .given .0 .0) (at-read-sheet .read-sheet .ensures .0) (at-h .h .given .1))
+    c .plan-part .ensures ∙ held-planned (start .args .sheet .now) (at-h .h .given .0 .0) (at-read-sheet .read-sheet .last .1 .0)
+    (read-held (start .args .sheet .now) (at-read-sheet .read-sheet .result) (at-read-sheet .read-sheet .last .1 .0) (at-h .h .given .0 .0) (at-read-sheet .read-sheet .ensures .0) (at-h .h .given .1))
 
 pub plan-spec : {M : Type 1} → statement M
 plan-spec = tie.close (tie.spec slice-aggregate-read-sheet read-sheet-requires enum-known-k enum-known-h sub-m array-share-prefix-keys slice-aggregate-plan-part plan-part-requires returns returns-2)

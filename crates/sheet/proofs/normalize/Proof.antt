@@ -39,7 +39,9 @@ returns-2 c =
     let at-h = c .before .before .before .before .before .before in
     let at-read-sheet = at-h .before .before .before in
     let start = at-read-sheet .before .before .before .before in
-    c .before .before .write-sheet .ensures ∙ ordered-held (start .args .sheet .now) (start .args .out .now) (at-h .h .given .0 .0) (at-read-sheet .read-sheet .last .1 .0) (read-held (start .args .sheet .now) (at-read-sheet .read-sheet .result) (at-read-sheet .read-sheet .last .1 .0) (at-h .h .given .0 .0) (at-read-sheet .read-sheet .ensures .0) (at-h .h .given .1))
+    c .before .before .write-sheet .ensures ∙ ordered-held (start .args .sheet .now) (start .args .out .now) (at-h .h .given .0 .0)
+    (at-read-sheet .read-sheet .last .1 .0)
+    (read-held (start .args .sheet .now) (at-read-sheet .read-sheet .result) (at-read-sheet .read-sheet .last .1 .0) (at-h .h .given .0 .0) (at-read-sheet .read-sheet .ensures .0) (at-h .h .given .1))
 
 pub normalize-spec : {M : Type 1} → statement M
 normalize-spec = tie.close (tie.spec slice-aggregate-read-sheet read-sheet-requires enum-known-k enum-known-h slice-aggregate-write-sheet write-sheet-requires returns same-length returns-2)

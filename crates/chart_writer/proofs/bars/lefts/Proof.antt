@@ -58,7 +58,8 @@ loop-again c =
     let start = at-loop .before .before .before in (
       omega arith,
       simp (length-set, length-set) (at-loop .loop .inv .1),
-      rw (c .before .low .ensures, c .high .ensures .0) (lefts-next (start .args .cols .now) (at-loop .loop .left) (at-loop .loop .j - 1) (start .pre .0) (at-loop .loop .inv .1) (omega arith) (let e : suc (at-loop .loop .j - 1) ≡ at-loop .loop .j = omega arith in rw e (at-loop .loop .inv .2))),
+      rw (c .before .low .ensures, c .high .ensures .0)
+          (lefts-next (start .args .cols .now) (at-loop .loop .left) (at-loop .loop .j - 1) (start .pre .0) (at-loop .loop .inv .1) (omega arith) (let e : suc (at-loop .loop .j - 1) ≡ at-loop .loop .j = omega arith in rw e (at-loop .loop .inv .2))),
     )
 
 same-length : tie.Need-same-length Inv-loop μ-loop

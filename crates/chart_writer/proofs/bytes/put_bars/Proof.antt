@@ -87,7 +87,8 @@ loop-again c =
     let start = at-loop .before .before .before .before .before in (
       omega arith,
       at-put163 .put163 .kept .0 ∙ (at-put162 .put162 .kept .0 ∙ (at-put16 .put16 .kept .0 ∙ at-loop .loop .inv .1)),
-      at-put163 .put163 .ensures ∙ rw (at-put162 .put162 .ensures, at-put16 .put16 .ensures, at-loop .loop .inv .2) (bar-stored (start .args .rows .now) (start .args .left .now) (start .args .right .now) (start .args .out .now) (at-loop .loop .x)),
+      at-put163 .put163 .ensures ∙ rw (at-put162 .put162 .ensures, at-put16 .put16 .ensures, at-loop .loop .inv .2)
+          (bar-stored (start .args .rows .now) (start .args .left .now) (start .args .right .now) (start .args .out .now) (at-loop .loop .x)),
     )
 
 same-length : tie.Need-same-length Inv-loop μ-loop

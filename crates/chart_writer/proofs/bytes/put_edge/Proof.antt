@@ -31,7 +31,8 @@ returns c =
     let at-put16 = at-high .before .before .before .before in
     let at-low = at-put16 .before in
     let start = at-low .before .before .before in
-    c .before .before .put162 .ensures ∙ rw (at-put16 .put16 .ensures, at-low .low .ensures, at-high .high .ensures .0, sets-append (bytes16 (start .args .k / 1024)) (bytes16 (start .args .k % 1024)) (start .args .out .now) (start .args .at))
+    c .before .before .put162 .ensures ∙ rw
+    (at-put16 .put16 .ensures, at-low .low .ensures, at-high .high .ensures .0, sets-append (bytes16 (start .args .k / 1024)) (bytes16 (start .args .k % 1024)) (start .args .out .now) (start .args .at))
 
 pub put-edge-spec : {M : Type 1} → statement M
 put-edge-spec = tie.close (tie.spec low-requires put16-requires add-put16 high-requires put16-requires-2 same-length returns)

@@ -75,7 +75,8 @@ loop-again c =
     let start = at-loop .before .before .before .before .before in (
       omega arith,
       simp length-set (at-loop .loop .inv .1),
-      placed-next (start .args .edges .now) (start .args .cols .now) (at-loop .loop .columns) (omega arith) (start .pre .0) (at-loop .loop .j - 1) (c .find .result) (omega arith) (c .find .ensures .0) (c .find .ensures .1) (let e : suc (at-loop .loop .j - 1) ≡ at-loop .loop .j = omega arith in rw e (at-loop .loop .inv .2)),
+      placed-next (start .args .edges .now) (start .args .cols .now) (at-loop .loop .columns) (omega arith) (start .pre .0) (at-loop .loop .j - 1) (c .find .result)
+          (omega arith) (c .find .ensures .0) (c .find .ensures .1) (let e : suc (at-loop .loop .j - 1) ≡ at-loop .loop .j = omega arith in rw e (at-loop .loop .inv .2)),
     )
 
 same-length : tie.Need-same-length Inv-loop μ-loop

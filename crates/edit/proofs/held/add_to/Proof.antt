@@ -63,7 +63,9 @@ returns-3 c =
     let at-renumber = at-entering-key .before .before .before .before in
     let at-if2 = at-renumber .before .before in
     let start = at-if2 .before .before .before .before in
-    c .before .before .write-sheet .ensures ∙ rule-written (addEar (start .args .side)) (polygonOf (start .args .h) (start .args .keys .now)) _ (start .args .out .now) (omega arith, at-if2 .if2 .left) (added (start .pre) (start .args .side) (omega arith) (at-if2 .if2 .left) (at-renumber .renumber .last .0) (at-renumber .renumber .ensures) (at-entering-key .entering-key .ensures) (at-insert .insert .last .0) (at-insert .insert .ensures) (omega (arith, at-insert .insert .kept .0, at-renumber .renumber .kept .0, start .pre .room)))
+    c .before .before .write-sheet .ensures ∙ rule-written (addEar (start .args .side)) (polygonOf (start .args .h) (start .args .keys .now)) _ (start .args .out .now)
+    (omega arith, at-if2 .if2 .left)
+    (added (start .pre) (start .args .side) (omega arith) (at-if2 .if2 .left) (at-renumber .renumber .last .0) (at-renumber .renumber .ensures) (at-entering-key .entering-key .ensures) (at-insert .insert .last .0) (at-insert .insert .ensures) (omega (arith, at-insert .insert .kept .0, at-renumber .renumber .kept .0, start .pre .room)))
 
 pub add-to-spec : {M : Type 1} → statement M
 add-to-spec = tie.close (tie.spec returns returns-2 sub-m renumber-requires entering-key-requires insert-requires add-t16 write-sheet-requires same-length same-length-2 returns-3)

@@ -112,7 +112,9 @@ returns-4 c =
     let at-is-ear = at-if3 .before in
     let at-if2 = at-is-ear .before .before in
     let start = at-if2 .before .before .before .before in
-    c .before .before .write-sheet .ensures ∙ rule-written (removeEar (start .args .corner)) (polygonOf (start .args .h) (start .args .keys .now)) _ (start .args .out .now) (omega arith, at-if2 .if2 .left, (at-is-ear .is-ear .ensures .0 (not-false _ (at-if3 .if3 .left)))) (shrunk (start .pre) (start .args .corner) (omega arith) (at-if2 .if2 .left) (at-is-ear .is-ear .ensures .0 (not-false _ (at-if3 .if3 .left))) (at-low-neighbour .low-neighbour .ensures .0) (at-high-neighbour .high-neighbour .ensures .0) (at-high-neighbour .high-neighbour .ensures .1) (at-key .key .ensures) (at-remove .remove .last .0) (at-remove .remove .ensures .0) (at-remove .remove .ensures .1) (omega (arith, at-remove .remove .kept .0, start .pre .room)) (at-renumber .renumber .last .0) (at-renumber .renumber .ensures) (omega (arith, at-renumber .renumber .kept .0, at-remove .remove .kept .0, start .pre .room)))
+    c .before .before .write-sheet .ensures ∙ rule-written (removeEar (start .args .corner)) (polygonOf (start .args .h) (start .args .keys .now)) _
+    (start .args .out .now) (omega arith, at-if2 .if2 .left, (at-is-ear .is-ear .ensures .0 (not-false _ (at-if3 .if3 .left))))
+    (shrunk (start .pre) (start .args .corner) (omega arith) (at-if2 .if2 .left) (at-is-ear .is-ear .ensures .0 (not-false _ (at-if3 .if3 .left))) (at-low-neighbour .low-neighbour .ensures .0) (at-high-neighbour .high-neighbour .ensures .0) (at-high-neighbour .high-neighbour .ensures .1) (at-key .key .ensures) (at-remove .remove .last .0) (at-remove .remove .ensures .0) (at-remove .remove .ensures .1) (omega (arith, at-remove .remove .kept .0, start .pre .room)) (at-renumber .renumber .last .0) (at-renumber .renumber .ensures) (omega (arith, at-renumber .renumber .kept .0, at-remove .remove .kept .0, start .pre .room)))
 
 pub remove-from-spec : {M : Type 1} → statement M
 remove-from-spec = tie.close (tie.spec returns returns-2 sub-m slice-reshare-prefix-is-ear slice-aggregate-is-ear is-ear-requires same-length returns-3 low-neighbour-requires high-neighbour-requires key-requires remove-requires sub-renumber renumber-requires sub-t14 write-sheet-requires same-length-2 same-length-3 returns-4)

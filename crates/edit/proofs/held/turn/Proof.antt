@@ -103,7 +103,10 @@ returns-2 c =
     let at-has = at-if1 .before in
     let at-key = at-has .before .before in
     let start = at-key .before .before .before in
-    c .before .before .write-sheet .ensures ∙ rule-written (flip (start .args .a) (start .args .b)) (polygonOf (start .args .h) (start .args .keys .now)) _ (start .args .out .now) (turn-takes (start .pre .0) (start .args .a) (start .args .b) (start .pre .1 .0) (start .pre .1 .1) (at-key .key .ensures) (at-has .has .ensures .0 (not-false _ (at-if1 .if1 .left)))) (flipped-over (start .pre .0) (start .args .a) (start .args .b) (start .pre .1 .0) (start .pre .1 .1) (at-key .key .ensures) (at-has .has .ensures .0 (not-false _ (at-if1 .if1 .left))) (at-turned-key .turned-key .result) (at-turned-key .turned-key .ensures) (at-remove .remove .last .0) (at-remove .remove .ensures .0) (at-remove .remove .ensures .1) (at-insert .insert .last .0) (at-insert .insert .ensures) (omega (arith, at-insert .insert .kept .0, at-remove .remove .kept .0, start .pre .0 .room)))
+    c .before .before .write-sheet .ensures ∙ rule-written (flip (start .args .a) (start .args .b)) (polygonOf (start .args .h) (start .args .keys .now)) _
+    (start .args .out .now)
+    (turn-takes (start .pre .0) (start .args .a) (start .args .b) (start .pre .1 .0) (start .pre .1 .1) (at-key .key .ensures) (at-has .has .ensures .0 (not-false _ (at-if1 .if1 .left))))
+    (flipped-over (start .pre .0) (start .args .a) (start .args .b) (start .pre .1 .0) (start .pre .1 .1) (at-key .key .ensures) (at-has .has .ensures .0 (not-false _ (at-if1 .if1 .left))) (at-turned-key .turned-key .result) (at-turned-key .turned-key .ensures) (at-remove .remove .last .0) (at-remove .remove .ensures .0) (at-remove .remove .ensures .1) (at-insert .insert .last .0) (at-insert .insert .ensures) (omega (arith, at-insert .insert .kept .0, at-remove .remove .kept .0, start .pre .0 .room)))
 
 pub turn-spec : {M : Type 1} → statement M
 turn-spec = tie.close (tie.spec sub-m key-requires slice-reshare-prefix-has slice-aggregate-has has-requires same-length returns slice-reshare-prefix-turned-key slice-aggregate-turned-key turned-key-requires remove-requires sub-insert insert-requires write-sheet-requires same-length-2 same-length-3 returns-2)

@@ -33,7 +33,8 @@ loop-holds c =
     let start = c .before .before .before .before in (
       omega arith,
       simp (length-set, length-set) (start .pre .0 .3),
-      rw (c .before .low-neighbour .ensures .0, c .high-neighbour .ensures .0) (near-begin (start .args .n) (start .args .c) (start .args .near .now) (start .pre .0 .0) (start .pre .0 .1) (start .pre .0 .2) (start .pre .0 .3) (start .pre .1)),
+      rw (c .before .low-neighbour .ensures .0, c .high-neighbour .ensures .0)
+          (near-begin (start .args .n) (start .args .c) (start .args .near .now) (start .pre .0 .0) (start .pre .0 .1) (start .pre .0 .2) (start .pre .0 .3) (start .pre .1)),
     )
 
 mul-other-end : tie.Need-mul-other-end Inv-loop μ-loop
@@ -63,7 +64,8 @@ loop-again c =
     let start = at-loop .before .before .before .before .before in (
       omega arith,
       simp length-set (at-loop .loop .inv .1),
-      rw (edges-next (start .args .keys .now) (at-loop .loop .j) (c .before .before .loop-test .taken)) (near-next (start .args .n) (start .args .c) (edgesOf (take (at-loop .loop .j) (start .args .keys .now))) (edgeOf (getD (start .args .keys .now) (at-loop .loop .j) 0)) (at-loop .loop .near) (at-loop .loop .inv .2) (start .pre .0 .1) (at-loop .loop .inv .1) (c .other-end .result) (c .other-end .ensures)),
+      rw (edges-next (start .args .keys .now) (at-loop .loop .j) (c .before .before .loop-test .taken))
+          (near-next (start .args .n) (start .args .c) (edgesOf (take (at-loop .loop .j) (start .args .keys .now))) (edgeOf (getD (start .args .keys .now) (at-loop .loop .j) 0)) (at-loop .loop .near) (at-loop .loop .inv .2) (start .pre .0 .1) (at-loop .loop .inv .1) (c .other-end .result) (c .other-end .ensures)),
     )
 
 same-length : tie.Need-same-length Inv-loop μ-loop

@@ -47,7 +47,9 @@ stepped t c x k =
     let at-number2 = at-number3 .before .before in
     let at-number = at-number2 .before .before in
     let start = at-number .before .before .before .before .before .before in
-    c .step-at .ensures ∙ rw (at-number .number .ensures, at-number2 .number2 .ensures, at-number3 .number3 .ensures, at-number4 .number4 .ensures, at-number5 .number5 .ensures, c .before .number6 .ensures) (k .step-is (start .args .role) (start .args .d))
+    c .step-at .ensures ∙ rw
+    (at-number .number .ensures, at-number2 .number2 .ensures, at-number3 .number3 .ensures, at-number4 .number4 .ensures, at-number5 .number5 .ensures, c .before .number6 .ensures)
+    (k .step-is (start .args .role) (start .args .d))
 
 summed : (t : ℕ) (c : count-lts.After-count2 (count-Cs t) (count-at t) count.Post) → Sums (c .before .count .result) (c .count2 .result) (c .before .before .step-at .result)
 summed t c =

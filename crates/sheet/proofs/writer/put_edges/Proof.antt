@@ -69,7 +69,8 @@ loop-again c =
     let start = at-loop .before .before .before in (
       omega arith,
       at-put162 .put162 .kept .0 ∙ (at-put16 .put16 .kept .0 ∙ at-loop .loop .inv .1),
-      at-put162 .put162 .ensures ∙ rw (at-put16 .put16 .ensures, at-low .low .ensures, at-high .high .ensures .0, at-loop .loop .inv .2) (edges-next (start .args .keys .now) (start .args .out .now) (start .args .at) (at-loop .loop .i) (omega arith)),
+      at-put162 .put162 .ensures ∙ rw (at-put16 .put16 .ensures, at-low .low .ensures, at-high .high .ensures .0, at-loop .loop .inv .2)
+          (edges-next (start .args .keys .now) (start .args .out .now) (start .args .at) (at-loop .loop .i) (omega arith)),
     )
 
 same-length : tie.Need-same-length Inv-loop μ-loop
