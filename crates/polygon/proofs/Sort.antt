@@ -78,6 +78,3 @@ sort-is es ds d s f g = sorted-same one-way (sort es) ds (distinct-ascending d) 
 pub distinct-of : {es : List Edge} → Ascending es → Distinct es
 distinct-of sorted-nil = sorted-nil
 distinct-of (sorted-cons {x} o s) = sorted-cons (others x o) (distinct-of s)
-
-pub sort-ascending-same : (ds : List Edge) → Ascending ds → sort ds ≡ ds
-sort-ascending-same ds s = sort-is ds ds (distinct-of s) s (λ x m. m) (λ x m. m)

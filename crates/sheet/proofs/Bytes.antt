@@ -7,7 +7,6 @@ use native.Mathlib.Omega.{arith}
 use lib.ListN.{length, getD}
 use lib.Seq.{getD-append-add}
 use Rattle.polygon.specs.Lists.{All, all-nil, all-cons}
-use Rattle.polygon.proofs.Lists.{all-append}
 use Rattle.codec.specs.Numbers.{bytes16, bytes32, get16, get32}
 
 -- reading behind a prefix
@@ -26,7 +25,7 @@ module _ (x : ℕ) (ys : List ℕ) where
   pub get32-back : get32 (bytes32 x ++ ys) 0 ≡ x
   get32-back = rw (div-add-mod' (x / 65536) 256, div-add-mod' (x % 65536) 256) (div-add-mod' x 65536)
 
--- bytes: what is below 256, and the bytes of a number
+-- a byte is below 256
 abbrev pub Byte : ℕ → Type 0
 Byte b = b < 256
 
@@ -34,12 +33,6 @@ pub byte-at : {s : List ℕ} (i : ℕ) → All Byte s → getD s i 0 < 256
 byte-at i all-nil = omega arith
 byte-at zero (all-cons h a) = h
 byte-at (suc i) (all-cons h a) = byte-at i a
-
-pub bytes16-are : (x : ℕ) → x < 65536 → All Byte (bytes16 x)
-bytes16-are x h = all-cons {x = x / 256} (omega arith) (all-cons {x = x % 256} (omega arith) all-nil)
-
-pub bytes32-are : (x : ℕ) → x < 2 ^ 32 → All Byte (bytes32 x)
-bytes32-are x h = all-append (bytes16-are (x / 65536) (omega arith)) (bytes16-are (x % 65536) (omega arith))
 
 -- a number of four bytes is below 2 ^ 32
 pub get32-below : {s : List ℕ} (at : ℕ) → All Byte s → get32 s at < 2 ^ 32

@@ -18,10 +18,6 @@ fields m h =
     let e : m / 2 / 2 ≡ m / 4 = omega arith in
     omega (arith, ones-step m, ones-step (m / 2), ones-step (m / 2 / 2), no-ones (m / 2 / 2 / 2) (omega arith))
 
--- of the fields besides the corner count, one that is not the pairs is the part number
-pub numbered-by-count : (m : ℕ) → bit0 m ≡ 1 → m < 8 → bit2 m ≡ ones m - 1 - bit1 m
-numbered-by-count m low small = omega (arith, fields m small)
-
 -- bit 1 stands exactly when n > 3
 pub more-yes : (n : ℕ) → 3 < n → more n ≡ 1
 unfolding more

@@ -6,14 +6,13 @@ use Prim.Native.Nat.{ℕ, zero, suc, _+_, _*_, _-_, _≤_, _<_}
 use native.Mathlib.Nat.{add-zero, add-assoc, min-eq-left, max-eq-right}
 use native.Mathlib.Omega.{arith}
 use lib.ListN.{length, length-append}
-use Rattle.polygon.specs.Lists.{All, all-nil, all-cons}
-use Rattle.polygon.specs.Polygon.{Edge, Polygon, Numbered, Valid}
+use Rattle.polygon.specs.Lists.{All, all-cons}
+use Rattle.polygon.specs.Polygon.{Edge, Polygon}
 use Rattle.polygon.specs.Order.{lower-first}
-use Rattle.polygon.proofs.Lists.{all-append, all-imp}
 use Rattle.codec.specs.Numbers.{bytes16}
 use Rattle.sheet.specs.Sheet.{bit0, bit1, bit2, pairs, pairBytes, numberBytes, numberBit, mapByte, more, normalSheet}
 use Rattle.sheet.proofs.Fields.{more-bit}
-use Rattle.sheet.proofs.Bytes.{get16-after, get16-back, Byte, bytes16-are, bytes32-are}
+use Rattle.sheet.proofs.Bytes.{get16-after, get16-back}
 
 -- the pairs behind a prefix, and how many they are
 pub pairs-after : (xs ys : List ℕ) (at k : ℕ) → pairs (xs ++ ys) (length xs + at) k ≡ pairs ys at k
@@ -70,20 +69,3 @@ pub record MapOf (p : Polygon) (m : ℕ) : Type 0 where
 pub map-byte : (p : Polygon) → MapOf p (mapByte p)
 unfolding mapByte
 map-byte p = omega (arith, more-bit (p .n), number-bit (p .number))
-
--- the normal sheet of a valid part consists of bytes
-pairs-bytes : {es : List Edge} → All (λ e. (e .0 < 65536) × (e .1 < 65536)) es → All Byte (pairBytes es)
-unfolding pairBytes
-pairs-bytes all-nil = all-nil
-pairs-bytes (all-cons {x} h a) = all-append (bytes16-are (x .0) (h .0)) (all-append (bytes16-are (x .1) (h .1)) (pairs-bytes a))
-
-number-bytes : (o : Option ℕ) → Numbered o → All Byte (numberBytes o)
-unfolding numberBytes
-number-bytes none h = all-nil
-number-bytes (some k) h = bytes32-are k h
-
-pub normal-bytes : (p : Polygon) → Valid p → All Byte (normalSheet p)
-unfolding normalSheet
-normal-bytes p v =
-    let corners : All (λ e. (e .0 < 65536) × (e .1 < 65536)) (p .ds) = all-imp (λ e d. omega (arith, d, v .most)) (v .triangulated .diagonals) in
-    all-cons {x = mapByte p} (omega (arith, map-byte p)) (all-append (bytes16-are (p .n) (omega (arith, v .most))) (all-append (pairs-bytes corners) (number-bytes (p .number) (v .numbered))))
