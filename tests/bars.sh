@@ -28,8 +28,8 @@ fn write_bar(bar: Bar) {
 }
 
 fn call(sheet: &[u8], lent: usize, room: usize) {
-    let mut out = [238u8; 1024];
-    let mut bars = [Bar { row: 61166, left: 61166, right: 61166 }; 64];
+    let mut out = [238u8; 20500];
+    let mut bars = [Bar { row: 61166, left: 61166, right: 61166 }; 1030];
     let mut said = [0u8; 6];
     match draw_with_bars(sheet, &mut out[..lent], &mut bars[..room]) {
         Drawn::Refused(k) => put16(&mut said, 0, k as usize),
@@ -60,10 +60,13 @@ fn main() {
     }
 }
 END
-cargo run --quiet --release --manifest-path "$root/tests/Cargo.toml" --bin bar_cases -- \
-    "$work/crates/bars_run/stdin" "$work/crates/bars_run/stdout" || exit 1
-(cd "$work" && rt try bars_run) >"$work/log" 2>&1
-cat "$work/log"
-passed=$(grep -c '^ok: ' "$work/log")
-echo "$passed passed, $((4 - passed)) failed"
-[ "$passed" -eq 4 ]
+passed=0
+for which in small large; do
+    cargo run --quiet --release --manifest-path "$root/tests/Cargo.toml" --bin bar_cases -- \
+        "$which" "$work/crates/bars_run/stdin" "$work/crates/bars_run/stdout" || exit 1
+    (cd "$work" && rt try bars_run) >"$work/log" 2>&1
+    cat "$work/log"
+    passed=$((passed + $(grep -c '^ok: ' "$work/log")))
+done
+echo "$passed passed, $((8 - passed)) failed"
+[ "$passed" -eq 8 ]

@@ -10,7 +10,7 @@ use bend_tests::chart::Bar;
 use bend_tests::draw::{chart_of, draw_with_bars};
 use bend_tests::part::{Corner, Part};
 use bend_tests::random::Random;
-use bend_tests::shapes::{all_parts, part, SHAPES};
+use bend_tests::shapes::{all_parts, part, Shape, SHAPES};
 use bend_tests::sheet;
 use std::{env, fs};
 
@@ -83,20 +83,40 @@ impl Cases {
     }
 }
 
-fn main() {
-    let files: Vec<String> = env::args().skip(1).collect();
-    let [calls, answers] = files.as_slice() else {
-        panic!("usage: bar_cases CALLS ANSWERS");
-    };
+/// All parts of up to 6 corners, and one of each shape.
+fn small() -> Cases {
     let mut cases = Cases::default();
     let mut random = Random::new(301);
-    // few and small enough for the interpreter's ten million steps
     (3..=6)
         .flat_map(all_parts)
         .for_each(|part| cases.add_part(&part));
     for shape in SHAPES {
-        cases.add_part(&part(shape, random.between(7, 40) as Corner, &mut random));
+        let n = random.between(7, 40) as Corner;
+        cases.add_part(&part(shape, n, &mut random));
     }
+    cases
+}
+
+/// A part of 1,024 corners.
+fn large() -> Cases {
+    let mut cases = Cases::default();
+    let part = part(Shape::Mixed, 1024, &mut Random::new(302));
+    let length = chart_of(&part).length();
+    cases.add(&sheet::normal(&part), length, 1024);
+    cases
+}
+
+fn main() {
+    let words: Vec<String> = env::args().skip(1).collect();
+    let [which, calls, answers] = words.as_slice() else {
+        panic!("usage: bar_cases small|large CALLS ANSWERS");
+    };
+    // each few enough for the interpreter's ten million steps
+    let cases = match which.as_str() {
+        "small" => small(),
+        "large" => large(),
+        _ => panic!("neither small nor large: {which}"),
+    };
     fs::write(calls, cases.calls).expect("the file of the calls");
     fs::write(answers, cases.answers).expect("the file of the answers");
 }
