@@ -19,7 +19,7 @@ add-result : tie.Need-add-result
 add-result c = omega (arith, level-size (c .before .before .before .before .before .before .args .k) (c .before .before .before .before .before .before .args .c) (c .before .before .before .before .if1 .taken))
 
 same-length : tie.Need-same-length
-same-length c = c .before .before .put-edge .kept .0 ∙ length-set (c .before .before .before .before .before .before .args .out .now) (c .before .before .before .before .before .before .args .at) 0
+same-length c = simp (c .before .before .put-edge .kept .0, length-set)
 
 returns : tie.Need-returns
 returns c =
@@ -44,13 +44,13 @@ put16-requires c κs =
     let at-put-edge2 = c .before .before .before in
     let at-if1 = at-put-edge2 .before .before in
     let start = at-if1 .before .before in
-    (omega (arith, upright-size (start .args .k) (start .args .c) (at-if1 .if1 .left), at-put-edge2 .put-edge2 .kept .0, length-set (start .args .out .now) (start .args .at) 1), omega arith)
+    (simp (at-put-edge2 .put-edge2 .kept .0, length-set) (omega (arith, upright-size (start .args .k) (start .args .c) (at-if1 .if1 .left))), omega arith)
 
 add-result-2 : tie.Need-add-result-2
 add-result-2 c = omega (arith, upright-size (c .before .before .before .before .before .before .before .before .before .before .args .k) (c .before .before .before .before .before .before .before .before .before .before .args .c) (c .before .before .before .before .before .before .before .before .if1 .left))
 
 same-length-2 : tie.Need-same-length-2
-same-length-2 c = c .before .before .put16 .kept .0 ∙ (c .before .before .before .before .before .before .put-edge2 .kept .0 ∙ length-set (c .before .before .before .before .before .before .before .before .before .before .args .out .now) (c .before .before .before .before .before .before .before .before .before .before .args .at) 1)
+same-length-2 c = simp (c .before .before .put16 .kept .0, c .before .before .before .before .before .before .put-edge2 .kept .0, length-set)
 
 returns-2 : tie.Need-returns-2
 returns-2 c =
