@@ -67,14 +67,14 @@ module _ (c : chart.Chart) (out : List ℕ) (ys : List Bar) where
             → drawing (Chart k (c .n)) after (filled after (c .n) ys) ≡ fitBoth (Dec·and d e) (bytesOf c) (barsOf c) out (map barOf ys)
         go (no p) e h = absurd (omega (arith, ap (λ (a : Answer). a .number) h))
         go (yes p) (no q) h = absurd (q (omega (arith, room, bars-count c, length-map ys barOf)))
-        go (yes p) (yes q) h = λ i. record { answer = h i; bars = records-are after (ap (λ (a : Answer). a .bytes) h) i }
+        go (yes p) (yes q) h = λ i. record { answer = h i; count = sym (bars-count c) i; bars = records-are after (ap (λ (a : Answer). a .bytes) h) i }
 
     pub none-written : (k : ℕ) → refusal k after ≡ written (write (bytesOf c)) out → noDrawing k after (map barOf ys) ≡ intoBoth c out (map barOf ys)
     unfolding written fit intoBoth fitBoth Dec·and
     none-written k = go bytes? bars?
       where
         go : (d : Dec (length (bytesOf c) ≤ length out)) (e : Dec (length (barsOf c) ≤ length (map barOf ys))) → refusal k after ≡ fit d (bytesOf c) out → noDrawing k after (map barOf ys) ≡ fitBoth (Dec·and d e) (bytesOf c) (barsOf c) out (map barOf ys)
-        go (no p) e h = λ i. record { answer = h i; bars = map barOf ys }
+        go (no p) e h = λ i. record { answer = h i; count = 0; bars = map barOf ys }
         go (yes p) e h = absurd (omega (arith, ap (λ (a : Answer). a .size) h, bytes-size c .0))
 
 -- a chart that was written has room

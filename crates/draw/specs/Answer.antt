@@ -17,18 +17,19 @@ charted (held p) = write (bytesOf (chartOf p))
 unfoldable pub drawn : List ℕ → Outcome
 drawn s = charted (readSheet s)
 
--- with the bar list: the answer, with the lent bytes and the lent bars afterwards
+-- with the bar list: the answer, with the lent bytes afterwards; how many bars were written, and the lent bars afterwards
 pub record Drawing : Type 0 where
   pub answer : Answer
+  pub count : ℕ
   pub bars : List Bar
 
 -- "A refusal gives its number and zeros, and changes no lent memory."
 abbrev pub noDrawing : ℕ → List ℕ → List Bar → Drawing
-noDrawing k out bars = record { answer = refusal k out; bars = bars }
+noDrawing k out bars = record { answer = refusal k out; count = 0; bars = bars }
 
 -- "Success gives 0; bytes or records beyond the result stay."
 abbrev pub wholeDrawing : List ℕ → List Bar → List ℕ → List Bar → Drawing
-wholeDrawing bs cs out bars = record { answer = record { number = 0; size = length bs; bytes = bs ++ drop (length bs) out }; bars = cs ++ drop (length cs) bars }
+wholeDrawing bs cs out bars = record { answer = record { number = 0; size = length bs; bytes = bs ++ drop (length bs) out }; count = length cs; bars = cs ++ drop (length cs) bars }
 
 unfoldable pub fitBoth : {P : Type 0} → Dec P → List ℕ → List Bar → List ℕ → List Bar → Drawing
 fitBoth (yes p) bs cs out bars = wholeDrawing bs cs out bars

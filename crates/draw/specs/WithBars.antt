@@ -9,7 +9,7 @@ use Rattle.draw.specs.declared.Drawn.the-variants.{Chart, Refused}
 use Rattle.draw.specs.Answer.{Drawing, noDrawing}
 
 abbrev pub drawing : Drawn → List ℕ → List Bar → Drawing
-drawing (Chart k n) out bars = record { answer = record { number = 0; size = k; bytes = out }; bars = map barOf bars }
+drawing (Chart k n) out bars = record { answer = record { number = 0; size = k; bytes = out }; count = n; bars = map barOf bars }
 drawing (Refused k) out bars = noDrawing k out (map barOf bars)
 
 -- the records once they are filled from the chart's bytes; a refusal fills none
