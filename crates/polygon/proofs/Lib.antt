@@ -8,6 +8,7 @@ pub mod TreeOf
 pub mod TreeTheorem
 pub mod Triangle
 pub mod Piece
+pub mod PieceTheorem
 pub mod Crossing
 pub mod Scan
 pub mod Reading

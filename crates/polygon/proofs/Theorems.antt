@@ -1,5 +1,5 @@
--- The theorems of this crate in one place. To be read with specs/Polygon.antt (what a polygon is) and specs/Tree.antt (`Tree`, `span`, `inner`, `treeOf`, `far`).
-use mathlib.Core.Path.{_≡_, ap, sym}
+-- The theorems of this crate in one place. To be read with specs/Polygon.antt (what a polygon is) and specs/Tree.antt (`Tree`, `span`, `inner`, `treeOf`, `far`, `PieceOf`).
+use mathlib.Core.Path.{_≡_, ap, sym, _∙_}
 use mathlib.Core.Logic.{_↔_}
 use mathlib.Core.List.{List}
 use mathlib.Core.Option.{none}
@@ -7,9 +7,10 @@ use Prim.Native.Nat.{ℕ, suc, _+_, _-_, _≤_}
 use native.Mathlib.Omega.{arith}
 use lib.ListN.{length}
 use Rattle.polygon.specs.Lists.{Sub, All}
-use Rattle.polygon.specs.Polygon.{Edge, Ascending, NoneCross, Diagonal, Polygon, Valid}
-use Rattle.polygon.specs.Tree.{Tree, span, inner, far, treeOf}
+use Rattle.polygon.specs.Polygon.{Edge, Ascending, NoneCross, Diagonal, Polygon, Valid, Linked}
+use Rattle.polygon.specs.Tree.{Tree, leaf, span, inner, far, treeOf, itself, PieceOf}
 use Rattle.polygon.proofs.TreeTheorem.{tree-of, tree-unique, tree-triangulates}
+use Rattle.polygon.proofs.PieceTheorem.{side-empty, piece-at, root-joined, piece-is}
 use Rattle.polygon.proofs.Crossing as crossing
 use Rattle.polygon.proofs.Reading.{same-set}
 
@@ -25,6 +26,25 @@ polygon-is-tree p v =
 -- A tree of span 2 to 1,023 is a valid polygon: one corner more than its span, with its inner edges as diagonals.
 pub tree-is-polygon : (t : Tree) → 2 ≤ span t → span t ≤ 1023 → Valid (record { n = suc (span t); ds = inner 0 t; number = none })
 tree-is-polygon t h k = record { least = omega arith; most = omega arith; triangulated = tree-triangulates t h; numbered = tt }
+
+-- "The whole part is the piece (0, n-1)."
+pub whole-part : (p : Polygon) → Valid p → PieceOf (p .n) (p .ds) 0 (treeOf (p .n) (p .ds)) × (0 + span (treeOf (p .n) (p .ds)) ≡ p .n - 1)
+whole-part p v = (itself, omega (arith, tree-of (p .n) (p .ds) (v .triangulated) .size))
+
+-- "For u < v joined by an edge, the piece (u,v)": there is exactly one, and a side or a diagonal joins the ends of every piece.
+pub edge-has-piece : (p : Polygon) → Valid p → (u v : ℕ) → Linked (p .n) (p .ds) u v
+    → (t : Tree) × PieceOf (p .n) (p .ds) u t × (u + span t ≡ v) × ((s : Tree) → PieceOf (p .n) (p .ds) u s → u + span s ≡ v → s ≡ t)
+edge-has-piece p k u v L =
+    let T = k .triangulated in
+    let (t, a, h) = piece-at (p .n) (p .ds) T u v L in
+    (t, a, h, λ s b i. piece-is (p .n) (p .ds) T b v i ∙ sym (piece-is (p .n) (p .ds) T a v h))
+
+pub piece-has-edge : (p : Polygon) → Valid p → {u : ℕ} {t : Tree} → PieceOf (p .n) (p .ds) u t → Linked (p .n) (p .ds) u (u + span t)
+piece-has-edge p v a = root-joined (p .n) (p .ds) (v .triangulated) a
+
+-- "Beyond a side it is empty", and beyond a side only.
+pub beyond-side : (u : ℕ) (t : Tree) → (u + span t ≡ suc u) ↔ (t ≡ leaf)
+beyond-side u t = side-empty u t
 
 -- n - 3 different diagonals of n corners: no two cross exactly when for each (u,v) of them, and for the root edge (0, n-1),
 -- the farthest corner c short of v that u is joined to is itself joined to v and to no corner above v.

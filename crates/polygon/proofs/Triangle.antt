@@ -11,7 +11,7 @@ use Rattle.polygon.specs.Lists.{Mem, Sub, All, all-nil}
 use Rattle.polygon.specs.Polygon.{Edge, _—_, Cross, Diagonal, Triangulated, Linked}
 use Rattle.polygon.specs.Tree.{Tree, leaf, node, span, chordsAt, chordsPast, chords, inner, treeOf}
 use Rattle.polygon.proofs.Lists.{all-imp, all-mem, not-empty}
-use Rattle.polygon.proofs.Order.{low-of, high-of}
+use Rattle.polygon.proofs.Order.{edge, low-of, high-of}
 use Rattle.polygon.proofs.Chords.{Chord, span-pos, chords-in, all-node, all-inner, inner-parts, inner-left, inner-right, inner-chords, inner-sub, root-in, root-of, node-cases, InPieces}
 use Rattle.polygon.proofs.TreeTheorem.{root, TreeIs, tree-of}
 
@@ -46,15 +46,15 @@ module _ (J K : ℕ → ℕ → Type 0) (f : (p q : ℕ) → J p q → K p q) wh
   outer-imp e (c, inl w) = (c, inl (record { above = w .above; left = f _ _ (w .left); right = f _ _ (w .right) }))
   outer-imp e (c, inr w) = (c, inr (record { below = w .below; left = f _ _ (w .left); right = f _ _ (w .right) }))
 
--- joined in a piece
-abbrev Touch : List Edge → ℕ → ℕ → Type 0
+-- joined in a piece: neighbours, or an edge of it
+abbrev pub Touch : List Edge → ℕ → ℕ → Type 0
 Touch es p q = (q ≡ suc p) ⊎ Mem (p — q) es
 
 touch-sub : (xs ys : List Edge) → Sub xs ys → (p q : ℕ) → Touch xs p q → Touch ys p q
 touch-sub xs ys f p q (inl e) = inl e
 touch-sub xs ys f p q (inr m) = inr (f _ m)
 
-touch-root : (u : ℕ) (t : Tree) → Touch (chords u t) u (u + span t)
+pub touch-root : (u : ℕ) (t : Tree) → Touch (chords u t) u (u + span t)
 touch-root u t = go (decLt 1 (span t))
   where
     go : Dec (1 < span t) → Touch (chords u t) u (u + span t)
@@ -120,13 +120,18 @@ module _ (n : ℕ) (ds : List Edge) (P : Triangulated n ds) where
   into e (inl q) = let h : n - 1 ≡ 0 + span t = omega (arith, T .size) in rw q (rw h (root-of 0 t (omega (arith, T .size, P .full))))
   into e (inr m) = let k : Mem e (inner 0 t) = rw (sym (T .same)) at m in inner-sub 0 t e k
 
-  link : (p q : ℕ) → q < n → Touch (chords 0 t) p q → Linked n ds p q
+  pub link : (p q : ℕ) → q < n → Touch (chords 0 t) p q → Linked n ds p q
   link p q h (inl e) = inl (inl (e, h))
   link p q h (inr m) = go (chords-cases 0 t _ m)
     where
       go : ((p — q) ≡ 0 — (0 + span t)) ⊎ Mem (p — q) (inner 0 t) → Linked n ds p q
       go (inl e) = inl (inr (low-of e, omega (arith, high-of e, T .size)))
       go (inr k) = inr (rw (T .same) at k)
+
+  pub touch : (p q : ℕ) → Linked n ds p q → Touch (chords 0 t) p q
+  touch p q (inl (inl e)) = inl (e .0)
+  touch p q (inl (inr e)) = inr (into (p — q) (inl (edge (e .0) (omega (arith, e)))))
+  touch p q (inr m) = inr (into (p — q) (inr m))
 
   -- the third corner of the triangle below an edge, the root edge too
   pub triangle : (e : Edge) → (e ≡ root n) ⊎ Mem e ds → Some (Within (Linked n ds) e)

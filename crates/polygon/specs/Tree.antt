@@ -56,3 +56,14 @@ grow (suc k) ds u v =
 
 unfoldable pub treeOf : ℕ → List Edge → Tree
 treeOf n ds = grow n ds 0 (n - 1)
+
+-- "For u < v joined by an edge, the piece (u,v) is all triangles on corners u to v": t is the piece on the corners u .. u + span t, found in the piece s on the corners from x on.
+-- It is s itself, or lies beyond one of the other two edges of the triangle that stands at the root edge of s.
+pub data Piece (u : ℕ) (t : Tree) : ℕ → Tree → Type 0 where
+  itself : Piece u t u t
+  beyond-left : {x : ℕ} {l r : Tree} → Piece u t x l → Piece u t x (node l r)
+  beyond-right : {x : ℕ} {l r : Tree} → Piece u t (x + span l) r → Piece u t x (node l r)
+
+-- a piece of the part: "the whole part is the piece (0, n-1)"
+abbrev pub PieceOf : ℕ → List Edge → ℕ → Tree → Type 0
+PieceOf n ds u t = Piece u t 0 (treeOf n ds)
