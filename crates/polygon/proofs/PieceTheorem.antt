@@ -51,8 +51,19 @@ piece-inner itself e m = m
 piece-inner {u} {t = t} (beyond-left {x} {l} {r} q) e m = inner-left x l r e (piece-chords q e (inner-sub u t e m))
 piece-inner {u} {t = t} (beyond-right {x} {l} {r} q) e m = inner-right x l r e (piece-chords q e (inner-sub u t e m))
 
+-- with a piece, what lies beyond the other two edges of the triangle at its root edge
+pub left-piece : {u x : ℕ} {l r s : Tree} → Piece u (node l r) x s → Piece u l x s
+left-piece itself = beyond-left itself
+left-piece (beyond-left a) = beyond-left (left-piece a)
+left-piece (beyond-right a) = beyond-right (left-piece a)
+
+pub right-piece : {u x : ℕ} {l r s : Tree} → Piece u (node l r) x s → Piece (u + span l) r x s
+right-piece itself = beyond-right itself
+right-piece (beyond-left a) = beyond-left (right-piece a)
+right-piece (beyond-right a) = beyond-right (right-piece a)
+
 -- two corners of a piece that are joined in the whole are joined in the piece
-into-piece : {u x : ℕ} {t s : Tree} → Piece u t x s → (p q : ℕ) → u ≤ p → p < q → q ≤ u + span t → Touch (chords x s) p q → Touch (chords u t) p q
+pub into-piece : {u x : ℕ} {t s : Tree} → Piece u t x s → (p q : ℕ) → u ≤ p → p < q → q ≤ u + span t → Touch (chords x s) p q → Touch (chords u t) p q
 into-piece itself p q h i j k = k
 into-piece (beyond-left {x} {l} {r} a) p q h i j k = elim (touch-cases x l r p q k) [
   | inl w ↦ into-piece a p q h i j (w .1)

@@ -62,16 +62,16 @@ touch-root u t = go (decLt 1 (span t))
     go (no h) = inl (omega (arith, span-pos t))
 
 module _ (u : ℕ) (l r : Tree) where
-  go-left : (p q : ℕ) → Touch (chords u l) p q → Touch (chords u (node l r)) p q
+  pub go-left : (p q : ℕ) → Touch (chords u l) p q → Touch (chords u (node l r)) p q
   go-left = touch-sub _ _ (λ e m. inner-chords u l r e (inner-left u l r e m))
 
-  go-right : (p q : ℕ) → Touch (chords (u + span l) r) p q → Touch (chords u (node l r)) p q
+  pub go-right : (p q : ℕ) → Touch (chords (u + span l) r) p q → Touch (chords u (node l r)) p q
   go-right = touch-sub _ _ (λ e m. inner-chords u l r e (inner-right u l r e m))
 
-  touch-left : Touch (chords u (node l r)) u (u + span l)
+  pub touch-left : Touch (chords u (node l r)) u (u + span l)
   touch-left = go-left _ _ (touch-root u l)
 
-  touch-right : Touch (chords u (node l r)) (u + span l) (u + (span l + span r))
+  pub touch-right : Touch (chords u (node l r)) (u + span l) (u + (span l + span r))
   touch-right = rw (sym (add-assoc u (span l) (span r))) (go-right _ _ (touch-root (u + span l) r))
 
 all-chords : (Q : Edge → Type 0) (u : ℕ) (t : Tree) → All Q (inner u t) → Q (u — (u + span t)) → All Q (chords u t)

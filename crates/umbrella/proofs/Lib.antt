@@ -12,3 +12,6 @@ pub mod Wide
 pub mod Bounds
 pub mod Occurs
 pub mod Triangles
+pub mod Corners
+pub mod Rim
+pub mod Gates

@@ -1,21 +1,29 @@
 -- What this crate proves of plans, each theorem with its statement in plain words. The proofs are in the files beside this one.
 use mathlib.Core.Path.{_≡_}
+use mathlib.Core.Logic.{_⊎_, _↔_}
+use mathlib.Core.List.{[]}
+use mathlib.Core.Option.{none}
 use Prim.Native.Nat.{ℕ, suc, _+_, _^_, _≤_, _<_}
 use native.Mathlib.Nat.{le-trans}
 use native.Mathlib.Omega.{arith}
-use Rattle.polygon.specs.Polygon.{Polygon, Valid}
-use Rattle.polygon.specs.Tree.{Tree, span, treeOf}
+use Rattle.polygon.specs.Lists.{Mem, Sorted}
+use Rattle.polygon.specs.Polygon.{Polygon, Valid, Linked}
+use Rattle.polygon.specs.Tree.{Tree, node, span, treeOf, PieceOf}
 use Rattle.polygon.proofs.TreeTheorem.{tree-of}
 use Rattle.umbrella.specs.Plan.{Plan, levels, umbrellas, stems}
 use Rattle.umbrella.specs.Numbers.{ud}
 use Rattle.umbrella.specs.Drawn.{code, Earlier, Each}
 use Rattle.umbrella.specs.Best.{best, planOf}
-use Rattle.umbrella.specs.Triangles.{Taken}
+use Rattle.umbrella.specs.Triangles.{Triangle, triangles, AllJoined, Taken}
+use Rattle.umbrella.specs.Rim.{rim, firstGate, Gate}
 use Rattle.umbrella.proofs.Low.{low}
 use Rattle.umbrella.proofs.Least.{best-le, best-levels, best-least}
 use Rattle.umbrella.proofs.First.{best-first}
 use Rattle.umbrella.proofs.Unique.{each-best, unique}
 use Rattle.umbrella.proofs.Triangles.{taken-once}
+use Rattle.umbrella.proofs.Corners.{triangles-joined, whole-joined}
+use Rattle.umbrella.proofs.Rim.{rim-ascends, rim-joined, apex-joined}
+use Rattle.umbrella.proofs.Gates.{gate-of}
 use Rattle.umbrella.proofs.Bounds.{bounds}
 use Rattle.umbrella.proofs.Recurrence.{Recurrence, recurrence}
 use Rattle.umbrella.proofs.Wide.{span-bound, nine}
@@ -41,6 +49,30 @@ is-drawn t = each-best t
 
 pub only-drawn : {t : Tree} (p : Plan t) → Each p → p ≡ best t
 only-drawn p e = unique p e
+
+-- The triangles of a valid polygon's tree are exactly the triples of corners that sides or diagonals join, each to each.
+pub triangles-of-part : (p : Polygon) → Valid p → (x : Triangle) → Mem x (triangles 0 (treeOf (p .n) (p .ds))) ↔ AllJoined (p .n) (p .ds) x
+triangles-of-part p v = whole-joined (p .n) (p .ds) (v .triangulated)
+
+-- "The piece (u,v) is all triangles on corners u to v": those of them whose lowest corner is at least u and whose highest is at most v.
+pub triangles-of-piece : (p : Polygon) → Valid p → {u : ℕ} {t : Tree} → PieceOf (p .n) (p .ds) u t
+    → (x : Triangle) → Mem x (triangles u t) ↔ ((u ≤ x .0) × (x .2 ≤ u + span t) × AllJoined (p .n) (p .ds) x)
+triangles-of-piece p v s = triangles-joined (p .n) (p .ds) (v .triangulated) s
+
+-- "The rim r0 < r1 < ... < rk is every corner strictly between u and v joined to u or v": for every piece (u,v) of a valid polygon, v = u + span t.
+pub rim-is : (p : Polygon) → Valid p → {u : ℕ} {t : Tree} → PieceOf (p .n) (p .ds) u t
+    → Sorted _<_ (rim u t) × ((x : ℕ) → Mem x (rim u t) ↔ ((u < x) × (x < u + span t) × (Linked (p .n) (p .ds) u x ⊎ Linked (p .n) (p .ds) x (u + span t))))
+rim-is p v {u} {t} s = (rim-ascends u t, rim-joined (p .n) (p .ds) (v .triangulated) s)
+
+-- "c = ri is joined to both": c = u + span l, of the piece with triangle (u,c,v) at its root edge, and no other corner of the rim is.
+pub apex-is : (p : Polygon) → Valid p → {u : ℕ} {l r : Tree} → PieceOf (p .n) (p .ds) u (node l r)
+    → (x : ℕ) → (Mem x (rim u (node l r)) × Linked (p .n) (p .ds) u x × Linked (p .n) (p .ds) x (u + span (node l r))) ↔ (x ≡ u + span l)
+apex-is p v s = apex-joined (p .n) (p .ds) (v .triangulated) s
+
+-- "A stem enters across a rim edge that is a diagonal, its first gate": a plan of a piece has no stem, or its first gate is a diagonal (rs, rs+1),
+-- two neighbours on the rim, s being the first number of the list by which the ties are decided (`code`), and the stem takes the triangle behind it.
+pub first-gate : (p : Polygon) → Valid p → {u : ℕ} {t : Tree} → PieceOf (p .n) (p .ds) u t → (q : Plan t) → ((firstGate q u ≡ none) × (code q ≡ [])) ⊎ Gate (p .ds) q u
+first-gate p v s q = gate-of (p .n) (p .ds) (v .triangulated) s q
 
 -- Every plan takes every triangle of its piece exactly once, on any corners u to v.
 pub takes-each-once : {t : Tree} (p : Plan t) (u v : ℕ) → u + span t ≡ v → Taken p u v

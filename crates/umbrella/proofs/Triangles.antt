@@ -16,7 +16,7 @@ use Rattle.umbrella.specs.Triangles.{Triangle, same-triangle?, triangles
 use Rattle.umbrella.proofs.Occurs.{occurs-append, occurs-flatten, mem-occurs, occurs-mem, occurs-once}
 
 -- where the triangles of a piece lie; by their middle corners they ascend
-triangles-in : (u : ℕ) (t : Tree) → All (λ x. (u ≤ x .0) × (x .0 < x .1) × (x .1 < x .2) × (x .2 ≤ u + span t)) (triangles u t)
+pub triangles-in : (u : ℕ) (t : Tree) → All (λ x. (u ≤ x .0) × (x .0 < x .1) × (x .1 < x .2) × (x .2 ≤ u + span t)) (triangles u t)
 unfolding triangles span
 triangles-in u leaf = all-nil
 triangles-in u (node l r) =

@@ -4,3 +4,4 @@ pub mod Drawn
 pub mod Best
 pub mod Occurs
 pub mod Triangles
+pub mod Rim

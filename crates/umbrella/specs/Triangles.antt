@@ -2,10 +2,11 @@
 use mathlib.Core.Path.{_≡_, ap}
 use mathlib.Core.Logic.{_⊎_}
 use mathlib.Core.List.{List, [], _∷_, _++_, flatten}
-use Prim.Native.Nat.{ℕ, _+_}
+use Prim.Native.Nat.{ℕ, _+_, _<_}
 use native.Mathlib.Decide.{ℕ-discrete}
 use lib.ListN.{length}
 use Rattle.polygon.specs.Lists.{Mem}
+use Rattle.polygon.specs.Polygon.{Edge, Linked}
 use Rattle.polygon.specs.Tree.{Tree, leaf, node, span}
 use Rattle.umbrella.specs.Plan.{Plan, none, plain, stemLeft, stemRight, LeftRim, leftEnd, leftOn, RightRim, rightEnd, rightOn, LeftGate, leftGate, leftPast, RightGate, rightGate, rightPast, Stem, endBoth, endLeft, endRight, goLeft, goRight, umbrellas}
 use Rattle.umbrella.specs.Occurs.{occurs}
@@ -27,6 +28,10 @@ same-triangle? x y = go (ℕ-discrete (x .0) (y .0)) (ℕ-discrete (x .1) (y .1)
 unfoldable pub triangles : ℕ → Tree → List Triangle
 triangles u leaf = []
 triangles u (node l r) = triangles u l ++ ((u, u + span l, u + (span l + span r)) ∷ triangles (u + span l) r)
+
+-- three corners that sides or diagonals of the part join, each to each (`triangles-of-piece` in proofs/Theorems.antt: the triangles of a piece are these)
+abbrev pub AllJoined : ℕ → List Edge → Triangle → Type 0
+AllJoined n ds x = (x .0 < x .1) × (x .1 < x .2) × Linked n ds (x .0) (x .1) × Linked n ds (x .1) (x .2) × Linked n ds (x .0) (x .2)
 
 -- a triangle at u or at v
 abbrev pub AtRoot : ℕ → ℕ → Triangle → Type 0
