@@ -1,6 +1,7 @@
 -- `Theorems` restates what this crate proves, for the crates that link it; the others hold the proofs.
 pub mod Theorems
 pub mod Known
+pub mod False
 pub mod Lists
 pub mod Nth
 pub mod Hull

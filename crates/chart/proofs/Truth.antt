@@ -208,10 +208,21 @@ module _ (v D : ℕ) (rs : List ℕ) (us fs es : List Edge) (sides : ℕ) (big :
   pub truth : True (layout v D rs us es)
   unfolding layout
   truth = record {
-    bars = λ x h. (not-empty x (omega arith), in-width x (omega arith), low x (omega arith));
-    apart = λ x y hx hy ne e. sep x y (omega arith) (omega arith) ne e (decLt (right x) (left y)) (decLt (right y) (left x));
-    levels = λ e i. let t : Level e = level-of e i in (omega (arith, t .in0), omega (arith, t .in1), t .same, λ z j hz ez o g. no-gap e j t g);
-    uprights = λ e j i. up e j (upright-in us es e j i .1);
+    bars = λ x h. (omega (arith, not-empty x (omega arith)), omega (arith, in-width x (omega arith)), omega (arith, low x (omega arith)));
+    apart = λ x y hx hy ne e. elim (sep x y (omega arith) (omega arith) ne e (decLt (right x) (left y)) (decLt (right y) (left x))) [ inl h ↦ inl (omega arith) | inr h ↦ inr (omega arith) ];
+    levels = λ e i. let t : Level e = level-of e i in (omega (arith, t .in0), omega (arith, t .in1), omega (arith, t .same), λ z j hz ez o g. no-gap e j t g);
+    uprights = λ e j i.
+        let n = upright-in us es e j i .1 in
+        let (c, q, E) = ends-at e j n in
+        let p0 = cell-row (e .0) (E .r) j c q (E .low) in
+        let p1 = cell-row (e .1) (E .s) j c q (E .high) in (
+          omega (arith, p0 .0),
+          omega (arith, p1 .0),
+          omega (arith, up-left (e .0) j e n (inl refl), up-right (e .0) j e n (inl refl)),
+          omega (arith, up-left (e .1) j e n (inr refl), up-right (e .1) j e n (inr refl)),
+          λ h. E .differ (omega (arith, p0 .1, p1 .1)),
+          λ z hz o b. free-at e j z c q E (row z) (over-cell z j (omega arith) (omega arith) (omega arith) c q) b,
+        );
     clear = λ e f j h i g b. no-gap f j (level-of f i) g;
   }
     where
@@ -231,20 +242,6 @@ module _ (v D : ℕ) (rs : List ℕ) (us fs es : List Edge) (sides : ℕ) (big :
           let (c, n) = col-at j (omega (arith, not-empty x hx, not-empty y hy, in-width x hx, in-width y hy)) in
           absurd (ne (one-cell x y (row x) j c n (over-cell x j hx (omega arith) (omega (arith, not-empty x hx)) c n)
           (subst (λ (r : ℕ). Has y r (c .0)) (sym e) (over-cell y j hy (omega arith) (omega (arith, not-empty y hy)) c n))))
-
-      up : (e : Edge) (j : ℕ) → Nth e j us → (e .0 < suc v) × (e .1 < suc v) × ((left (e .0) ≤ j) × (j ≤ right (e .0))) × ((left (e .1) ≤ j) × (j ≤ right (e .1))) × (row (e .0) ≢ row (e .1))
-          × ((z : ℕ) → z < suc v → (left z ≤ j) × (j ≤ right z) → Between (row (e .0)) (row (e .1)) (row z) → ⊥)
-      up e j n =
-          let (c, q, E) = ends-at e j n in
-          let p0 = cell-row (e .0) (E .r) j c q (E .low) in
-          let p1 = cell-row (e .1) (E .s) j c q (E .high) in (
-            omega (arith, p0 .0),
-            omega (arith, p1 .0),
-            (up-left (e .0) j e n (inl refl), up-right (e .0) j e n (inl refl)),
-            (up-left (e .1) j e n (inr refl), up-right (e .1) j e n (inr refl)),
-            λ h. E .differ (p0 .1 ∙ (h ∙ sym (p1 .1))),
-            λ z hz o b. free-at e j z c q E (row z) (over-cell z j (omega arith) (o .0) (o .1) c q) b,
-          )
 
   pub touching : (e : Edge) → Mem (level e) (layout v D rs us es .strokes) → Touching (layout v D rs us es) e
   unfolding layout
