@@ -35,18 +35,18 @@ touch-cases u l r p q (inr m) = go (node-cases u l r (p — q) m)
     go (inr (inr k)) = inr (inl (all-mem (chords-in (u + span l) r) k .lo, inr k))
 
 -- where a piece lies, and that its edges are edges of the whole
-piece-lies : {u x : ℕ} {t s : Tree} → Piece u t x s → (x ≤ u) × (u + span t ≤ x + span s)
+pub piece-lies : {u x : ℕ} {t s : Tree} → Piece u t x s → (x ≤ u) × (u + span t ≤ x + span s)
 unfolding span
 piece-lies itself = omega arith
 piece-lies (beyond-left {x} {l} {r} q) = omega (arith, piece-lies q)
 piece-lies (beyond-right {x} {l} {r} q) = omega (arith, piece-lies q)
 
-piece-chords : {u x : ℕ} {t s : Tree} → Piece u t x s → Sub (chords u t) (chords x s)
+pub piece-chords : {u x : ℕ} {t s : Tree} → Piece u t x s → Sub (chords u t) (chords x s)
 piece-chords itself e m = m
 piece-chords (beyond-left {x} {l} {r} q) e m = inner-chords x l r e (inner-left x l r e (piece-chords q e m))
 piece-chords (beyond-right {x} {l} {r} q) e m = inner-chords x l r e (inner-right x l r e (piece-chords q e m))
 
-pub piece-inner : {u x : ℕ} {t s : Tree} → Piece u t x s → Sub (inner u t) (inner x s)
+piece-inner : {u x : ℕ} {t s : Tree} → Piece u t x s → Sub (inner u t) (inner x s)
 piece-inner itself e m = m
 piece-inner {u} {t = t} (beyond-left {x} {l} {r} q) e m = inner-left x l r e (piece-chords q e (inner-sub u t e m))
 piece-inner {u} {t = t} (beyond-right {x} {l} {r} q) e m = inner-right x l r e (piece-chords q e (inner-sub u t e m))
@@ -61,6 +61,12 @@ pub right-piece : {u x : ℕ} {l r s : Tree} → Piece u (node l r) x s → Piec
 right-piece itself = beyond-right itself
 right-piece (beyond-left a) = beyond-left (right-piece a)
 right-piece (beyond-right a) = beyond-right (right-piece a)
+
+-- a piece of a piece
+pub piece-of-piece : {u x y : ℕ} {t s w : Tree} → Piece u t x s → Piece x s y w → Piece u t y w
+piece-of-piece a itself = a
+piece-of-piece a (beyond-left b) = beyond-left (piece-of-piece a b)
+piece-of-piece a (beyond-right b) = beyond-right (piece-of-piece a b)
 
 -- two corners of a piece that are joined in the whole are joined in the piece
 pub into-piece : {u x : ℕ} {t s : Tree} → Piece u t x s → (p q : ℕ) → u ≤ p → p < q → q ≤ u + span t → Touch (chords x s) p q → Touch (chords u t) p q

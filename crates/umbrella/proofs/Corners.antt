@@ -17,10 +17,10 @@ use Rattle.umbrella.specs.Triangles.{Triangle, triangles, AllJoined}
 use Rattle.umbrella.proofs.Triangles.{triangles-in}
 
 -- three corners joined each to each, J saying which are joined
-pub record Three (J : ℕ → ℕ → Type 0) (x : Triangle) : Type 0 where
-  pub low : J (x .0) (x .1)
-  pub high : J (x .1) (x .2)
-  pub long : J (x .0) (x .2)
+record Three (J : ℕ → ℕ → Type 0) (x : Triangle) : Type 0 where
+  low : J (x .0) (x .1)
+  high : J (x .1) (x .2)
+  long : J (x .0) (x .2)
 
 three-imp : (J K : ℕ → ℕ → Type 0) → ((p q : ℕ) → J p q → K p q) → (x : Triangle) → Three J x → Three K x
 three-imp J K f x w = record { low = f _ _ (w .low); high = f _ _ (w .high); long = f _ _ (w .long) }

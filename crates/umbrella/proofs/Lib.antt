@@ -15,3 +15,5 @@ pub mod Triangles
 pub mod Corners
 pub mod Rim
 pub mod Gates
+pub mod Cut
+pub mod Border

@@ -7,15 +7,16 @@ use Prim.Native.Nat.{ℕ, suc, _+_, _^_, _≤_, _<_}
 use native.Mathlib.Nat.{le-trans}
 use native.Mathlib.Omega.{arith}
 use Rattle.polygon.specs.Lists.{Mem, Sorted}
-use Rattle.polygon.specs.Polygon.{Polygon, Valid, Linked}
-use Rattle.polygon.specs.Tree.{Tree, node, span, treeOf, PieceOf}
+use Rattle.polygon.specs.Polygon.{Edge, _—_, Polygon, Valid, Linked}
+use Rattle.polygon.specs.Tree.{Tree, leaf, node, span, treeOf, PieceOf}
 use Rattle.polygon.proofs.TreeTheorem.{tree-of}
 use Rattle.umbrella.specs.Plan.{Plan, levels, umbrellas, stems}
 use Rattle.umbrella.specs.Numbers.{ud}
 use Rattle.umbrella.specs.Drawn.{code, Earlier, Each}
 use Rattle.umbrella.specs.Best.{best, planOf}
-use Rattle.umbrella.specs.Triangles.{Triangle, triangles, AllJoined, Taken}
+use Rattle.umbrella.specs.Triangles.{Triangle, triangles, AllJoined, own, Taken}
 use Rattle.umbrella.specs.Rim.{rim, firstGate, Gate}
+use Rattle.umbrella.specs.Border.{hung, Carries, Border}
 use Rattle.umbrella.proofs.Low.{low}
 use Rattle.umbrella.proofs.Least.{best-le, best-levels, best-least}
 use Rattle.umbrella.proofs.First.{best-first}
@@ -24,6 +25,7 @@ use Rattle.umbrella.proofs.Triangles.{taken-once}
 use Rattle.umbrella.proofs.Corners.{triangles-joined, whole-joined}
 use Rattle.umbrella.proofs.Rim.{rim-ascends, rim-joined, apex-joined}
 use Rattle.umbrella.proofs.Gates.{gate-of}
+use Rattle.umbrella.proofs.Border.{border-hung, hung-diagonal}
 use Rattle.umbrella.proofs.Bounds.{bounds}
 use Rattle.umbrella.proofs.Recurrence.{Recurrence, recurrence}
 use Rattle.umbrella.proofs.Wide.{span-bound, nine}
@@ -73,6 +75,16 @@ apex-is p v s = apex-joined (p .n) (p .ds) (v .triangulated) s
 -- two neighbours on the rim, s being the first number of the list by which the ties are decided (`code`), and the stem takes the triangle behind it.
 pub first-gate : (p : Polygon) → Valid p → {u : ℕ} {t : Tree} → PieceOf (p .n) (p .ds) u t → (q : Plan t) → ((firstGate q u ≡ none) × (code q ≡ [])) ⊎ Gate (p .ds) q u
 first-gate p v s q = gate-of (p .n) (p .ds) (v .triangulated) s q
+
+-- "Every diagonal left on the umbrella's border, root edge excepted, carries a hung piece": the edges of one of its triangles only, the root edge excepted,
+-- are exactly those that its hung pieces stand on, an empty one on each side there. This is of any plan, on any corners u to v.
+pub border-is : {l r : Tree} (p : Plan (node l r)) (u v : ℕ) → u + span (node l r) ≡ v → (e : Edge) → Border (own p u v) (u — v) e ↔ Carries (hung p u) e
+border-is p u v h e = border-hung p u v h e
+
+-- In a valid polygon they are pieces of it, and each that is not empty stands on a diagonal.
+pub hung-on-diagonal : (p : Polygon) → Valid p → {u : ℕ} {t : Tree} → PieceOf (p .n) (p .ds) u t → (q : Plan t) (s : ℕ × Tree) → Mem s (hung q u)
+    → PieceOf (p .n) (p .ds) (s .0) (s .1) × ((s .1 ≡ leaf) ⊎ Mem (s .0 — (s .0 + span (s .1))) (p .ds))
+hung-on-diagonal p v a q s k = hung-diagonal (p .n) (p .ds) (v .triangulated) a q s k
 
 -- Every plan takes every triangle of its piece exactly once, on any corners u to v.
 pub takes-each-once : {t : Tree} (p : Plan t) (u v : ℕ) → u + span t ≡ v → Taken p u v

@@ -5,3 +5,4 @@ pub mod Best
 pub mod Occurs
 pub mod Triangles
 pub mod Rim
+pub mod Border
