@@ -13,8 +13,8 @@ use Rattle.polygon.proofs.Order.{low-of, high-of}
 use Rattle.polygon.proofs.Chords.{span-pos, inner-left, inner-right, root-of}
 use Rattle.polygon.proofs.PieceTheorem.{piece-lies, piece-chords, piece-of-piece, inner-diagonal}
 use Rattle.umbrella.specs.Plan.{Plan, none, plain, stemLeft, stemRight}
-use Rattle.umbrella.specs.Triangles.{Triangle, own}
-use Rattle.umbrella.specs.Border.{Cut, hangs, takes, cutLeft, cutRight, cutLeftGate, cutRightGate, cut, hungIn, hung, Carries, Inner, Outer, Border}
+use Rattle.umbrella.specs.Triangles.{Triangle, Inner, Outer, own}
+use Rattle.umbrella.specs.Border.{Cut, hangs, takes, cutLeft, cutRight, cutLeftGate, cutRightGate, cut, hungIn, hung, Carries, Border}
 use Rattle.umbrella.proofs.Cut.{takenIn, Same, same-own}
 
 -- where the triangles of the upper part lie, and where the hung pieces lie

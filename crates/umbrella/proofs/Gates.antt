@@ -16,8 +16,8 @@ use Rattle.polygon.proofs.Chords.{span-pos, inner-left, inner-right, inner-chor
 use Rattle.polygon.proofs.PieceTheorem.{inner-diagonal}
 use Rattle.umbrella.specs.Plan.{Plan, none, plain, stemLeft, stemRight, LeftGate, leftGate, leftPast, RightGate, rightGate, rightPast, Stem, endBoth, endLeft, endRight, goLeft, goRight}
 use Rattle.umbrella.specs.Drawn.{word, rimEdges, codeLeft, codeRight, code}
-use Rattle.umbrella.specs.Triangles.{own, ownLeft, ownLeftGate, ownRightGate, ownStem}
-use Rattle.umbrella.specs.Rim.{rimBelow, rimAbove, rim, gateBelow, gateAbove, firstGate, Neighbours, first, later, Crossed, TakenAt, Gate}
+use Rattle.umbrella.specs.Triangles.{Inner, own, ownLeft, ownLeftGate, ownRightGate, ownStem}
+use Rattle.umbrella.specs.Rim.{rimBelow, rimAbove, rim, gateBelow, gateAbove, firstGate, Neighbours, first, later, Crossed, Gate}
 
 -- a gate is a diagonal: there is no stem through a side
 stem-wide : {t : Tree} → Stem t → 1 < span t
@@ -66,7 +66,7 @@ above-crossed (rightPast {a} {b} p G) u s xs h =
     rw (append-assoc xs (u ∷ []) (c ∷ rimAbove c b)) at (above-crossed G c (suc s) (xs ++ (u ∷ [])) (omega (arith, length-append xs (u ∷ []))))
 
 -- the stem takes the triangle behind the gate
-stem-first : {t : Tree} (S : Stem t) (p q : ℕ) → TakenAt (p — q) (ownStem S p q)
+stem-first : {t : Tree} (S : Stem t) (p q : ℕ) → Inner (ownStem S p q) (p — q)
 unfolding ownStem
 stem-first endBoth p q = (p + 1, here)
 stem-first (endLeft c) p q = (p + 1, here)
@@ -74,12 +74,12 @@ stem-first (endRight {a} {b} c) p q = (p + span (node a b), here)
 stem-first (goLeft {a} S c) p q = (p + span a, here)
 stem-first (goRight {a} c S) p q = (p + span a, here)
 
-below-taken : {t : Tree} (G : LeftGate t) (u : ℕ) → TakenAt (gateBelow G u) (ownLeftGate G u (u + span t))
+below-taken : {t : Tree} (G : LeftGate t) (u : ℕ) → Inner (ownLeftGate G u (u + span t)) (gateBelow G u)
 unfolding span gateBelow ownLeftGate
 below-taken (leftGate {a} {b} A S) u = let (x, m) = stem-first S (u + span a) (u + (span a + span b)) in (x, mem-right (ownLeft A u (u + span a)) (there m))
 below-taken (leftPast {a} G p) u = let (x, m) = below-taken G u in (x, mem-left _ m)
 
-above-taken : {t : Tree} (G : RightGate t) (u v : ℕ) → TakenAt (gateAbove G u) (ownRightGate G u v)
+above-taken : {t : Tree} (G : RightGate t) (u v : ℕ) → Inner (ownRightGate G u v) (gateAbove G u)
 unfolding gateAbove ownRightGate
 above-taken (rightGate {a} S B) u v = let (x, m) = stem-first S u (u + span a) in (x, mem-left _ m)
 above-taken (rightPast {a} p G) u v = let (x, m) = above-taken G (u + span a) v in (x, there m)

@@ -8,7 +8,7 @@ use Rattle.polygon.specs.Lists.{Mem}
 use Rattle.polygon.specs.Polygon.{Edge}
 use Rattle.polygon.specs.Tree.{Tree, node, span}
 use Rattle.umbrella.specs.Plan.{Plan, none, plain, stemLeft, stemRight, LeftRim, leftEnd, leftOn, RightRim, rightEnd, rightOn, LeftGate, leftGate, leftPast, RightGate, rightGate, rightPast, Stem, endBoth, endLeft, endRight, goLeft, goRight}
-use Rattle.umbrella.specs.Triangles.{Triangle}
+use Rattle.umbrella.specs.Triangles.{Triangle, Inner, Outer}
 
 -- of a piece: it hangs, or the triangle at its root edge is taken
 pub data Cut : Tree → Type 0 where
@@ -56,13 +56,6 @@ hung p u = hungIn u (cut p)
 -- a hung piece stands on the edge
 abbrev pub Carries : List (ℕ × Tree) → Edge → Type 0
 Carries hs e = (s : Tree) × Mem (e .0, s) hs × (e .0 + span s ≡ e .1)
-
--- a triangle of the list has its third corner between the ends of the edge; or beyond them
-abbrev pub Inner : List Triangle → Edge → Type 0
-Inner xs e = (x : ℕ) × Mem (e .0, x, e .1) xs
-
-abbrev pub Outer : List Triangle → Edge → Type 0
-Outer xs e = (x : ℕ) × (Mem (e .0, e .1, x) xs ⊎ Mem (x, e .0, e .1) xs)
 
 -- "the umbrella's border, root edge excepted": an edge of one of the triangles only, the one on this side of it or the one on that
 abbrev pub Border : List Triangle → Edge → Edge → Type 0

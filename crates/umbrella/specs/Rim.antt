@@ -10,7 +10,7 @@ use Rattle.polygon.specs.Polygon.{Edge, _—_}
 use Rattle.polygon.specs.Tree.{Tree, leaf, node, span}
 use Rattle.umbrella.specs.Plan.{Plan, none, plain, stemLeft, stemRight, LeftGate, leftGate, leftPast, RightGate, rightGate, rightPast}
 use Rattle.umbrella.specs.Drawn.{code}
-use Rattle.umbrella.specs.Triangles.{Triangle, own}
+use Rattle.umbrella.specs.Triangles.{Inner, own}
 
 -- The corners of the piece (u,rj), j ≤ i, between u and rj and joined to u: r0 to rj-1, by the steps of `LeftRim`.
 unfoldable pub rimBelow : ℕ → Tree → List ℕ
@@ -54,10 +54,6 @@ pub record Crossed (code : List ℕ) (e : Edge) (xs : List ℕ) : Type 0 where
   pub numbered : code ≡ s ∷ rest
   pub beside : Neighbours (e .0) (e .1) s xs
 
--- "At gate (p,q) it takes triangle (p,x,q)"
-abbrev pub TakenAt : Edge → List Triangle → Type 0
-TakenAt e xs = (x : ℕ) × Mem (e .0, x, e .1) xs
-
 -- What is claimed of every plan with a stem, of the piece t on the corners from u on, and proved in proofs/Gates.antt.
 pub record Gate (ds : List Edge) {t : Tree} (p : Plan t) (u : ℕ) : Type 0 where
   pub e : Edge
@@ -66,5 +62,5 @@ pub record Gate (ds : List Edge) {t : Tree} (p : Plan t) (u : ℕ) : Type 0 wher
   pub crossed : Crossed (code p) e (rim u t)
   -- it is a diagonal
   pub diagonal : Mem e ds
-  -- the umbrella takes the triangle behind it
-  pub taken : TakenAt e (own p u (u + span t))
+  -- "at gate (p,q) it takes triangle (p,x,q)"
+  pub taken : Inner (own p u (u + span t)) e

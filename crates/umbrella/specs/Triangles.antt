@@ -33,6 +33,13 @@ triangles u (node l r) = triangles u l ++ ((u, u + span l, u + (span l + span r)
 abbrev pub AllJoined : ℕ → List Edge → Triangle → Type 0
 AllJoined n ds x = (x .0 < x .1) × (x .1 < x .2) × Linked n ds (x .0) (x .1) × Linked n ds (x .1) (x .2) × Linked n ds (x .0) (x .2)
 
+-- a triangle of the list stands on the edge, its third corner between the ends; or lies beyond the edge, its third corner below or above them
+abbrev pub Inner : List Triangle → Edge → Type 0
+Inner xs e = (x : ℕ) × Mem (e .0, x, e .1) xs
+
+abbrev pub Outer : List Triangle → Edge → Type 0
+Outer xs e = (x : ℕ) × (Mem (e .0, e .1, x) xs ⊎ Mem (x, e .0, e .1) xs)
+
 -- a triangle at u or at v
 abbrev pub AtRoot : ℕ → ℕ → Triangle → Type 0
 AtRoot u v x = (x .0 ≡ u) ⊎ (x .2 ≡ v)
