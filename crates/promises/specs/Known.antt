@@ -1,4 +1,4 @@
--- The known parts of document 01 that are marked M, as one list of cases, each on a sheet's bytes. proofs/Known.antt proves them all.
+-- The known parts of document 01 that are marked M, and one part more, as one list of cases, each on a sheet's bytes. proofs/Known.antt proves them all.
 use mathlib.Core.Path.{_≡_}
 use mathlib.Core.List.{List, [], _∷_, _++_}
 use Prim.Native.Nat.{ℕ}
@@ -49,6 +49,10 @@ Holds (wide s k) = columnsIn (readSheet s) ≡ k
 Holds (turned s a b t) = edited (flip a b) s ≡ write t
 Holds (lined s bs) = printed s ≡ bs
 
+-- the part of the last two cases
+abbrev pub hung : List ℕ
+hung = sheet 11 ((0 — 3) ∷ (0 — 9) ∷ (1 — 3) ∷ (3 — 6) ∷ (3 — 9) ∷ (4 — 6) ∷ (6 — 8) ∷ (6 — 9) ∷ [])
+
 abbrev pub cases : List Case
 cases =
     -- "n = 3: 1 level." "levels 1 umbrellas 1 stems 0"
@@ -83,4 +87,7 @@ cases =
     -- "n = 4, (0,2) turned: (1,3); turned again: (0,2)."
     ∷ turned (sheet 4 ((0 — 2) ∷ [])) 0 2 (sheet 4 ((1 — 3) ∷ []))
     ∷ turned (sheet 4 ((1 — 3) ∷ [])) 1 3 (sheet 4 ((0 — 2) ∷ []))
+    -- Not document 01's, whose bars are all of parts without a hung piece. Here (1,3) hangs on row 1, downwards and reversed, and (4,6) and (6,9) on row 2D, upwards; the stem is built from the right.
+    ∷ counted hung 2 4 1
+    ∷ barred hung (bar 0 0 12 ∷ bar 1 10 11 ∷ bar 3 9 10 ∷ bar 1 0 9 ∷ bar 4 0 1 ∷ bar 2 1 2 ∷ bar 4 2 5 ∷ bar 2 4 4 ∷ bar 2 5 6 ∷ bar 4 6 13 ∷ bar 0 13 13 ∷ [])
     ∷ []
