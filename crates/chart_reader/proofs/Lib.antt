@@ -20,3 +20,4 @@ pub mod Accepts
 pub mod Size
 pub mod Long
 pub mod Theorems
+pub mod Refusals

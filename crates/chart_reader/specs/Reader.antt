@@ -1,7 +1,7 @@
 -- Document 01, "Read a chart (normal sheet without part number). 14: wrong length, n out of range, or a bit 1 to 7. 15: a bar breaks its rule. 16: a stroke's corners or order wrong, or its bars don't fit.
 -- 17: an upright in a level gap. 18: not all sides, or diagonals cross. 8." Each test is of the whole chart before the next.
 use mathlib.Core.Logic.{Dec·and}
-use mathlib.Core.List.{List}
+use mathlib.Core.List.{List, [], _∷_}
 use Prim.Native.Nat.{ℕ}
 use native.Mathlib.Decide.{decLe, decLt, ℕ-discrete}
 use Rattle.polygon.specs.Lists.{below, not?, all?, sorted?, mem?}
@@ -44,6 +44,10 @@ module _ (c : Chart) where
 
   unfoldable pub part? : Dec (PartRule c)
   part? = Dec·and (all? (λ e. mem? same? e (edgesIn c)) (sides (c .n))) (none-cross? (diagonalsIn c))
+
+-- the numbers of the tests
+abbrev pub chartTests : List ℕ
+chartTests = 14 ∷ 15 ∷ 16 ∷ 17 ∷ 18 ∷ []
 
 -- the tests in order
 unfoldable pub readChart : List ℕ → Reading

@@ -5,3 +5,4 @@ pub mod WithBars
 pub mod Answers
 pub mod LentAgain
 pub mod LentShared
+pub mod Refusals

@@ -4,7 +4,7 @@ use mathlib.Core.List.{List, _++_}
 use Prim.Native.Nat.{ℕ}
 use native.Mathlib.Decide.{decLe}
 use lib.ListN.{length, drop}
-use Rattle.codec.specs.Answer.{Outcome, refuse, write, Answer, refusal}
+use Rattle.codec.specs.Answer.{Outcome, refuse, write, Answer, refusal, whole}
 use Rattle.sheet.specs.Sheet.{Reading, refused, held, readSheet}
 use Rattle.chart.specs.Chart.{Bar, Chart, barsOf, chartOf}
 use Rattle.chart.specs.Bytes.{bytesOf}
@@ -29,7 +29,7 @@ noDrawing k out bars = record { answer = refusal k out; count = 0; bars = bars }
 
 -- "Success gives 0; bytes or records beyond the result stay."
 abbrev pub wholeDrawing : List ℕ → List Bar → List ℕ → List Bar → Drawing
-wholeDrawing bs cs out bars = record { answer = record { number = 0; size = length bs; bytes = bs ++ drop (length bs) out }; count = length cs; bars = cs ++ drop (length cs) bars }
+wholeDrawing bs cs out bars = record { answer = whole bs out; count = length cs; bars = cs ++ drop (length cs) bars }
 
 unfoldable pub fitBoth : {P : Type 0} → Dec P → List ℕ → List Bar → List ℕ → List Bar → Drawing
 fitBoth (yes p) bs cs out bars = wholeDrawing bs cs out bars

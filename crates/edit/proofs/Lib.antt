@@ -17,3 +17,4 @@ pub mod Adding
 pub mod Removing
 pub mod Turning
 pub mod Size
+pub mod Refusals

@@ -97,3 +97,9 @@ rule (flip a b) p =
     ask 9 (Dec·and (decLt a (p .n)) (decLt b (p .n)))
     (ask 13 (mem? same? e (p .ds))
     (held (renewed p (p .n) (flipped (p .n) e (p .ds)))))
+
+-- the numbers that each rule refuses by
+abbrev pub ruleTests : Edit → List ℕ
+ruleTests (addEar i) = 9 ∷ 10 ∷ []
+ruleTests (removeEar k) = 9 ∷ 11 ∷ 12 ∷ []
+ruleTests (flip a b) = 9 ∷ 13 ∷ []

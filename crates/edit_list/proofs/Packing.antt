@@ -13,9 +13,10 @@ use Rattle.edit_list.specs.declared.Ran.{Ran}
 use Rattle.edit_list.specs.declared.Ran.the-variants.{Done, Refused}
 use Rattle.edit_list.specs.Script.{count, editAt, scriptOf, faultOf}
 use Rattle.edit_list.specs.Desk.{placed, Desk, begin, other, current, buffer, answerOf, answeredDesk, deskStep, deskAfter}
-use Rattle.edit_list.specs.Result.{Result, finished, unchanged, ranOf, resultOf, packedRun, Told, Tellable}
+use Rattle.edit_list.specs.Result.{Result, finished, unchanged, ranOf, resultOf, packedRun, RunReadsBack, Told, Tellable}
 use Rattle.edit_list.proofs.Tests.{edits-all}
 use Rattle.edit_list.proofs.Within.{written-within}
+use Rattle.edit_list.proofs.Running.{refusals}
 
 -- an edit lends a number of four bytes
 lends-small : (list : List ℕ) → All (λ b. b < 256) list → All (λ (x : Edit × ℕ). x .1 < 4294967296) (scriptOf list)
@@ -54,6 +55,41 @@ module _ (first : List ℕ) where
       go k (yes z) = after-told (begin first front back) (lends-small list bytes) (omega arith, λ q. absurd (q refl))
       go k (no z) = (omega arith, λ q. absurd (q refl))
 
+-- the length told: of the first sheet none, of a sheet in a buffer its own
+in-first : (place size : ℕ) → place ≡ 0 → placed place 0 size size ≡ 0
+unfolding placed
+in-first place size z = rw z refl
+
+in-buffer : (place size : ℕ) → ¬ (place ≡ 0) → placed place 0 size size ≡ size
+unfolding placed
+in-buffer zero size p = absurd (p refl)
+in-buffer (suc zero) size p = refl
+in-buffer (suc (suc k)) size p = refl
+
+-- so the result is read back from its number
+run-back : (r : Result) → r .number < 65536 → Told (r .place) (r .size) → RunReadsBack r
+run-back r n T = go (ℕ-discrete (r .place) 0)
+  where
+    go : Dec (r .place ≡ 0) → RunReadsBack r
+    go (yes z) =
+        let l = in-first (r .place) (r .size) z in
+        record { number-back = omega arith; place-back = omega arith; left-back = λ q. absurd (q z); first-back = λ q. omega arith; one-number = omega arith }
+    go (no z) =
+        let l = in-buffer (r .place) (r .size) z in
+        let h = T .1 z in
+        record { number-back = omega arith; place-back = omega arith; left-back = λ q. omega arith; first-back = λ q. absurd (z q); one-number = omega arith }
+
+-- a result's number is 0 or 32 to 35
+run-number : (first list front back outs : List ℕ) → resultOf first list front back outs .number < 65536
+run-number first list front back outs = go (ℕ-discrete (resultOf first list front back outs .number) 0)
+  where
+    go : Dec (resultOf first list front back outs .number ≡ 0) → resultOf first list front back outs .number < 65536
+    go (yes z) = omega arith
+    go (no z) = omega (arith, refusals first list front back outs _ refl z .1)
+
+pub run-reads-back : (first list front back outs : List ℕ) → All (λ b. b < 256) list → RunReadsBack (resultOf first list front back outs)
+run-reads-back first list front back outs bytes = run-back (resultOf first list front back outs) (run-number first list front back outs) (result-told first list front back outs bytes)
+
 -- from the result to the code's answer
 module _ (r : Ran) (front back outs : List ℕ) where
   pub tellable : {s : Result} → ranOf r front back outs ≡ s → Told (s .place) (s .size) → Tellable r
@@ -80,13 +116,7 @@ unfolding placed
 packed-first r place size e p front back outs = rw (e, p) refl
 
 pub packed-buffer : (r : Ran) (place size : ℕ) → r ≡ Done place size → ¬ (place ≡ 0) → (front back outs : List ℕ) → place * 65536 + size * 4294967296 ≡ packedRun (ranOf r front back outs)
-unfolding placed
-packed-buffer r place size e p front back outs = rw e (go place p)
-  where
-    go : (k : ℕ) → ¬ (k ≡ 0) → k * 65536 + size * 4294967296 ≡ 0 + k * 65536 + placed k 0 size size * 4294967296
-    go zero p = absurd (p refl)
-    go (suc zero) p = omega arith
-    go (suc (suc k)) p = omega arith
+packed-buffer r place size e p front back outs = let l = in-buffer place size p in rw e (omega arith)
 
 pub packed-refused : (r : Ran) (k : ℕ) → r ≡ Refused k → (front back outs : List ℕ) → k ≡ packedRun (ranOf r front back outs)
 unfolding placed

@@ -7,6 +7,7 @@ use lib.ListN.{length, drop}
 use Rattle.polygon.specs.Lists.{choose}
 use Rattle.polygon.specs.Polygon.{Polygon}
 use Rattle.codec.specs.Numbers.{run16}
+use Rattle.codec.specs.Unpacked.{numberIn, placeIn, leftIn, OneNumber}
 use Rattle.edit.specs.Model.{numbers, modelSheet}
 use Rattle.edit_list.specs.declared.Ran.{Ran}
 use Rattle.edit_list.specs.declared.Ran.the-variants.{Done, Refused}
@@ -59,6 +60,15 @@ pub record AsModel (first : List ℕ) (p : Polygon) (list outs : List ℕ) (r : 
 -- the result in one number, for C: the number in the low 16 bits, the place in the next 16, the length above them; that of the first sheet is not told
 abbrev pub packedRun : Result → ℕ
 packedRun r = r .number + r .place * 65536 + placed (r .place) 0 (r .size) (r .size) * 4294967296
+
+-- the result is read back from that number, as include/bend.h reads it
+pub record RunReadsBack (r : Result) : Type 0 where
+  pub number-back : numberIn (packedRun r) ≡ r .number
+  pub place-back : placeIn (packedRun r) ≡ r .place
+  -- the length of the sheet left in a buffer; 0 if the first sheet is left
+  pub left-back : ¬ (r .place ≡ 0) → leftIn (packedRun r) ≡ r .size
+  pub first-back : r .place ≡ 0 → leftIn (packedRun r) ≡ 0
+  pub one-number : OneNumber (packedRun r)
 
 -- the place and the length are small enough for that
 abbrev pub Told : ℕ → ℕ → Type 0

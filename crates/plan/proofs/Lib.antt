@@ -9,3 +9,4 @@ pub mod Held
 pub mod Counted
 pub mod Counting
 pub mod Answers
+pub mod ReadBack

@@ -1,7 +1,9 @@
 -- Document 01, "Operations and their refusals": Plan gives levels, umbrellas and stems of the plan drawn, or a refusal 1 to 7 and zeros.
+use mathlib.Core.Path.{_≡_}
 use mathlib.Core.List.{List}
 use Prim.Native.Nat.{ℕ, _+_, _*_}
 use Rattle.polygon.specs.Tree.{Tree}
+use Rattle.codec.specs.Unpacked.{numberIn, levelsIn, umbrellasIn, stemsIn, OneNumber}
 use Rattle.sheet.specs.Sheet.{Reading, refused, held, readSheet}
 use Rattle.umbrella.specs.Plan.{Plan, levels, umbrellas, stems}
 use Rattle.umbrella.specs.Best.{planOf}
@@ -38,3 +40,11 @@ plannedOf (Refused k) = refusal k
 -- the answer in one number, for C: the number in the low 16 bits, then levels, umbrellas and stems, 16 bits each
 abbrev pub packedPlan : Answer → ℕ
 packedPlan a = a .number + a .levels * 65536 + a .umbrellas * 4294967296 + a .stems * 281474976710656
+
+-- the answer is read back from that number, as include/bend.h reads it
+pub record PlanReadsBack (a : Answer) : Type 0 where
+  pub number-back : numberIn (packedPlan a) ≡ a .number
+  pub levels-back : levelsIn (packedPlan a) ≡ a .levels
+  pub umbrellas-back : umbrellasIn (packedPlan a) ≡ a .umbrellas
+  pub stems-back : stemsIn (packedPlan a) ≡ a .stems
+  pub one-number : OneNumber (packedPlan a)

@@ -13,3 +13,4 @@ pub mod Writing
 pub mod Outcomes
 pub mod Size
 pub mod Long
+pub mod Refusals

@@ -1,0 +1,40 @@
+-- What a C caller reads from the number that an operation returns: the functions of include/bend.h, one for one. The number of an answer of each kind is `packed` (Answer.antt),
+-- `packedPlan` (crate plan) and `packedRun` (crate edit_list).
+use mathlib.Core.Path.{_≡_}
+use Prim.Native.Nat.{ℕ, _/_, _%_, _<_}
+use Rattle.codec.specs.Answer.{Answer, packed}
+
+-- bend_number: `answer & 0xffff`
+abbrev pub numberIn : ℕ → ℕ
+numberIn answer = answer % 65536
+
+-- bend_length: `answer >> 16`
+abbrev pub lengthIn : ℕ → ℕ
+lengthIn answer = answer / 65536
+
+-- bend_place, and bend_left, of a list of edits: `answer >> 16 & 0xffff`, `answer >> 32`
+abbrev pub placeIn : ℕ → ℕ
+placeIn answer = answer / 65536 % 65536
+
+abbrev pub leftIn : ℕ → ℕ
+leftIn answer = answer / 4294967296
+
+-- bend_levels, bend_umbrellas and bend_stems, of Plan: `answer >> 16 & 0xffff`, `answer >> 32 & 0xffff`, `answer >> 48 & 0xffff`
+abbrev pub levelsIn : ℕ → ℕ
+levelsIn answer = answer / 65536 % 65536
+
+abbrev pub umbrellasIn : ℕ → ℕ
+umbrellasIn answer = answer / 4294967296 % 65536
+
+abbrev pub stemsIn : ℕ → ℕ
+stemsIn answer = answer / 281474976710656 % 65536
+
+-- "Every function returns one number of 64 bits."
+abbrev pub OneNumber : ℕ → Type 0
+OneNumber answer = answer < 18446744073709551616
+
+-- the answer of an operation that writes one output is read back from its number
+pub record ReadsBack (a : Answer) : Type 0 where
+  pub number-back : numberIn (packed a) ≡ a .number
+  pub length-back : lengthIn (packed a) ≡ a .size
+  pub one-number : OneNumber (packed a)
