@@ -1,5 +1,5 @@
--- Demand 2: which sheets are accepted, and what can then still stop an operation; the chart drawn of a part is a true drawing of it and reads back as that part; and a chart handed in, ours or another's,
--- is accepted exactly if it is a true drawing of a part. One claim about any bytes, read as a sheet or as a chart.
+-- Demand 2: which sheets are accepted, and what can then still stop an operation; the chart drawn of a part is a true drawing of it and reads back as that part; and a chart handed in, ours or
+-- another's, is accepted exactly if it is a true drawing of a part. One claim about any bytes, read as a sheet or as a chart.
 -- `Lists s p`: the sheet s lists the part p in the published form, in any order, either corner first (crate sheet, specs/Listing.antt). `True` and `Shows` are document 01's sentences (crate chart,
 -- specs/Chart.antt). `Charts c p`: the bytes c are those of a true chart that shows the part p, without a number (crate chart_reader, specs/Charts.antt).
 use mathlib.Core.Path.{_≡_}
