@@ -14,7 +14,7 @@ use keys::high;
 use keys::low;
 
 // Whether a key is that of a diagonal of n corners.
-fn is_diagonal(k: u32, n: usize) -> bool
+pub fn is_diagonal(k: u32, n: usize) -> bool
     requires { ⌜ n ≤ 1024 ⌝ }
     ensures { λ r. ⌜ (r ≡ true → Diagonal n (edgeOf k)) ⌝ }
     ensures { λ r. ⌜ (r ≡ false → Diagonal n (edgeOf k) → ⊥) ⌝ }

@@ -54,13 +54,23 @@ module _ (h : Head) (ks : List ℕ) (valid : Valid (partOf h ks)) (r : Planned) 
       let l : 0 ≡ levels (planOf (partOf h ks)) = ap (λ (a : plan.Answer). a .levels) c in
       omega (arith, l, computed-has (treeOf (h .n) (partOf h ks .ds)), some-level (treeOf (h .n) (partOf h ks .ds)) (omega (arith, tree-of (h .n) (partOf h ks .ds) (valid .triangulated) .size, valid .least)))
 
-  -- and what is counted is what the line tells
-  pub told-facts : (l u t : ℕ) → r ≡ Counts l u t → line (told h l u t) ≡ line (factsOf (partOf h ks))
-  told-facts l u t e =
-      let c : plan.plannedOf (Counts l u t) ≡ plan.countsOf (planOf (partOf h ks)) = sym (ap plan.plannedOf e) ∙ counts in
-      let a : l ≡ levels (planOf (partOf h ks)) = ap (λ (x : plan.Answer). x .levels) c in
-      let b : u ≡ umbrellas (planOf (partOf h ks)) = ap (λ (x : plan.Answer). x .umbrellas) c in
-      let d : t ≡ stems (planOf (partOf h ks)) = ap (λ (x : plan.Answer). x .stems) c in
-      let rows : 2 * l + 1 ≡ chartOf (partOf h ks) .rows = rw a (sym (chart-rows (partOf h ks) valid)) in
-      let columns : h .n - 2 + u + t ≡ chartOf (partOf h ks) .columns = omega (arith, a, b, d, chart-columns (partOf h ks) valid, valid .least) in
-      ap line (λ i. record { number = partOf h ks .number; corners = h .n; levels = a i; umbrellas = b i; stems = d i; rows = rows i; columns = columns i })
+  -- and what is counted is what the line tells, with any rows and columns
+  module _ (l u t : ℕ) (e : r ≡ Counts l u t) where
+    counted : plan.plannedOf (Counts l u t) ≡ plan.countsOf (planOf (partOf h ks))
+    counted = sym (ap plan.plannedOf e) ∙ counts
+
+    pub told-levels : l ≡ levels (planOf (partOf h ks))
+    told-levels = ap (λ (x : plan.Answer). x .levels) counted
+
+    pub told-umbrellas : u ≡ umbrellas (planOf (partOf h ks))
+    told-umbrellas = ap (λ (x : plan.Answer). x .umbrellas) counted
+
+    pub told-stems : t ≡ stems (planOf (partOf h ks))
+    told-stems = ap (λ (x : plan.Answer). x .stems) counted
+
+    -- the part's own rows and columns
+    pub told-facts : line (told h l u t (2 * l + 1) (h .n - 2 + u + t)) ≡ line (factsOf (partOf h ks))
+    told-facts =
+        let rows : 2 * l + 1 ≡ chartOf (partOf h ks) .rows = rw told-levels (sym (chart-rows (partOf h ks) valid)) in
+        let columns : h .n - 2 + u + t ≡ chartOf (partOf h ks) .columns = omega (arith, told-levels, told-umbrellas, told-stems, chart-columns (partOf h ks) valid, valid .least) in
+        ap line (λ i. record { number = partOf h ks .number; corners = h .n; levels = told-levels i; umbrellas = told-umbrellas i; stems = told-stems i; rows = rows i; columns = columns i })

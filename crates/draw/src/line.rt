@@ -1,4 +1,4 @@
-// The line that the program prints of a sheet, and the line of any part.
+// The line that the program prints of a sheet, and the line of any counts.
 ghost use Prim.Native.Nat.{_≤_};
 ghost use lib.ListN.{length};
 ghost use Rattle.polygon.specs.Polygon.{Valid};
@@ -15,13 +15,11 @@ use sheet::Head;
 use sheet::Read;
 use sheet::reader::read_sheet;
 
-// Writes the line of a part with these counts. "Two rows a level and one more"; "Columns = n − 2 + umbrellas + stems."
-fn counts_line(h: Head, levels: u16, umbrellas: u16, stems: u16, out: &mut [u8]) -> usize
-    requires { ⌜ (2 ≤ h .n) × (h .n ≤ 1024) × (256 ≤ length (now out)) ⌝ }
-    ensures { λ r. ⌜ Put (line (told h levels umbrellas stems)) (now (out .entry)) 0 (now (out .exit)) r ⌝ }
+// Writes the line of the part of a head with these counts, rows and columns, and says how long it is.
+pub fn counts_line(h: Head, levels: u16, umbrellas: u16, stems: u16, rows: usize, columns: usize, out: &mut [u8]) -> usize
+    requires { ⌜ 256 ≤ length (now out) ⌝ }
+    ensures { λ r. ⌜ Put (line (told h levels umbrellas stems rows columns)) (now (out .entry)) 0 (now (out .exit)) r ⌝ }
 {
-    let rows = 2 * levels as usize + 1;
-    let columns = h.n - 2 + umbrellas as usize + stems as usize;
     let f = Facts {
         numbered: h.numbered,
         number: h.number,
@@ -35,15 +33,19 @@ fn counts_line(h: Head, levels: u16, umbrellas: u16, stems: u16, out: &mut [u8])
     put_line(f, out)
 }
 
-// Writes the line of the part of a head and the keys of its diagonals, and says how long it is.
-pub fn part_line(h: Head, keys: &[u32], out: &mut [u8]) -> usize
+// Writes the line of the part of a head and the keys of its diagonals. "Two rows a level and one more"; "Columns = n − 2 + umbrellas + stems."
+fn part_line(h: Head, keys: &[u32], out: &mut [u8]) -> usize
     requires { ⌜ Valid (partOf h (now keys)) ⌝ }
     requires { ⌜ 256 ≤ length (now out) ⌝ }
     ensures { λ r. ⌜ Put (line (factsOf (partOf h (now (keys .entry))))) (now (out .entry)) 0 (now (out .exit)) r ⌝ }
 {
     match plan_part(keys, h.n) {
         Planned::Refused(k) => put_refused(k as usize, out),
-        Planned::Counts(l, u, s) => counts_line(h, l, u, s, out),
+        Planned::Counts(l, u, s) => {
+            let rows = 2 * l as usize + 1;
+            let columns = h.n - 2 + u as usize + s as usize;
+            counts_line(h, l, u, s, rows, columns, out)
+        }
     }
 }
 

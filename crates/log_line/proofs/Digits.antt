@@ -42,3 +42,14 @@ digits-length (suc k) n = go (decLt n 10) (digits-length k (n / 10))
     go : Dec (n < 10) → length (digits k (n / 10)) ≤ k → length (digits (suc k) n) ≤ suc k
     go (yes l) h = rw (digits-one k n l) (omega arith)
     go (no l) h = rw (digits-last k n (omega arith)) (omega (arith, length-append (digits k (n / 10)) ((48 + n % 10) ∷ [])))
+
+-- a number below 10 ^ (j + 1) has at most j + 1 digits
+pub digits-short : (j k n : ℕ) → n < 10 ^ suc j → length (digits k n) ≤ suc j
+unfolding digits
+digits-short j zero n h = omega arith
+digits-short j (suc k) n h = go j h (decLt n 10) (λ i. digits-short i k (n / 10))
+  where
+    go : (j : ℕ) → n < 10 ^ suc j → Dec (n < 10) → ((i : ℕ) → n / 10 < 10 ^ suc i → length (digits k (n / 10)) ≤ suc i) → length (digits (suc k) n) ≤ suc j
+    go j h (yes l) f = rw (digits-one k n l) (omega arith)
+    go zero h (no l) f = absurd (l (omega arith))
+    go (suc j) h (no l) f = rw (digits-last k n (omega arith)) (omega (arith, length-append (digits k (n / 10)) ((48 + n % 10) ∷ []), f j (omega arith)))

@@ -1,11 +1,11 @@
--- How long a line is at most. Rests on the digits of a number, 20 at most.
+-- How long a line is at most. Rests on the digits of a number: 20 at most, and fewer of a small number.
 use mathlib.Core.List.{List, [], _∷_, _++_}
 use mathlib.Core.Option.{Option, none, some}
-use Prim.Native.Nat.{ℕ, _+_, _≤_}
+use Prim.Native.Nat.{ℕ, suc, _+_, _^_, _<_, _≤_}
 use native.Mathlib.Omega.{arith}
 use lib.ListN.{length, length-append}
 use Rattle.log_line.specs.Line.{decimal, cornersWord, levelsWord, umbrellasWord, stemsWord, rowsWord, columnsWord, numberWord, Facts, line, refusedLine}
-use Rattle.log_line.proofs.Digits.{digits-length}
+use Rattle.log_line.proofs.Digits.{digits-length, digits-short}
 
 before : (n : ℕ) (xs : List ℕ) → length (decimal n ++ xs) ≤ 20 + length xs
 unfolding decimal
@@ -30,3 +30,8 @@ line-size f =
 pub refused-size : (k : ℕ) → length (refusedLine k) ≤ 256
 unfolding refusedLine
 refused-size k = omega (arith, before k (10 ∷ []))
+
+-- 5 digits of a number below 100,000, and so on
+pub decimal-small : (j n : ℕ) → n < 10 ^ suc j → length (decimal n) ≤ suc j
+unfolding decimal
+decimal-small j n h = digits-short j 20 n h
