@@ -27,7 +27,7 @@ hex() { od -An -v -tx1 "$1" | tr -d ' \n'; }
 bytes() { printf "$(printf '%s' "$1" | sed 's/../\\x&/g')"; }
 
 # line SAMPLE LINE: the sample's line, a chart with the rows, columns and corners that the line names,
-# and back from the chart the same line without the number, then a line for each corner and each diagonal
+# and back from the chart the same line without the number, then a line for each corner and each stroke
 line() {
     rm -f bend.chart
     is "$1" "$("$bend" <"$root/samples/$1.sheet")" "$2"
@@ -35,8 +35,8 @@ line() {
         "$(printf '%s\n' "$2" | awk '{ printf "%04x%04x%04x", $12, $14, $4 }')"
     "$unbend" <bend.chart >text
     is "$1, back" "$(head -n 1 text)" "$(printf '%s\n' "$2" | sed 's/^part [^ ]*/part -/')"
-    is "$1, corners and diagonals" "$(grep -c '^corner ' text) $(grep -c '^diagonal ' text) $(wc -l <text)" \
-        "$(printf '%s\n' "$2" | awk '{ print $4, $4 - 3, 2 * $4 - 2 }')"
+    is "$1, corners, strokes and bends" "$(grep -c '^corner ' text) $(grep -cE '^(line|level) ' text) $(grep -c ' bend$' text) $(wc -l <text)" \
+        "$(printf '%s\n' "$2" | awk '{ print $4, 2 * $4 - 3, $4 - 3, 3 * $4 - 2 }')"
     rm text
 }
 
@@ -50,7 +50,11 @@ corner 0 row 0 columns 0 to 1
 corner 1 row 2 columns 0 to 0
 corner 2 row 2 columns 1 to 2
 corner 3 row 0 columns 2 to 2
-diagonal 0 2'
+line 0 corners 0 1 side
+level 0 to 1 corners 1 2 side
+line 1 corners 0 2 bend
+level 1 to 2 corners 0 3 side
+line 2 corners 2 3 side'
 line stem 'part - corners 5 levels 1 umbrellas 1 stems 1 rows 3 columns 5'
 line stem_left 'part - corners 5 levels 1 umbrellas 1 stems 1 rows 3 columns 5'
 line star 'part 17 corners 6 levels 1 umbrellas 1 stems 1 rows 3 columns 6'
@@ -61,9 +65,15 @@ corner 2 row 1 columns 1 to 2
 corner 3 row 1 columns 0 to 0
 corner 4 row 2 columns 0 to 5
 corner 5 row 0 columns 5 to 5
-diagonal 0 2
-diagonal 0 4
-diagonal 2 4'
+line 0 corners 3 4 side
+level 0 to 1 corners 2 3 side
+line 1 corners 2 4 bend
+line 2 corners 0 2 bend
+level 2 to 3 corners 1 2 side
+line 3 corners 0 1 side
+line 4 corners 0 4 bend
+level 4 to 5 corners 0 5 side
+line 5 corners 4 5 side'
 line two_levels 'part - corners 7 levels 2 umbrellas 2 stems 0 rows 5 columns 7'
 line boot 'part 90210 corners 12 levels 1 umbrellas 1 stems 1 rows 3 columns 12'
 
@@ -77,14 +87,25 @@ is 'long input' "$(head -c 100000 /dev/zero | "$bend")" 'refused 1'
 is 'long triangle' "$( (cat "$root/samples/triangle.sheet"; head -c 100000 /dev/zero) | "$bend")" 'refused 2'
 is 'no chart of a refused sheet' "$(ls)" ''
 
-# another's chart of the square: the line is that of the part, the bars are those of the chart
+# another's chart of the square: the first line tells the part, the rows, columns, bars and strokes are those of the chart
 is 'another chart, every word' "$(bytes 000300060004000000000005000200000005000100000001000100030004010000000100050100000002000001000000030003010001000200010000020003 | "$unbend")" \
-    'part - corners 4 levels 1 umbrellas 1 stems 0 rows 3 columns 3
+    'part - corners 4 levels 1 umbrellas 1 stems 0 rows 3 columns 6
 corner 0 row 0 columns 0 to 5
 corner 1 row 2 columns 0 to 5
 corner 2 row 1 columns 0 to 1
 corner 3 row 1 columns 3 to 4
-diagonal 0 2'
+line 0 corners 0 2 bend
+line 1 corners 1 2 side
+level 1 to 3 corners 2 3 side
+line 3 corners 0 3 side
+line 5 corners 0 1 side'
+# the same chart with the columns of two strokes exchanged
+is 'two columns exchanged' "$(bytes 000300060004000000000005000200000005000100000001000100030004010000000100050100000002000101000000030003010001000200000000020003 | "$unbend" | tail -n 5)" \
+    'line 0 corners 1 2 side
+line 1 corners 0 2 bend
+level 1 to 3 corners 2 3 side
+line 3 corners 0 3 side
+line 5 corners 0 1 side'
 
 # charts that are refused: the square's with a byte changed, and two of our own
 refused() { is "$2" "$(bytes "$3" | "$unbend")" "refused $1"; }

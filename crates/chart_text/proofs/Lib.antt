@@ -1,3 +1,10 @@
+pub mod Sorting
 pub mod Lines
+pub mod Words
 pub mod Described
+pub mod Order
+pub mod Told
+pub mod SameChart
+pub mod SameText
+pub mod Known
 pub mod Theorems

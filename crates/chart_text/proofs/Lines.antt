@@ -1,35 +1,34 @@
--- Lines written one behind another: one more corner, one more diagonal.
+-- Lines written one behind another: one more corner, one more stroke.
 -- Rests on runs of bytes behind each other (crate log_line).
 use mathlib.Core.Path.{_≡_, refl}
 use mathlib.Core.List.{List, [], _∷_, _++_, map-append, append-nil, flatMap}
-use Prim.Native.Nat.{ℕ, _+_, _*_, _/_, _%_, _<_, _≤_}
+use Prim.Native.Nat.{ℕ, suc, _+_, _*_, _%_, _^_, _<_, _≤_}
 use native.Mathlib.Numerals.{add-one}
 use native.Mathlib.Omega.{arith}
-use lib.ListN.{length, take, getD}
+use lib.ListN.{length, take, getD, length-append}
 use lib.Seq.{take-suc, take-all}
 use Rattle.polygon.specs.Lists.{numbers, below}
 use Rattle.codec.specs.Numbers.{get16}
-use Rattle.keys.specs.Keys.{edgeOf, edgesOf}
 use Rattle.log_line.specs.Line.{decimal, columnsWord}
 use Rattle.log_line.specs.Put.{Put}
 use Rattle.log_line.proofs.Putting.{put-then}
+use Rattle.log_line.proofs.Size.{decimal-small}
 use Rattle.chart_writer.proofs.Below.{below-next}
 use Rattle.chart_reader.specs.Decode.{countIn, barAt, chartIn}
 use Rattle.chart_reader.proofs.Gapped.{flat-append}
-use Rattle.chart_text.specs.Text.{cornerWord, rowWord, toWord, diagonalWord, cornerLine, diagonalLine, cornerLines, diagonalLines}
+use Rattle.chart_text.specs.Text.{cornerWord, rowWord, toWord, cornerLine, cornerLines, strokeLine}
+use Rattle.chart_text.specs.Ordered.{strokeOf, strokesOf, linesOf}
+
+-- a word and a number of at most j + 1 digits
+pub field-end : (word : List ℕ) (j n : ℕ) {o₀ o₁ : List ℕ} {a b : ℕ} → n < 10 ^ suc j → Put (word ++ decimal n) o₀ a o₁ b → b ≤ a + length word + suc j
+field-end word j n h p = omega (arith, p .end, length-append word (decimal n), decimal-small j n h)
 
 -- the words and numbers of a line, grouped as the code writes them, are the line
-pub corner-put : (s : List ℕ) (bar x row left right : ℕ) {o₀ o₁ : List ℕ} {a b : ℕ} → row ≡ get16 s bar → left ≡ get16 s (bar + 2) → right ≡ get16 s (bar + 4)
+pub corner-put : (s : List ℕ) (bar x : ℕ) {row left right : ℕ} {o₀ o₁ : List ℕ} {a b : ℕ} → row ≡ get16 s bar → left ≡ get16 s (bar + 2) → right ≡ get16 s (bar + 4)
     → Put ((cornerWord ++ decimal x) ++ ((rowWord ++ decimal row) ++ ((columnsWord ++ decimal left) ++ ((toWord ++ decimal right) ++ (10 ∷ []))))) o₀ a o₁ b
     → Put (cornerLine x (barAt s bar)) o₀ a o₁ b
 unfolding cornerLine
-corner-put s bar x row left right e f g p = rw (e, f, g) at p
-
-pub diagonal-put : (k low high : ℕ) {o₀ o₁ : List ℕ} {a b : ℕ} → low ≡ k / 1024 → high ≡ k % 1024
-    → Put ((diagonalWord ++ decimal low) ++ (((32 ∷ []) ++ decimal high) ++ (10 ∷ []))) o₀ a o₁ b
-    → Put (diagonalLine (edgeOf k)) o₀ a o₁ b
-unfolding diagonalLine
-diagonal-put k low high e f p = rw (e, f) at p
+corner-put s bar x e f g p = rw (e, f, g) at p
 
 -- no line yet
 none-put : (o : List ℕ) (a : ℕ) → Put [] o a o a
@@ -58,19 +57,20 @@ module _ (s : List ℕ) where
   unfolding cornerLines
   corners-all i e = rw e
 
--- the lines of the first i keys' diagonals
-abbrev pub diagonalsTo : List ℕ → ℕ → List ℕ
-diagonalsTo ks i = flatMap diagonalLine (edgesOf (take i ks))
+-- the lines of the strokes of the first i keys
+abbrev pub linesTo : List ℕ → List ℕ → List ℕ → ℕ → List ℕ
+linesTo s at ks i = linesOf s at (take i ks)
 
-module _ (ks : List ℕ) where
-  pub diagonals-none : (o : List ℕ) (a : ℕ) → Put (diagonalsTo ks 0) o a o a
+module _ (s at ks : List ℕ) where
+  pub lines-none : (o : List ℕ) (a : ℕ) → Put (linesTo s at ks 0) o a o a
   unfolding flatMap
-  diagonals-none o a = none-put o a
+  lines-none o a = none-put o a
 
-  pub diagonals-more : (i : ℕ) → i < length ks → {o₀ o₁ o₂ : List ℕ} {a b c : ℕ}
-      → Put (diagonalsTo ks i) o₀ a o₁ b → Put (diagonalLine (edgeOf (getD ks i 0))) o₁ b o₂ c → Put (diagonalsTo ks (i + 1)) o₀ a o₂ c
-  diagonals-more i h p q = rw (add-one i, take-suc ks i 0 h, map-append edgeOf (take i ks) (getD ks i 0 ∷ [])) (more-put diagonalLine (edgesOf (take i ks)) (edgeOf (getD ks i 0)) p q)
+  pub lines-more : (i : ℕ) → i < length ks → {o₀ o₁ o₂ : List ℕ} {a b c : ℕ}
+      → Put (linesTo s at ks i) o₀ a o₁ b → Put (strokeLine (chartIn s) (strokeOf s at (getD ks i 0 % 2048))) o₁ b o₂ c → Put (linesTo s at ks (i + 1)) o₀ a o₂ c
+  lines-more i h p q =
+      rw (add-one i, take-suc ks i 0 h, map-append (λ k. strokeOf s at (k % 2048)) (take i ks) (getD ks i 0 ∷ []))
+      (more-put (strokeLine (chartIn s)) (strokesOf s at (take i ks)) (strokeOf s at (getD ks i 0 % 2048)) p q)
 
-  pub diagonals-all : (i : ℕ) → length ks ≤ i → diagonalsTo ks i ≡ diagonalLines (edgesOf ks)
-  unfolding diagonalLines
-  diagonals-all i h = rw (take-all i ks h)
+  pub lines-all : (i : ℕ) → length ks ≤ i → linesTo s at ks i ≡ linesOf s at ks
+  lines-all i h = rw (take-all i ks h)

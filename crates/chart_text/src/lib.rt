@@ -1,33 +1,53 @@
-// A chart in words: the line of the part that it shows, the bar of each corner, the diagonals; or the refusal. specs/Text.antt says the bytes.
-// The reading is that of the crate chart_reader, the part's line that of draw, the words and numbers are written by log_line.
-ghost use mathlib.Core.List.{_++_};
-ghost use Prim.Native.Nat.{_+_, _*_, _≤_};
+// A chart in words: the line of the part that it shows, the bar of each corner, the strokes from left to right; or the refusal. specs/Text.antt says the bytes.
+// The reading is that of the crate chart_reader, the part's line that of draw, the words and numbers are written by log_line. strokes.rt has the strokes.
+ghost use Prim.Native.Nat.{_+_, _*_, _<_, _≤_};
 ghost use lib.ListN.{length};
+ghost use Rattle.polygon.specs.Lists.{All};
 ghost use Rattle.polygon.specs.Polygon.{Valid};
-ghost use Rattle.keys.specs.Keys.{edgeOf, edgesOf};
+ghost use Rattle.sheet.specs.Sheet.{held};
 ghost use Rattle.log_line.specs.Put.{Put};
 ghost use Rattle.log_line.specs.Line.{line};
-ghost use Rattle.draw.specs.Printed.{factsOf};
 ghost use Rattle.draw.specs.Told.{partOf};
-ghost use Rattle.chart_reader.specs.Decode.{barAt, chartIn};
+ghost use Rattle.chart_reader.specs.Decode.{barAt, chartIn, Formed};
+ghost use Rattle.chart_reader.specs.Rules.{Named};
 ghost use Rattle.chart_reader.specs.Held.{Bars};
-ghost use Rattle.chart_text.specs.Text.{cornerLine, diagonalLine, cornerLines, diagonalLines, described};
+ghost use Rattle.chart_text.specs.Text.{chartFacts, cornerLine, cornerLines, describedAs, described};
+use crate::strokes::put_strokes;
+use chart_reader::frame::frame;
 use chart_reader::read_part;
 use codec::get16;
-use draw::line::part_line;
-use keys::high;
-use keys::low;
+use draw::line::counts_line;
 use log_line::put_field;
 use log_line::put_refused;
 use log_line::put_word;
+use plan::Planned;
+use plan::plan_part;
 use sheet::Head;
 use sheet::Read;
 
+pub mod strokes;
+
+// Writes the line of the part of a head and the keys of its diagonals, in the chart's own rows and columns.
+fn put_head(chart: &[u8], h: Head, keys: &[u32], out: &mut [u8]) -> usize
+    requires { ⌜ Valid (partOf h (now keys)) ⌝ }
+    requires { ⌜ (6 ≤ length (now chart)) × (256 ≤ length (now out)) ⌝ }
+    ensures { λ r. ⌜ Put (line (chartFacts (chartIn (now (chart .entry))) (partOf h (now (keys .entry))))) (now (out .entry)) 0 (now (out .exit)) r ⌝ }
+{
+    match plan_part(keys, h.n) {
+        Planned::Refused(k) => put_refused(k as usize, out),
+        Planned::Counts(l, u, s) => {
+            let rows = get16(chart, 0);
+            let columns = get16(chart, 2);
+            counts_line(h, l, u, s, rows, columns, out)
+        }
+    }
+}
+
 // Writes the line of a corner, whose bar stands at `bar` in the chart, and says where it ends.
 fn put_corner(out: &mut [u8], at: usize, corner: usize, chart: &[u8], bar: usize) -> usize
-    requires { ⌜ (at + 106 ≤ length (now out)) × (bar + 6 ≤ length (now chart)) ⌝ }
+    requires { ⌜ (at + 128 ≤ length (now out)) × (corner < 1024) × (bar + 6 ≤ length (now chart)) ⌝ }
     ensures { λ r. ⌜ Put (cornerLine corner (barAt (now (chart .entry)) bar)) (now (out .entry)) at (now (out .exit)) r ⌝ }
-    ensures { λ r. ⌜ r ≤ at + 106 ⌝ }
+    ensures { λ r. ⌜ r ≤ at + 45 ⌝ }
 {
     let row = get16(chart, bar);
     let left = get16(chart, bar + 2);
@@ -41,10 +61,10 @@ fn put_corner(out: &mut [u8], at: usize, corner: usize, chart: &[u8], bar: usize
 
 // Writes the lines of the n corners of a chart.
 fn put_corners(out: &mut [u8], at: usize, chart: &[u8], n: usize) -> usize
-    requires { ⌜ (at + 106 * n ≤ length (now out)) × (n ≤ 1024) ⌝ }
+    requires { ⌜ (at + 45 * n + 128 ≤ length (now out)) × (n ≤ 1024) ⌝ }
     requires { ⌜ Bars (now chart) n ⌝ }
     ensures { λ r. ⌜ Put (cornerLines (chartIn (now (chart .entry)))) (now (out .entry)) at (now (out .exit)) r ⌝ }
-    ensures { λ r. ⌜ r ≤ at + 106 * n ⌝ }
+    ensures { λ r. ⌜ r ≤ at + 45 * n ⌝ }
 {
     let mut end = at;
     let mut x = 0;
@@ -55,43 +75,20 @@ fn put_corners(out: &mut [u8], at: usize, chart: &[u8], n: usize) -> usize
     end
 }
 
-// Writes the line of a diagonal.
-fn put_diagonal(out: &mut [u8], at: usize, key: u32) -> usize
-    requires { ⌜ at + 51 ≤ length (now out) ⌝ }
-    ensures { λ r. ⌜ Put (diagonalLine (edgeOf key)) (now (out .entry)) at (now (out .exit)) r ⌝ }
-    ensures { λ r. ⌜ r ≤ at + 51 ⌝ }
-{
-    let a = put_field(out, at, b"diagonal ", low(key));
-    let b = put_field(out, a, b" ", high(key));
-    put_word(out, b, b"\n")
-}
-
-// Writes the line of each key's diagonal.
-fn put_diagonals(out: &mut [u8], at: usize, keys: &[u32]) -> usize
-    requires { ⌜ at + 51 * length (now keys) ≤ length (now out) ⌝ }
-    ensures { λ r. ⌜ Put (diagonalLines (edgesOf (now (keys .entry)))) (now (out .entry)) at (now (out .exit)) r ⌝ }
-    ensures { λ r. ⌜ r ≤ at + 51 * length (now (keys .entry)) ⌝ }
-{
-    let mut end = at;
-    let mut i = 0;
-    while i < keys.len() {
-        end = put_diagonal(out, end, keys[i]);
-        i += 1;
-    }
-    end
-}
-
 // Writes what is said of a chart that was read as the part of a head and the keys of its diagonals.
 fn describe_part(chart: &[u8], h: Head, keys: &[u32], out: &mut [u8]) -> usize
     requires { ⌜ Valid (partOf h (now keys)) ⌝ }
-    requires { ⌜ Bars (now chart) (h .n) ⌝ }
+    requires { ⌜ Formed (now chart) × All (Named (chartIn (now chart))) (chartIn (now chart) .strokes) ⌝ }
     requires { ⌜ 163840 ≤ length (now out) ⌝ }
-    ensures { λ r. ⌜ Put (line (factsOf (partOf h (now (keys .entry)))) ++ (cornerLines (chartIn (now (chart .entry))) ++ diagonalLines (edgesOf (now (keys .entry))))) (now (out .entry)) 0 (now (out .exit)) r ⌝ }
+    ensures { λ r. ⌜ Put (describedAs (chartIn (now (chart .entry))) (held (partOf h (now (keys .entry))))) (now (out .entry)) 0 (now (out .exit)) r ⌝ }
     ensures { λ r. ⌜ r ≤ 163840 ⌝ }
 {
-    let corners = part_line(h, keys, out);
-    let diagonals = put_corners(out, corners, chart, h.n);
-    put_diagonals(out, diagonals, keys)
+    let mut at = [0usize; 2045];
+    let n = frame(chart, &mut at);
+    let m = 2 * n - 3;
+    let corners = put_head(chart, h, keys, out);
+    let strokes = put_corners(out, corners, chart, n);
+    put_strokes(out, strokes, chart, &at[..m], n)
 }
 
 // Writes what is said of a chart, and says how long it is.

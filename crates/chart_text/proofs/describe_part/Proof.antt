@@ -1,41 +1,104 @@
--- The part's line, the corners, the diagonals; there is room for all of them.
+-- The first line, the corners, the strokes; there is room for all of them.
 use borrow.Author.Needs.{needs}
+use mathlib.Core.Path.{_≡_, sym}
+use Prim.Native.Nat.{_*_, _-_, _≤_}
 use native.Mathlib.Omega.{arith}
-use lib.ListN.{length-map}
-use Rattle.keys.specs.Keys.{edgeOf}
+use lib.ListN.{length, take}
+use lib.Seq.{length-take-le}
 use Rattle.log_line.proofs.Putting.{put-then}
 use Rattle.log_line.proofs.Size.{line-size}
-use Rattle.draw.specs.Printed.{factsOf}
 use Rattle.draw.specs.Told.{partOf}
+use Rattle.chart_reader.specs.Decode.{chartIn}
+use Rattle.chart_reader.specs.Held.{Placed}
+use Rattle.chart_reader.proofs.Stroked.{bars-room}
+use Rattle.chart_text.specs.Text.{chartFacts, describedAs}
 use Rattle.chart_text.proofs.describe_part.Statement.{statement}
 use Rattle.chart_text.proofs.describe_part.Tie as tie
 
-part-line-requires : tie.Need-part-line-requires
-part-line-requires c κs = search needs
+-- the places of the strokes are found again
+placed : (c : tie.After-at2)
+    → Placed (c .before .before .before .before .before .before .args .chart .now) (c .before .frame .result) (take (2 * c .before .frame .result - 3) (c .before .frame .last .1 .0))
+placed c =
+    let start = c .before .before .before .before .before .before in
+    c .before .frame .ensures .1 (λ z. c .before .frame .ensures .0 z (start .pre .1 .0 .0))
+
+places-size : (c : tie.After-at2) → length (take (2 * c .before .frame .result - 3) (c .before .frame .last .1 .0)) ≡ 2 * c .before .frame .result - 3
+places-size c = let P = placed c in
+    length-take-le (2 * c .before .frame .result - 3) (c .before .frame .last .1 .0) (omega (arith, c .before .frame .kept .1 .0, P .count, P .formed .most))
+
+-- the first line ends within 256 bytes
+head-size : (c : tie.After-put-head)
+    → (c .put-head .result ≤ 256) × (length (c .put-head .last .1 .1 .1 .0) ≡ length (c .before .before .before .before .before .before .before .before .args .out .now))
+head-size c =
+    let start = c .before .before .before .before .before .before .before .before in
+    (omega (arith, c .put-head .ensures .end, line-size (chartFacts (chartIn (start .args .chart .now)) (partOf (start .args .h) (start .args .keys .now)))), c .put-head .kept .1 .1 .1 .0)
+
+slice-aggregate-frame : tie.Need-slice-aggregate-frame
+slice-aggregate-frame c = search needs
+
+frame-requires : tie.Need-frame-requires
+frame-requires c κs = search needs
+
+mul-m : tie.Need-mul-m
+mul-m c = omega (arith, placed c .count, placed c .formed .most)
+
+sub-m : tie.Need-sub-m
+sub-m c = omega (arith, placed c .count, placed c .formed .least)
+
+put-head-requires : tie.Need-put-head-requires
+put-head-requires c κs = search needs
 
 put-corners-requires : tie.Need-put-corners-requires
 put-corners-requires c κs =
-    let at-part-line = c .before .before .before in
-    let start = at-part-line .before .before .before .before .before in
-    (omega (arith, at-part-line .part-line .ensures .end, at-part-line .part-line .kept .1 .1 .0, start .pre .1 .1, line-size (factsOf (partOf (start .args .h) (start .args .keys .now))), start .pre .0 .triangulated .full, length-map (start .args .keys .now) edgeOf, start .pre .0 .most), start .pre .1 .0)
+    let at-put-head = c .before .before .before in
+    let at-at2 = at-put-head .before .before in
+    let at-frame = at-at2 .before in
+    let start = at-frame .before .before .before .before .before in
+    let P = placed at-at2 in
+    let head = head-size at-put-head in (
+      (omega (arith, head, start .pre .1 .1, P .count, P .formed .least, P .formed .most), omega (arith, P .count, P .formed .least, P .formed .most)),
+      bars-room (start .args .chart .now) (at-frame .frame .result) _ P,
+    )
 
-put-diagonals-requires : tie.Need-put-diagonals-requires
-put-diagonals-requires c κs =
-    let at-put-corners = c .before .before .before in
-    let at-part-line = at-put-corners .before .before .before .before in
-    let start = at-part-line .before .before .before .before .before in
-    omega (arith, at-put-corners .put-corners .ensures .1, at-put-corners .put-corners .kept .0, at-part-line .part-line .ensures .end, at-part-line .part-line .kept .1 .1 .0, start .pre .1 .1, line-size (factsOf (partOf (start .args .h) (start .args .keys .now))), start .pre .0 .triangulated .full, length-map (start .args .keys .now) edgeOf, start .pre .0 .most)
+array-share-prefix-at : tie.Need-array-share-prefix-at
+array-share-prefix-at c =
+    let at-at2 = c .before .before .before .before .before .before .before .before .before in
+    let at-frame = at-at2 .before in
+    let P = placed at-at2 in
+    omega (arith, at-frame .frame .kept .1 .0, P .count, P .formed .least, P .formed .most)
+
+slice-aggregate-put-strokes : tie.Need-slice-aggregate-put-strokes
+slice-aggregate-put-strokes c =
+    let at-at2 = c .before .before .before .before .before .before .before .before .before .before in
+    sym (places-size at-at2)
+
+put-strokes-requires : tie.Need-put-strokes-requires
+put-strokes-requires c κs =
+    let at-put-corners = c .before .before .before .before in
+    let at-put-head = at-put-corners .before .before .before .before in
+    let at-at2 = at-put-head .before .before in
+    let start = at-at2 .before .before .before .before .before .before in
+    let P = placed at-at2 in
+    let head = head-size at-put-head in (
+      (P, start .pre .1 .0 .1),
+      omega (arith, at-put-corners .put-corners .ensures .1, at-put-corners .put-corners .kept .0, head, start .pre .1 .1, places-size at-at2, P .count, P .formed .least, P .formed .most),
+    )
 
 same-length : tie.Need-same-length
 same-length c = search needs
 
 returns : tie.Need-returns
+unfolding describedAs
 returns c =
-    let at-put-diagonals = c .before .before in
-    let at-put-corners = at-put-diagonals .before .before .before .before in
-    let at-part-line = at-put-corners .before .before .before .before in
-    let start = at-part-line .before .before .before .before .before in
-    (put-then (at-part-line .part-line .ensures) (put-then (at-put-corners .put-corners .ensures .0) (at-put-diagonals .put-diagonals .ensures .0)), omega (arith, at-put-diagonals .put-diagonals .ensures .1, at-put-corners .put-corners .ensures .1, at-part-line .part-line .ensures .end, at-part-line .part-line .kept .1 .1 .0, start .pre .1 .1, line-size (factsOf (partOf (start .args .h) (start .args .keys .now))), start .pre .0 .triangulated .full, length-map (start .args .keys .now) edgeOf, start .pre .0 .most))
+    let at-put-strokes = c .before .before in
+    let at-put-corners = at-put-strokes .before .before .before .before .before in
+    let at-put-head = at-put-corners .before .before .before .before in
+    let at-at2 = at-put-head .before .before in
+    let P = placed at-at2 in
+    let head = head-size at-put-head in (
+      put-then (at-put-head .put-head .ensures) (put-then (at-put-corners .put-corners .ensures .0) (at-put-strokes .put-strokes .ensures .0)),
+      omega (arith, at-put-strokes .put-strokes .ensures .1, at-put-corners .put-corners .ensures .1, head, places-size at-at2, P .count, P .formed .least, P .formed .most),
+    )
 
 pub describe-part-spec : {M : Type 1} → statement M
-describe-part-spec = tie.close (tie.spec part-line-requires put-corners-requires put-diagonals-requires same-length returns)
+describe-part-spec = tie.close (tie.spec slice-aggregate-frame frame-requires mul-m sub-m put-head-requires put-corners-requires array-share-prefix-at slice-aggregate-put-strokes put-strokes-requires same-length returns)

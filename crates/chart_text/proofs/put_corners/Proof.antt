@@ -10,7 +10,7 @@ use Rattle.chart_text.proofs.put_corners.Statement.{statement}
 use Rattle.chart_text.proofs.put_corners.Tie as tie
 
 abbrev Inv-loop : tie.InvT-loop
-Inv-loop out₀ at chart n end₀ x₀ out end x = (x ≤ n) × (length out ≡ length out₀) × (end ≤ at + 106 * x) × Put (cornersTo chart x) out₀ at out end
+Inv-loop out₀ at chart n end₀ x₀ out end x = (x ≤ n) × (length out ≡ length out₀) × (end ≤ at + 45 * x) × Put (cornersTo chart x) out₀ at out end
 
 abbrev μ-loop : tie.MeasureT-loop
 μ-loop out₀ at chart n end₀ x₀ out end x = n - x
@@ -43,7 +43,9 @@ loop-again c =
     let at-put-corner = c .before .before in
     let at-loop = at-put-corner .before .before .before in
     let start = at-loop .before .before .before in
-    (omega arith, omega (arith, at-put-corner .put-corner .kept .0, at-loop .loop .inv .1), omega (arith, at-put-corner .put-corner .ensures .1, at-loop .loop .inv .2), corners-more (start .args .chart .now) (at-loop .loop .x) (at-loop .loop .inv .3) (at-put-corner .put-corner .ensures .0))
+    let I = at-loop .loop .inv in
+    let p = at-put-corner .put-corner .ensures in
+    (omega arith, omega (arith, at-put-corner .put-corner .kept .0, I .1), omega (arith, p .1, I .2), corners-more (start .args .chart .now) (at-loop .loop .x) (I .3) (p .0))
 
 same-length : tie.Need-same-length Inv-loop μ-loop
 same-length c = c .before .loop .inv .1
@@ -51,7 +53,9 @@ same-length c = c .before .loop .inv .1
 returns : tie.Need-returns Inv-loop μ-loop
 returns c =
     let start = c .before .before .before .before in
-    let e : c .before .loop .x ≡ countIn (start .args .chart .now) = omega (arith, start .pre .1 .count) in (rw (corners-all (start .args .chart .now) (c .before .loop .x) e) at (c .before .loop .inv .3), omega arith)
+    let s = start .args .chart .now in
+    let e : c .before .loop .x ≡ countIn s = omega (arith, start .pre .1 .count) in
+    (rw (corners-all s (c .before .loop .x) e) at (c .before .loop .inv .3), omega arith)
 
 pub put-corners-spec : {M : Type 1} → statement M
 put-corners-spec = tie.close (tie.spec Inv-loop μ-loop loop-holds mul-put-corner add-put-corner put-corner-requires add-x loop-less loop-again same-length returns)

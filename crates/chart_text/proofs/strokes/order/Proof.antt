@@ -1,0 +1,49 @@
+-- The keys, then sorting as many as there are strokes.
+use mathlib.Core.Path.{_≡_, ap, sym, _∙_}
+use borrow.Author.Needs.{needs}
+use native.Mathlib.Omega.{arith}
+use lib.ListN.{length, take}
+use lib.Seq.{length-take-le, take-at}
+use Rattle.keys.specs.Sort.{sortKeys}
+use Rattle.chart_text.proofs.strokes.order.Statement.{statement}
+use Rattle.chart_text.proofs.strokes.order.Tie as tie
+
+keys-size : (c : tie.After-slice-known3)
+    → let m = length (c .before .before .before .before .before .before .before .before .args .at .now) in length (take m (c .before .before .stroke-keys .last .1 .1 .1 .0)) ≡ m
+keys-size c =
+    let at-stroke-keys = c .before .before in
+    let start = at-stroke-keys .before .before .before .before .before .before in
+    length-take-le (length (start .args .at .now)) (at-stroke-keys .stroke-keys .last .1 .1 .1 .0) (omega (arith, at-stroke-keys .stroke-keys .kept .1 .1 .1 .0, start .pre .1))
+
+stroke-keys-requires : tie.Need-stroke-keys-requires
+stroke-keys-requires c κs = search needs
+
+slice-relend-prefix-sort : tie.Need-slice-relend-prefix-sort
+slice-relend-prefix-sort c = search needs
+
+slice-aggregate-sort : tie.Need-slice-aggregate-sort
+slice-aggregate-sort c = sym (keys-size (c .before))
+
+sort-requires : tie.Need-sort-requires
+sort-requires c κs =
+    let at-slice-known3 = c .before .before in
+    let start = at-slice-known3 .before .before .before .before .before .before .before .before in
+    omega (arith, keys-size at-slice-known3, start .pre .1)
+
+same-length : tie.Need-same-length
+same-length c = search needs
+
+same-length-2 : tie.Need-same-length-2
+same-length-2 c = search needs
+
+returns : tie.Need-returns
+returns c =
+    let at-sort = c .before .before .before .before in
+    let at-slice-known3 = at-sort .before .before .before in
+    let at-stroke-keys = at-slice-known3 .before .before in
+    let start = at-stroke-keys .before .before .before .before .before .before in
+    let sorted = at-sort .sort in
+    take-at (sorted .last .0) _ (length (start .args .at .now)) (sorted .kept .0 ∙ keys-size at-slice-known3) ∙ sorted .ensures ∙ ap sortKeys (at-stroke-keys .stroke-keys .ensures)
+
+pub order-spec : {M : Type 1} → statement M
+order-spec = tie.close (tie.spec stroke-keys-requires slice-relend-prefix-sort slice-aggregate-sort sort-requires same-length same-length-2 returns)

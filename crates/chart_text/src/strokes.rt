@@ -1,0 +1,136 @@
+// The strokes of a chart in words, from left to right: a key for each, by where it stands, the keys in order, then a line for each key.
+ghost use mathlib.Core.Path.{_≡_};
+ghost use Prim.Native.Nat.{_+_, _*_, _%_, _<_, _≤_};
+ghost use lib.ListN.{length, take};
+ghost use Rattle.polygon.specs.Lists.{All};
+ghost use Rattle.polygon.specs.Polygon.{_—_};
+ghost use Rattle.keys.specs.Sort.{sortKeys};
+ghost use Rattle.log_line.specs.Put.{Put};
+ghost use Rattle.chart_reader.specs.Decode.{strokeAt, chartIn};
+ghost use Rattle.chart_reader.specs.Rules.{Named};
+ghost use Rattle.chart_reader.specs.Held.{Bars, Placed, StrokeIn};
+ghost use Rattle.chart_text.specs.Text.{strokeName, edgeName, strokeLine, standing, strokeLines};
+ghost use Rattle.chart_text.specs.Ordered.{strokeKeys, linesOf};
+use chart_reader::part::is_diagonal;
+use chart_reader::strokes::stroke_ends;
+use codec::get16;
+use keys::key;
+use keys::sort::sort;
+use log_line::put_field;
+use log_line::put_word;
+
+// The key of the stroke at a place, whose number is i: where it stands, and then the number.
+fn stroke_key(chart: &[u8], p: usize, n: usize, i: usize) -> u32
+    requires { ⌜ StrokeIn (now chart) n p × Bars (now chart) n × (i < 2048) ⌝ }
+    ensures { λ r. ⌜ r ≡ standing (chartIn (now (chart .entry))) (strokeAt (now (chart .entry)) p) * 2048 + i ⌝ }
+{
+    let e = stroke_ends(chart, p, n);
+    let first = e.first;
+    if chart[p] == 0 {
+        return ((2 * first.column + 1) * 2048 + i) as u32;
+    }
+    (2 * first.column * 2048 + i) as u32
+}
+
+// Writes the keys of the strokes at these places.
+fn stroke_keys(chart: &[u8], at: &[usize], n: usize, keys: &mut [u32])
+    requires { ⌜ Placed (now chart) n (now at) × All (Named (chartIn (now chart))) (chartIn (now chart) .strokes) × (length (now at) ≤ length (now keys)) ⌝ }
+    ensures { λ _. ⌜ take (length (now (at .entry))) (now (keys .exit)) ≡ strokeKeys (now (chart .entry)) (now (at .entry)) ⌝ }
+{
+    let mut i = 0;
+    while i < at.len() {
+        keys[i] = stroke_key(chart, at[i], n, i);
+        i += 1;
+    }
+}
+
+// Writes them in order; `spare` is overwritten.
+fn order(chart: &[u8], at: &[usize], n: usize, keys: &mut [u32], spare: &mut [u32])
+    requires { ⌜ Placed (now chart) n (now at) × All (Named (chartIn (now chart))) (chartIn (now chart) .strokes) ⌝ }
+    requires { ⌜ (length (now at) ≤ length (now keys)) × (length (now at) ≤ length (now spare)) ⌝ }
+    ensures { λ _. ⌜ take (length (now (at .entry))) (now (keys .exit)) ≡ sortKeys (strokeKeys (now (chart .entry)) (now (at .entry))) ⌝ }
+{
+    stroke_keys(chart, at, n, keys);
+    let m = at.len();
+    sort(&mut keys[..m], spare);
+}
+
+// Writes how the stroke at a place is found on the tape.
+fn put_name(out: &mut [u8], from: usize, chart: &[u8], p: usize, n: usize) -> usize
+    requires { ⌜ StrokeIn (now chart) n p × Bars (now chart) n × (from + 50 ≤ length (now out)) ⌝ }
+    ensures { λ r. ⌜ Put (strokeName (chartIn (now (chart .entry))) (strokeAt (now (chart .entry)) p)) (now (out .entry)) from (now (out .exit)) r ⌝ }
+    ensures { λ r. ⌜ r ≤ from + 20 ⌝ }
+{
+    let e = stroke_ends(chart, p, n);
+    let first = e.first;
+    let last = e.last;
+    if chart[p] == 0 {
+        let a = put_field(out, from, b"level ", first.column);
+        return put_field(out, a, b" to ", last.column);
+    }
+    put_field(out, from, b"line ", first.column)
+}
+
+// Writes the corners a and b of a stroke, and whether it is a bend or a side of n corners.
+fn put_edge(out: &mut [u8], from: usize, a: usize, b: usize, n: usize) -> usize
+    requires { ⌜ (from + 56 ≤ length (now out)) × (a < 1024) × (b < 1024) × (n ≤ 1024) ⌝ }
+    ensures { λ r. ⌜ Put (edgeName n (a — b)) (now (out .entry)) from (now (out .exit)) r ⌝ }
+    ensures { λ r. ⌜ r ≤ from + 24 ⌝ }
+{
+    let c = put_field(out, from, b" corners ", a);
+    let d = put_field(out, c, b" ", b);
+    if is_diagonal(key(a, b), n) {
+        return put_word(out, d, b" bend\n");
+    }
+    put_word(out, d, b" side\n")
+}
+
+// Writes the line of the stroke at a place.
+fn put_stroke(out: &mut [u8], from: usize, chart: &[u8], p: usize, n: usize) -> usize
+    requires { ⌜ StrokeIn (now chart) n p × Bars (now chart) n × (n ≤ 1024) × (from + 128 ≤ length (now out)) ⌝ }
+    ensures { λ r. ⌜ Put (strokeLine (chartIn (now (chart .entry))) (strokeAt (now (chart .entry)) p)) (now (out .entry)) from (now (out .exit)) r ⌝ }
+    ensures { λ r. ⌜ r ≤ from + 44 ⌝ }
+{
+    let next = put_name(out, from, chart, p, n);
+    let a = get16(chart, p + 1);
+    let b = get16(chart, p + 3);
+    put_edge(out, next, a, b, n)
+}
+
+// Writes the line of each key's stroke.
+fn put_lines(
+    out: &mut [u8],
+    from: usize,
+    chart: &[u8],
+    at: &[usize],
+    n: usize,
+    keys: &[u32],
+) -> usize
+    requires { ⌜ Placed (now chart) n (now at) × All (Named (chartIn (now chart))) (chartIn (now chart) .strokes) ⌝ }
+    requires { ⌜ All (λ k. k % 2048 < length (now at)) (now keys) × (from + 44 * length (now keys) + 128 ≤ length (now out)) ⌝ }
+    ensures { λ r. ⌜ Put (linesOf (now (chart .entry)) (now (at .entry)) (now (keys .entry))) (now (out .entry)) from (now (out .exit)) r ⌝ }
+    ensures { λ r. ⌜ r ≤ from + 44 * length (now (keys .entry)) ⌝ }
+{
+    let mut end = from;
+    let mut k = 0;
+    while k < keys.len() {
+        let i = (keys[k] % 2048) as usize;
+        end = put_stroke(out, end, chart, at[i], n);
+        k += 1;
+    }
+    end
+}
+
+// Writes the lines of the strokes, from left to right.
+pub fn put_strokes(out: &mut [u8], from: usize, chart: &[u8], at: &[usize], n: usize) -> usize
+    requires { ⌜ Placed (now chart) n (now at) × All (Named (chartIn (now chart))) (chartIn (now chart) .strokes) ⌝ }
+    requires { ⌜ from + 44 * length (now at) + 128 ≤ length (now out) ⌝ }
+    ensures { λ r. ⌜ Put (strokeLines (chartIn (now (chart .entry)))) (now (out .entry)) from (now (out .exit)) r ⌝ }
+    ensures { λ r. ⌜ r ≤ from + 44 * length (now (at .entry)) ⌝ }
+{
+    let mut keys = [0u32; 2045];
+    let mut spare = [0u32; 2045];
+    order(chart, at, n, &mut keys, &mut spare);
+    let m = at.len();
+    put_lines(out, from, chart, at, n, &keys[..m])
+}
