@@ -1,6 +1,6 @@
 #!/usr/bin/env bash
-# Runs the programs bend and unbend from end to end: the line, the file and the way back, refusals, and what the system refuses.
-# The last line is 'N passed, M failed'.
+# Runs the programs bend and unbend from end to end: the line, the file, the status and the way back; refusals; the longest inputs; what the system refuses;
+# many runs at once. The last line is 'N passed, M failed'.
 set -u
 root=$(cd "$(dirname "$0")/.." && pwd)
 bend="$root/bend"
@@ -123,17 +123,123 @@ is 'long square' "$( (bytes "$square"; head -c 100000 /dev/zero) | "$unbend")" '
 is 'a sheet' "$("$unbend" <"$root/samples/square.sheet")" 'refused 14'
 is 'nothing written' "$(ls)" ''
 
-# a disk that is full: said on standard error, no line, no half chart
-ln -s /dev/full bend.chart.new
-is 'full disk, line' "$("$bend" <"$root/samples/square.sheet" 2>errors)" ''
-is 'full disk, error' "$(cut -d: -f1 errors)" 'bend.chart.new'
-rm errors
-is 'full disk, nothing left' "$(ls)" ''
+# charts drawn in many ways, and damaged ones: every text is the model's
+mkdir texts
+CARGO_TARGET_DIR="${CARGO_TARGET_DIR:-$root/target/cargo}" cargo run --quiet --release --manifest-path "$root/tests/Cargo.toml" --bin texts -- texts
+read=0
+for chart in texts/*.chart; do
+    "$root/target/bin/unbend" <"$chart" >text
+    is "$chart" "$(cmp text "${chart%.chart}.text" 2>&1)" ''
+    [ "$(head -c 4 text)" != part ] || read=$((read + 1))
+done
+is 'most charts are read' "$((read >= 65))" 1
+rm -r text texts
 
-# a name that cannot be written
-mkdir bend.chart.new
-is 'no file, line' "$("$bend" <"$root/samples/square.sheet" 2>errors)" ''
-is 'no file, error' "$(cut -d: -f1 errors)" 'bend.chart.new'
+# the longest sheet, 1,024 corners with a part number, and one byte more; the longest chart, a fan with every stroke upright, and one byte more
+hex16() { printf '%04x' "$@"; }
+fan() { hex16 1024; for ((k = 2; k < 1023; k++)); do hex16 0 $k; done; }
+stairs() {
+    local i
+    hex16 1024 2047 1024 0 0 2046
+    for ((i = 1; i < 1024; i++)); do hex16 $i $((2 * i - 2)) $((2 * i)); done
+    for ((i = 1; i < 1024; i++)); do printf 01; hex16 0 $i $((2 * i - 1)); done
+    for ((i = 1; i < 1023; i++)); do printf 01; hex16 $i $((i + 1)) $((2 * i)); done
+}
+bytes "07$(fan)0000002a" >longest.sheet
+is 'longest sheet, bytes' "$(wc -c <longest.sheet)" 4091
+is 'longest sheet' "$("$bend" <longest.sheet)" 'part 42 corners 1024 levels 1 umbrellas 1 stems 0 rows 3 columns 1023'
+is 'longest sheet and a byte' "$( (cat longest.sheet; printf x) | "$bend")" 'refused 2'
+bytes "$(stairs)" >longest.chart
+is 'longest chart, bytes' "$(wc -c <longest.chart)" 20465
+is 'longest chart' "$("$unbend" <longest.chart | sed -n 1p)" 'part - corners 1024 levels 1 umbrellas 1 stems 0 rows 1024 columns 2047'
+is 'longest chart and a byte' "$( (cat longest.chart; printf x) | "$unbend")" 'refused 14'
+rm longest.sheet longest.chart bend.chart
+
+# the status: 0 for a line, 1 for a refusal, 2 when the system refused
+# ends WHAT STATUS TEXT COMMAND...: what a command prints, then on standard error up to the first colon, then its status
+ends() {
+    local what=$1 status=$2 text=$3 found
+    shift 3
+    found=$({ "$@" 2>&1 >&3 | head -n 1 | cut -d: -f1; echo "status ${PIPESTATUS[0]}"; } 3>&1)
+    is "$what" "$found" "$text"$'\n'"status $status"
+}
+sheet="$root/samples/square.sheet"
+said='part 4711 corners 4 levels 1 umbrellas 1 stems 0 rows 3 columns 3'
+ends 'a line' 0 "$said" "$bend" <"$sheet"
+ends 'a text' 0 "$(bytes "$square" | "$unbend")" "$unbend" <bend.chart
+ends 'a refusal' 1 'refused 7' "$bend" <"$root/samples/crossing.sheet"
+ends 'a refused chart' 1 'refused 14' "$unbend" <"$sheet"
+rm bend.chart
+
+# a read that fails, and an input that is closed, are no refusals: nothing is printed, nothing is written
+ends 'a folder for a sheet' 2 'standard input' "$bend" </
+ends 'a folder for a chart' 2 'standard input' "$unbend" </
+closed() { "$@" <&-; }
+ends 'no input' 2 'standard input' closed "$bend"
+ends 'no chart' 2 'standard input' closed "$unbend"
+is 'nothing written after a failed read' "$(ls)" ''
+
+# a line that cannot be printed is said; the chart is in its place
+for program in "$bend" "$root/target/bin/bend"; do
+    status=2
+    [ "$program" = "$bend" ] || status=0
+    is 'full output' "$("$program" <"$sheet" 2>&1 >/dev/full | cut -d: -f1)" 'standard output'
+    is 'full output, chart' "$(hex bend.chart)" "$square"
+    rm bend.chart
+    is 'no output' "$("$program" <"$sheet" 2>&1 >&- | cut -d: -f1)" 'standard output'
+    is 'no output, chart' "$(hex bend.chart)" "$square"
+    "$program" <"$sheet" >&- 2>&-
+    is 'no output, status' $? $status
+    rm bend.chart
+done
+is 'full output of unbend' "$(bytes "$square" | "$unbend" 2>&1 >/dev/full | cut -d: -f1)" 'standard output'
+
+# what the system refuses: said with the file's name, no line, status 2, and nothing left behind
+cramped() { (ulimit -f 0 && trap '' XFSZ && exec "$bend" <"$sheet"); }
+ends 'a disk that is full' 2 'bend.chart' cramped
+is 'a disk that is full, nothing left' "$(ls)" ''
+mkdir bend.chart
+ends 'a folder in the way' 2 'bend.chart' "$bend" <"$sheet"
+is 'a folder in the way, nothing else left' "$(find . -mindepth 1)" './bend.chart'
+rmdir bend.chart
+gone() { mkdir gone && cd gone && rmdir ../gone && "$root/target/bin/bend" <"$sheet"; }
+is 'a folder that is gone' "$( (gone) 2>&1 | cut -d: -f1)" 'bend.chart'
+
+# the permissions are those that the umask gives any new file
+for mask in 000 022 027 077; do
+    (umask $mask && "$bend" <"$sheet" >line && touch other)
+    is "umask $mask" "$(stat -c %a bend.chart)" "$(stat -c %a other)"
+    rm bend.chart line other
+done
+
+# many runs at once, with links and leftovers lying about: every chart is whole, one of those that were drawn, and nothing else is touched
+echo mine >victim
+leftovers='bend.chart.new bend.chart.tmp bend.chart.aaaaaaaaaaaaaaaa'
+for name in $leftovers; do ln -s victim "$name"; done
+echo left >bend.chart.bbbbbbbbbbbbbbbb
+charts=$'\n'
+samples='triangle square stem star two_levels boot'
+for sample in $samples; do
+    rm -f bend.chart
+    "$bend" <"$root/samples/$sample.sheet" >line
+    charts+="$(hex bend.chart)"$'\n'
+done
+torn=0
+for ((round = 0; round < 60; round++)); do
+    rm -f bend.chart
+    [ $((round % 3)) -ne 0 ] || ln -s victim bend.chart
+    for sample in $samples; do "$root/target/bin/bend" <"$root/samples/$sample.sheet" >line & done
+    for ((look = 0; look < 4; look++)); do
+        [ ! -f bend.chart ] || [ -L bend.chart ] || case $charts in *$'\n'"$(hex bend.chart)"$'\n'*) ;; *) torn=$((torn + 1)) ;; esac
+    done
+    wait
+    case $charts in *$'\n'"$(hex bend.chart)"$'\n'*) ;; *) torn=$((torn + 1)) ;; esac
+done
+is 'charts torn by runs at once' $torn 0
+is 'a link is not written through' "$(cat victim)" mine
+is 'the file of a run that was killed' "$(cat bend.chart.bbbbbbbbbbbbbbbb)" left
+rm line
+is 'nothing left by runs at once' "$(ls)" "$(printf '%s\n' bend.chart bend.chart.bbbbbbbbbbbbbbbb $leftovers victim | sort)"
 
 echo "$passed passed, $failed failed"
 [ "$failed" -eq 0 ]

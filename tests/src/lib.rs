@@ -18,4 +18,5 @@ pub mod reader;
 pub mod search;
 pub mod shapes;
 pub mod sheet;
+pub mod text;
 pub mod truth;

@@ -1,54 +1,29 @@
-// The program: reads a sheet on standard input, writes its chart to the file bend.chart, and prints a line.
-// The chart is written to a new file that is then renamed, so that nobody ever sees half a chart; the line is printed only then.
-// No sheet is longer than 4,091 bytes: a longer input gets the refusal that its first 4,092 bytes get (`long-input` in the crate sheet).
-// No chart is longer than 20,465 bytes (`drawn-size` in the crate draw).
-use codec::Written;
-use libc::STDIN_FILENO;
-use libc::STDOUT_FILENO;
+// The program: reads a sheet on standard input, saves its chart in the file bend.chart, and prints its line, or the line of its refusal.
+// What is saved and printed is `draw_input`'s, in the crate draw. The line is printed only when the chart is in its place.
+// What the system refuses is said on standard error; then no line is printed, and no chart is left that is not whole.
+mod save;
 
-// Writes the chart to a file. What the system refuses is said on standard error, and no half chart is left.
-fn save(chart: &[u8]) -> bool {
-    let file = os::open_overwrite(b"bend.chart.new");
-    if file < 0 {
-        os::fail(b"bend.chart.new");
-        return false;
-    }
-    if !io::write_all(file, chart) {
-        os::fail(b"bend.chart.new");
-        libc::close(file);
-        os::unlink(b"bend.chart.new");
-        return false;
-    }
-    if libc::close(file) < 0 {
-        os::fail(b"bend.chart.new");
-        os::unlink(b"bend.chart.new");
-        return false;
-    }
-    if os::rename(b"bend.chart.new", b"bend.chart") < 0 {
-        os::fail(b"bend.chart");
-        os::unlink(b"bend.chart.new");
-        return false;
-    }
-    true
-}
+use console::Input;
+use draw::program::Shown;
+use draw::program::draw_input;
 
-// Prints the line of the sheet's part, or of its refusal.
-fn print_line(sheet: &[u8]) {
+// Saves and prints what is done with an input of which these are the first bytes.
+fn answer(input: &[u8; 4092], size: usize) {
+    let mut chart = [0u8; 20465];
     let mut text = [0u8; 256];
-    let n = draw::line::line(sheet, &mut text);
-    io::write_all(STDOUT_FILENO, &text[..n]);
+    match draw_input(input, size, &mut chart, &mut text) {
+        Shown::Refused(m) => console::print(&text[..m]),
+        Shown::Chart(k, m) => {
+            if save::save(&chart[..k]) {
+                console::print(&text[..m]);
+            }
+        }
+    }
 }
 
 fn main() {
     let mut input = [0u8; 4092];
-    let size = io::read_full(STDIN_FILENO, &mut input);
-    let mut chart = [0u8; 20465];
-    match draw::draw(&input[..size], &mut chart) {
-        Written::Refused(_) => print_line(&input[..size]),
-        Written::Bytes(n) => {
-            if save(&chart[..n]) {
-                print_line(&input[..size]);
-            }
-        }
+    if let Input::Bytes(size) = console::read_input(&mut input) {
+        answer(&input, size);
     }
 }

@@ -8,3 +8,4 @@ pub mod SameChart
 pub mod SameText
 pub mod Known
 pub mod Theorems
+pub mod Inputs

@@ -25,6 +25,7 @@ use plan::plan_part;
 use sheet::Head;
 use sheet::Read;
 
+pub mod program;
 pub mod strokes;
 
 // Writes the line of the part of a head and the keys of its diagonals, in the chart's own rows and columns.

@@ -6,3 +6,4 @@ pub mod Answers
 pub mod LentAgain
 pub mod LentShared
 pub mod Refusals
+pub mod Inputs

@@ -4,6 +4,8 @@ use mathlib.Core.Path.{_≡_, refl, ap}
 use mathlib.Core.List.{List}
 use Prim.Native.Nat.{ℕ, _≤_}
 use native.Mathlib.Omega.{arith}
+use lib.ListN.{length}
+use Rattle.polygon.specs.Polygon.{Polygon}
 use Rattle.polygon.proofs.TreeTheorem.{tree-of}
 use Rattle.codec.specs.declared.Written.{Written}
 use Rattle.codec.specs.declared.Written.the-variants.{Bytes}
@@ -18,13 +20,18 @@ use Rattle.chart.proofs.Charts.{chart-size, chart-strokes}
 use Rattle.chart.proofs.Sizes.{bytes-size}
 use Rattle.draw.specs.Answer.{charted, drawn}
 
+pub chart-bytes : (s : List ℕ) (p : Polygon) → readSheet s ≡ held p → length (bytesOf (chartOf p)) ≤ 20465
+unfolding chartOf
+chart-bytes s p e =
+    omega (arith, bytes-size (chartOf p) .1, chart-size (planOf p) .0, chart-strokes (planOf p), read-counted s p e .0, tree-of (p .n) (p .ds) (read-triangulated s p e) .size)
+
 pub drawn-size : (s out : List ℕ) → written (drawn s) out .size ≤ 20465
-unfolding drawn charted chartOf written
+unfolding drawn charted written
 drawn-size s out = go (readSheet s) refl
   where
     go : (r : Reading) → readSheet s ≡ r → written (charted (readSheet s)) out .size ≤ 20465
     go (refused k) e = rw e (omega arith)
-    go (held p) e = rw e (omega (arith, written-size (bytesOf (chartOf p)) out, bytes-size (chartOf p) .1, chart-size (planOf p) .0, chart-strokes (planOf p), read-counted s p e .0, tree-of (p .n) (p .ds) (read-triangulated s p e) .size))
+    go (held p) e = rw e (omega (arith, written-size (bytesOf (chartOf p)) out, chart-bytes s p e))
 
 -- nor is what Draw says that it wrote
 pub drawn-bytes : (s out after : List ℕ) (r : Written) (k : ℕ) → answered r after ≡ written (drawn s) out → r ≡ Bytes k → k ≤ 20465

@@ -2,3 +2,4 @@ pub mod Answer
 pub mod WithBars
 pub mod Printed
 pub mod Told
+pub mod Program

@@ -1,5 +1,5 @@
 // The operation Draw: the chart of a sheet's part, and its bars in a lent list of records; and the line that the program prints (line.rt).
-// The columns and rows come from the crate drawing, the bytes from chart_writer, the records from bars. specs/Answer.antt says what the operation answers, specs/WithBars.antt how the code's answer stands for that.
+// The columns and rows come from the crate drawing, the bytes from chart_writer, the records from bar_list. specs/Answer.antt says what the operation answers, specs/WithBars.antt how the code's answer stands for that.
 ghost use mathlib.Core.Path.{_≡_};
 ghost use mathlib.Core.List.{List, map};
 ghost use Prim.Native.Nat.{_≤_};
@@ -24,6 +24,7 @@ use sheet::Read;
 use sheet::reader::read_sheet;
 
 pub mod line;
+pub mod program;
 
 // The answer of Draw with the bar list: the length of the chart and the number of its bars, or the number of the refusal.
 pub enum Drawn {

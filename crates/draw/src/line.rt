@@ -16,7 +16,15 @@ use sheet::Read;
 use sheet::reader::read_sheet;
 
 // Writes the line of the part of a head with these counts, rows and columns, and says how long it is.
-pub fn counts_line(h: Head, levels: u16, umbrellas: u16, stems: u16, rows: usize, columns: usize, out: &mut [u8]) -> usize
+pub fn counts_line(
+    h: Head,
+    levels: u16,
+    umbrellas: u16,
+    stems: u16,
+    rows: usize,
+    columns: usize,
+    out: &mut [u8],
+) -> usize
     requires { ⌜ 256 ≤ length (now out) ⌝ }
     ensures { λ r. ⌜ Put (line (told h levels umbrellas stems rows columns)) (now (out .entry)) 0 (now (out .exit)) r ⌝ }
 {
@@ -50,7 +58,8 @@ fn part_line(h: Head, keys: &[u32], out: &mut [u8]) -> usize
 }
 
 // Writes the line of a sheet's part, or of its refusal, and says how long it is.
-pub fn line(sheet: &[u8], out: &mut [u8; 256]) -> usize
+pub fn line(sheet: &[u8], out: &mut [u8]) -> usize
+    requires { ⌜ 256 ≤ length (now out) ⌝ }
     ensures { λ r. ⌜ Put (printed (now (sheet .entry))) (now (out .entry)) 0 (now (out .exit)) r ⌝ }
     ensures { λ r. ⌜ r ≤ 256 ⌝ }
 {

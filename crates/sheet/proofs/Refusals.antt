@@ -1,5 +1,5 @@
 -- Every answer is a finished result or one refusal, by a number of a list; and the numbers that refuse a sheet.
-use mathlib.Core.Path.{refl}
+use mathlib.Core.Path.{_≡_, refl}
 use mathlib.Core.Logic.{inl, inr}
 use mathlib.Core.List.{List, [], _∷_, _++_}
 use Prim.Native.Nat.{ℕ, _≤_, _<_}
@@ -10,7 +10,7 @@ use lib.Seq.{take-append-seam, drop-append-seam}
 use Rattle.polygon.specs.Lists.{Mem, All, numbers}
 use Rattle.polygon.proofs.Lists.{here, there, mem-left, mem-right, all-mem, all-imp, numbers-in}
 use Rattle.codec.specs.Answer.{Outcome, refuse, write, Answer, refusal, whole, fit, written}
-use Rattle.sheet.specs.Sheet.{Reading, ask, readSheet, outcome, ordered}
+use Rattle.sheet.specs.Sheet.{Reading, refused, ask, readSheet, outcome, ordered}
 use Rattle.sheet.specs.Refusals.{sheetTests, RefusedBy, by, holds, Refuses, number, writes, Proper, Finished, Refusal, Settled}
 
 -- the two cases of an answer
@@ -62,3 +62,10 @@ tests-proper = all-imp (λ k h. (omega arith, omega arith)) (numbers-in 7 1)
 pub ordered-settled : (s out : List ℕ) → Settled (sheetTests ++ (8 ∷ [])) (ordered s) out (written (ordered s) out)
 unfolding ordered
 ordered-settled s out = settled _ out tests-proper (outcome-refuses (read-refuses s))
+
+-- so the number of a refusal is not 0
+pub refused-proper : (s : List ℕ) (k : ℕ) → readSheet s ≡ refused k → Proper k
+refused-proper s k e = go (rw e at (read-refuses s))
+  where
+    go : {j : ℕ} → RefusedBy sheetTests (refused j) → Proper j
+    go (by m) = all-mem tests-proper m

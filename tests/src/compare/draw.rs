@@ -56,7 +56,7 @@ fn known_parts(tests: &mut Tests) {
         same_bytes(&[1, 0, 3], &drawn(&[1, 0, 3]), &chart)
     });
     type Bars = &'static [[u8; 3]];
-    let known: [(Corner, &[Pair], Bars); 3] = [
+    let known: [(Corner, &[Pair], Bars); 4] = [
         (4, &[(0, 2)], &[[0, 0, 1], [2, 0, 0], [2, 1, 2], [0, 2, 2]]),
         (
             5,
@@ -67,6 +67,33 @@ fn known_parts(tests: &mut Tests) {
             5,
             &[(1, 4), (1, 3)],
             &[[0, 0, 0], [2, 0, 4], [1, 4, 4], [1, 2, 3], [0, 1, 4]],
+        ),
+        // not document 01's: pieces hung on row 1 and on row 2D
+        (
+            11,
+            &[
+                (0, 3),
+                (0, 9),
+                (1, 3),
+                (3, 6),
+                (3, 9),
+                (4, 6),
+                (6, 8),
+                (6, 9),
+            ],
+            &[
+                [0, 0, 12],
+                [1, 10, 11],
+                [3, 9, 10],
+                [1, 0, 9],
+                [4, 0, 1],
+                [2, 1, 2],
+                [4, 2, 5],
+                [2, 4, 4],
+                [2, 5, 6],
+                [4, 6, 13],
+                [0, 13, 13],
+            ],
         ),
     ];
     for (n, pairs, bars) in known {

@@ -51,25 +51,33 @@ part-line-requires : tie.Need-part-line-requires
 part-line-requires c κs =
     let at-h = c .before .before .before .before in
     let at-read-sheet = at-h .before .before .before in
-    let at-shared-slice-known = at-read-sheet .before .before in
+    let at-shared-slice-known = at-read-sheet .before .before .before in
     let start = at-shared-slice-known .before in
     (read-valid (start .args .sheet .now) _ (all-at 0 (start .args .sheet .now) (λ i h. omega (arith, at-shared-slice-known .shared-slice-known .given i))) (read-held (start .args .sheet .now) (at-read-sheet .read-sheet .result) (at-read-sheet .read-sheet .last .1 .0) (at-h .h .given .0 .0) (at-read-sheet .read-sheet .ensures .0) (at-h .h .given .1)), omega arith)
 
+same-length : tie.Need-same-length
+same-length c = search needs
+
 returns : tie.Need-returns
 returns c =
-    let at-k = c .before .before .before in
+    let at-put-refused = c .before .before in
+    let at-k = at-put-refused .before .before .before in
     let at-read-sheet = at-k .before .before .before in
-    let start = at-read-sheet .before .before .before in
-    let said = rw (refused-line (start .args .sheet .now) _ (read-refused (start .args .sheet .now) (at-read-sheet .read-sheet .result) (at-read-sheet .read-sheet .last .1 .0) _ (at-read-sheet .read-sheet .ensures .0) (at-k .k .given .1))) at (c .put-refused .ensures) in
+    let start = at-read-sheet .before .before .before .before in
+    let said = rw (refused-line (start .args .sheet .now) _ (read-refused (start .args .sheet .now) (at-read-sheet .read-sheet .result) (at-read-sheet .read-sheet .last .1 .0) _ (at-read-sheet .read-sheet .ensures .0) (at-k .k .given .1))) at (at-put-refused .put-refused .ensures) in
     (said, omega (arith, said .end, printed-size (start .args .sheet .now)))
+
+same-length-2 : tie.Need-same-length-2
+same-length-2 c = search needs
 
 returns-2 : tie.Need-returns-2
 returns-2 c =
-    let at-h = c .before .before .before .before .before in
+    let at-part-line = c .before .before in
+    let at-h = at-part-line .before .before .before .before .before in
     let at-read-sheet = at-h .before .before .before in
-    let start = at-read-sheet .before .before .before in
-    let said = rw (held-line (start .args .sheet .now) _ (read-held (start .args .sheet .now) (at-read-sheet .read-sheet .result) (at-read-sheet .read-sheet .last .1 .0) (at-h .h .given .0 .0) (at-read-sheet .read-sheet .ensures .0) (at-h .h .given .1))) at (c .part-line .ensures) in
+    let start = at-read-sheet .before .before .before .before in
+    let said = rw (held-line (start .args .sheet .now) _ (read-held (start .args .sheet .now) (at-read-sheet .read-sheet .result) (at-read-sheet .read-sheet .last .1 .0) (at-h .h .given .0 .0) (at-read-sheet .read-sheet .ensures .0) (at-h .h .given .1))) at (at-part-line .part-line .ensures) in
     (said, omega (arith, said .end, printed-size (start .args .sheet .now)))
 
 pub line-spec : {M : Type 1} → statement M
-line-spec = tie.close (tie.spec slice-aggregate-read-sheet read-sheet-requires enum-known-k cast-put-refused put-refused-requires enum-known-h sub-m array-share-prefix-keys slice-aggregate-part-line part-line-requires returns returns-2)
+line-spec = tie.close (tie.spec slice-aggregate-read-sheet read-sheet-requires enum-known-k cast-put-refused put-refused-requires enum-known-h sub-m array-share-prefix-keys slice-aggregate-part-line part-line-requires same-length returns same-length-2 returns-2)

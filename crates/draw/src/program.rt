@@ -1,0 +1,45 @@
+// What the program bend does with its input: the chart to be saved and the line to be printed. specs/Program.antt says it of the whole input.
+// No sheet is longer than 4,091 bytes, so the first 4,092 bytes of a longer input get the refusal of the whole (`long-input` in the crate sheet).
+ghost use mathlib.Core.Path.{_≡_};
+ghost use mathlib.Core.List.{List};
+ghost use Prim.Native.Nat.{ℕ, _≤_};
+ghost use lib.ListN.{length, take};
+ghost use Rattle.codec.specs.Input.{Begins};
+ghost use Rattle.draw.specs.Program.{output, shown, Within};
+use crate::draw;
+use crate::line::line;
+use codec::Written;
+use codec::least;
+
+// The length of a chart to be saved and that of its line; or that of a refusal's line, with nothing to be saved.
+pub enum Shown {
+    Chart(usize, usize),
+    Refused(usize),
+}
+
+// What is done with a sheet that is the first `end` of the bytes lent.
+fn draw_first(lent: &[u8], end: usize, chart: &mut [u8], text: &mut [u8]) -> Shown
+    requires { ⌜ (end ≤ length (now lent)) × (20465 ≤ length (now chart)) × (256 ≤ length (now text)) ⌝ }
+    ensures done { λ r. ⌜ shown r (now (chart .exit)) (now (text .exit)) ≡ output (take end (now (lent .entry))) ⌝ }
+    ensures within { λ r. ⌜ Within r (now (chart .exit)) (now (text .exit)) ⌝ }
+{
+    let sheet = &lent[..end];
+    let m = line(sheet, text);
+    match draw(sheet, chart) {
+        Written::Refused(_) => Shown::Refused(m),
+        Written::Bytes(k) => Shown::Chart(k, m),
+    }
+}
+
+// What is done with an input, of which the first `size` bytes lent are all, or the first 4,092 bytes if it is longer.
+pub fn draw_input(
+    lent: &[u8; 4092],
+    size: usize,
+    chart: &mut [u8; 20465],
+    text: &mut [u8; 256],
+) -> Shown
+    ensures done { λ r. ⌜ ((input : List ℕ) → Begins (now (lent .entry)) size input → shown r (now (chart .exit)) (now (text .exit)) ≡ output input) ⌝ }
+    ensures within { λ r. ⌜ Within r (now (chart .exit)) (now (text .exit)) ⌝ }
+{
+    draw_first(lent, least(size, 4092), chart, text)
+}
