@@ -1,4 +1,4 @@
--- The normal sheet of a part: its pairs read back, its length, its map byte, and that it consists of bytes.
+-- The normal sheet of a part: its pairs read back, its length and its map byte.
 use mathlib.Core.Path.{_≡_, refl, ap, ap₂, _∙_}
 use mathlib.Core.List.{List, [], _∷_, _++_}
 use mathlib.Core.Option.{Option, none, some}

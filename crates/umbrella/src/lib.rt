@@ -1,2 +1,2 @@
-// Umbrella plans of the pieces of a triangulated polygon. So far this crate is mathematics only.
+// Umbrella plans of the pieces of a triangulated polygon. Mathematics only.
 // specs/ has the definitions, proofs/ the laws; proofs/Theorems.antt is the place to start reading.
