@@ -163,7 +163,7 @@ mod tests {
     use super::*;
     use crate::plan::{Counts, Pieces};
     use crate::random::Random;
-    use crate::shapes::{all_parts, part, Shape, SHAPES};
+    use crate::shapes::{all_parts, part, Shape, HUNG, SHAPES};
 
     /// The triangles that a plan takes, in the order of its umbrellas.
     fn triangles(part: &Part, plan: &Plan) -> Vec<(Corner, Corner, Corner)> {
@@ -206,17 +206,7 @@ mod tests {
         assert_eq!(counts(5, &[(0, 3), (1, 3)]), (1, 1, 1));
         assert_eq!(counts(6, &[(0, 2), (2, 4), (0, 4)]), (1, 1, 1));
         assert_eq!(counts(7, &[(0, 5), (1, 5), (1, 3), (3, 5)]), (2, 2, 0));
-        let hung = [
-            (0, 3),
-            (0, 9),
-            (1, 3),
-            (3, 6),
-            (3, 9),
-            (4, 6),
-            (6, 8),
-            (6, 9),
-        ];
-        assert_eq!(counts(11, &hung), (2, 4, 1));
+        assert_eq!(counts(11, &HUNG), (2, 4, 1));
     }
 
     #[test]

@@ -36,6 +36,19 @@ pub const SHAPES: [Shape; 8] = [
     Shape::Mixed,
 ];
 
+/// The diagonals of a part of 11 corners with pieces hung on row 1 and on row 2D,
+/// which no known part of document 01 has: 2 levels, 4 umbrellas, 1 stem.
+pub const HUNG: [Pair; 8] = [
+    (0, 3),
+    (0, 9),
+    (1, 3),
+    (3, 6),
+    (3, 9),
+    (4, 6),
+    (6, 8),
+    (6, 9),
+];
+
 /// A part of the shape with `n` corners, half of them turned round the outline.
 pub fn part(shape: Shape, n: Corner, random: &mut Random) -> Part {
     let mut pairs = Vec::new();

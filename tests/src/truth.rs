@@ -146,7 +146,7 @@ mod tests {
     use crate::plan::Pieces;
     use crate::random::Random;
     use crate::search::plans;
-    use crate::shapes::{all_parts, part, SHAPES};
+    use crate::shapes::{all_parts, part, HUNG, SHAPES};
 
     /// The bars of the chart, each as row, left and right column.
     fn bars(n: u16, pairs: &[Pair]) -> Vec<(u16, u16, u16)> {
@@ -174,18 +174,8 @@ mod tests {
             bars(5, &[(1, 4), (1, 3)]),
             [(0, 0, 0), (2, 0, 4), (1, 4, 4), (1, 2, 3), (0, 1, 4)]
         );
-        let hung = [
-            (0, 3),
-            (0, 9),
-            (1, 3),
-            (3, 6),
-            (3, 9),
-            (4, 6),
-            (6, 8),
-            (6, 9),
-        ];
         assert_eq!(
-            bars(11, &hung),
+            bars(11, &HUNG),
             [
                 (0, 0, 12),
                 (1, 10, 11),

@@ -1,5 +1,5 @@
-// The chart's file. The chart is written to a new file with a name of its own, flushed to the disk and renamed, so that nobody ever sees half a chart
-// or another run's. The new file is made exclusively: a file or a link that has its name is left alone, and another name is tried. It is removed on every failure.
+// The chart's file. The chart is written to a new file with a name of its own, flushed to the disk and renamed, so that nobody ever sees half a chart.
+// The new file is made exclusively: a file or a link that has its name is left alone, and another name is tried. It is removed on every failure.
 // What the system refuses is said on standard error.
 
 // Puts a letter for each of the random bytes at the end of the name.

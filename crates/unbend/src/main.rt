@@ -1,4 +1,5 @@
-// The program: reads a chart on standard input and prints what it shows, in words, or the line of its refusal. What is printed is `describe_input`'s, in the crate chart_text.
+// The program: reads a chart on standard input and prints what it shows, in words, or the line of its refusal.
+// What is printed is `describe_input`'s, in the crate chart_text.
 // What the system refuses is said on standard error; then nothing is printed.
 use console::Input;
 

@@ -11,7 +11,7 @@ use bend_tests::draw::{chart, chart_of, draw_sheet};
 use bend_tests::part::{Corner, Pair, Part};
 use bend_tests::random::Random;
 use bend_tests::search::plan_drawn;
-use bend_tests::shapes::{part, SHAPES};
+use bend_tests::shapes::{part, HUNG, SHAPES};
 use bend_tests::sheet;
 use bend_tests::truth::{fills_columns, is_true};
 
@@ -71,16 +71,7 @@ fn known_parts(tests: &mut Tests) {
         // not document 01's: pieces hung on row 1 and on row 2D
         (
             11,
-            &[
-                (0, 3),
-                (0, 9),
-                (1, 3),
-                (3, 6),
-                (3, 9),
-                (4, 6),
-                (6, 8),
-                (6, 9),
-            ],
+            &HUNG,
             &[
                 [0, 0, 12],
                 [1, 10, 11],
