@@ -169,6 +169,11 @@ ends 'a line' 0 "$said" "$bend" <"$sheet"
 ends 'a text' 0 "$(bytes "$square" | "$unbend")" "$unbend" <bend.chart
 ends 'a refusal' 1 'refused 7' "$bend" <"$root/samples/crossing.sheet"
 ends 'a refused chart' 1 'refused 14' "$unbend" <"$sheet"
+
+# an input that comes in pieces is read to its end
+pieces() { head -c 2 "$1"; sleep 0.1; tail -c +3 "$1" | head -c 7; sleep 0.1; tail -c +10 "$1"; }
+is 'a sheet in pieces' "$(pieces "$sheet" | "$bend")" "$said"
+is 'a chart in pieces' "$(pieces bend.chart | "$unbend" | tail -n 1)" "$("$unbend" <bend.chart | tail -n 1)"
 rm bend.chart
 
 # a read that fails, and an input that is closed, are no refusals: nothing is printed, nothing is written
