@@ -26,28 +26,35 @@ use Rattle.draw.specs.declared.program.Shown.{Shown}
 use Rattle.draw.specs.declared.program.Shown.the-variants as shown
 use Rattle.draw.specs.Answer.{charted, drawn}
 use Rattle.draw.specs.Printed.{printed}
-use Rattle.draw.specs.Program.{savedOf, outputOf, output, Within}
+use Rattle.draw.specs.Program.{savedOf, outputOf, output, Lengths}
 use Rattle.draw.proofs.Size.{chart-bytes}
 use Rattle.draw.proofs.Lines.{printed-size}
 
--- as much as shows that an input is longer than any sheet shows what is done with it
-begins-read : (s : List ℕ) → readSheet (take 4092 s) ≡ readSheet s
-begins-read s = go (decLe 4092 (length s))
+-- what the first n bytes of any longer input settle, the bytes that were read of an input settle, if n are lent
+pub begins-settles : {A : Type 0} (f : List ℕ → A) (n : ℕ) → ((s : List ℕ) → n ≤ length s → f (take n s) ≡ f s)
+    → (lent input : List ℕ) (size : ℕ) → length lent ≡ n → Begins lent size input → f (take (min size n) lent) ≡ f input
+begins-settles {A} f n long lent input size h b = ap f (begins-take lent input size n h b) ∙ go (decLe n (length input))
   where
-    go : Dec (4092 ≤ length s) → readSheet (take 4092 s) ≡ readSheet s
-    go (yes h) = long-input s h
-    go (no h) = ap readSheet (take-all 4092 s (omega arith))
+    go : Dec (n ≤ length input) → f (take n input) ≡ f input
+    go (yes l) = long input l
+    go (no l) = ap f (take-all n input (omega arith))
 
-pub begins-output : (lent input : List ℕ) (size : ℕ) → length lent ≡ 4092 → Begins lent size input → output (take (min size 4092) lent) ≡ output input
+pub begins-output : (lent input : List ℕ) (size : ℕ) → length lent ≡ 4092 → Begins lent size input → (chart text : List ℕ) → output (take (min size 4092) lent) chart text ≡ output input chart text
 unfolding output
-begins-output lent input size h b = ap outputOf (ap readSheet (begins-take lent input size 4092 h b) ∙ begins-read input)
+begins-output lent input size h b chart text = ap (λ (r : Reading). outputOf r chart text) (begins-settles readSheet 4092 long-input lent input size h b)
 
--- the line that was written
-pub line-front : (s : List ℕ) {o₀ o₁ : List ℕ} {r : ℕ} → 256 ≤ length o₀ → Put (printed s) o₀ 0 o₁ r → take r o₁ ≡ printed s
-line-front s {o₀} h p =
-    let l : length (printed s) ≤ length o₀ = omega (arith, printed-size s) in
-    let e : length (printed s) ≡ 0 + length (printed s) = omega arith in
-    rw (p .end, p .bytes, sets-front (printed s) o₀ l) (take-at (printed s) _ _ e)
+-- the line that was written, and the bytes lent for it
+module _ (s : List ℕ) {o₀ o₁ : List ℕ} {r : ℕ} (room : 256 ≤ length o₀) (p : Put (printed s) o₀ 0 o₁ r) where
+  bytes-now : o₁ ≡ whole (printed s) o₀ .bytes
+  bytes-now = p .bytes ∙ sets-front (printed s) o₀ (omega (arith, printed-size s))
+
+  pub line-front : take r o₁ ≡ printed s
+  line-front =
+      let e : length (printed s) ≡ 0 + length (printed s) = omega arith in
+      rw (p .end, bytes-now) (take-at (printed s) _ _ e)
+
+  pub line-lent : o₁ ≡ written (write (printed s)) o₀ .bytes
+  line-lent = rw (written-fits (printed s) o₀ (omega (arith, printed-size s))) bytes-now
 
 -- the chart that was written, or none
 module _ (s out after : List ℕ) (r : Written) (k : ℕ) (fits : 20465 ≤ length out) (e : answered r after ≡ written (drawn s) out) where
@@ -75,12 +82,14 @@ module _ (s out after : List ℕ) (r : Written) (k : ℕ) (fits : 20465 ≤ leng
           let bytes : after ≡ whole (bytesOf (chartOf p)) out .bytes = ap (λ (x : Answer). x .bytes) (a ∙ w) in
           rw (q, size, bytes, take-append-seam (bytesOf (chartOf p)) _)
 
-pub output-is : (s : List ℕ) {saved : Option (List ℕ)} {line : List ℕ} → savedOf (readSheet s) ≡ saved → line ≡ printed s → record { saved = saved; line = line } ≡ output s
-unfolding output outputOf printed
-output-is s e f = λ i. record { saved = sym e i; line = f i }
+-- a chart or none, a line, and the bytes lent for them
+pub output-is : (s chart text : List ℕ) {saved : Option (List ℕ)} {line after said : List ℕ} → savedOf (readSheet s) ≡ saved → line ≡ printed s
+    → after ≡ written (drawn s) chart .bytes → said ≡ written (write (printed s)) text .bytes → record { saved = saved; line = line; chart = after; text = said } ≡ output s chart text
+unfolding output outputOf printed drawn
+output-is s chart text e f g h = λ i. record { saved = sym e i; line = f i; chart = g i; text = h i }
 
 -- what the code answers lies within the lent bytes
-module _ (r : Shown) (chart text : List ℕ) (w : Within r chart text) where
+module _ (r : Shown) (chart text : List ℕ) (w : Lengths r chart text) where
   pub chart-within : (k m : ℕ) → r ≡ shown.Chart k m → (k ≤ length chart) × (m ≤ length text)
   chart-within k m e = rw e at w
 

@@ -5,7 +5,7 @@ ghost use mathlib.Core.List.{List};
 ghost use Prim.Native.Nat.{ℕ, _≤_};
 ghost use lib.ListN.{length, take};
 ghost use Rattle.codec.specs.Input.{Begins};
-ghost use Rattle.draw.specs.Program.{output, shown, Within};
+ghost use Rattle.draw.specs.Program.{output, shown, Lengths};
 use crate::draw;
 use crate::line::line;
 use codec::Written;
@@ -20,8 +20,9 @@ pub enum Shown {
 // What is done with a sheet that is the first `end` of the bytes lent.
 fn draw_first(lent: &[u8], end: usize, chart: &mut [u8], text: &mut [u8]) -> Shown
     requires { ⌜ (end ≤ length (now lent)) × (20465 ≤ length (now chart)) × (256 ≤ length (now text)) ⌝ }
-    ensures done { λ r. ⌜ shown r (now (chart .exit)) (now (text .exit)) ≡ output (take end (now (lent .entry))) ⌝ }
-    ensures within { λ r. ⌜ Within r (now (chart .exit)) (now (text .exit)) ⌝ }
+    ensures done { λ r. ⌜ shown r (now (chart .exit)) (now (text .exit))
+        ≡ output (take end (now (lent .entry))) (now (chart .entry)) (now (text .entry)) ⌝ }
+    ensures within { λ r. ⌜ Lengths r (now (chart .exit)) (now (text .exit)) ⌝ }
 {
     let sheet = &lent[..end];
     let m = line(sheet, text);
@@ -38,8 +39,9 @@ pub fn draw_input(
     chart: &mut [u8; 20465],
     text: &mut [u8; 256],
 ) -> Shown
-    ensures done { λ r. ⌜ ((input : List ℕ) → Begins (now (lent .entry)) size input → shown r (now (chart .exit)) (now (text .exit)) ≡ output input) ⌝ }
-    ensures within { λ r. ⌜ Within r (now (chart .exit)) (now (text .exit)) ⌝ }
+    ensures done { λ r. ⌜ ((input : List ℕ) → Begins (now (lent .entry)) size input
+        → shown r (now (chart .exit)) (now (text .exit)) ≡ output input (now (chart .entry)) (now (text .entry))) ⌝ }
+    ensures within { λ r. ⌜ Lengths r (now (chart .exit)) (now (text .exit)) ⌝ }
 {
     draw_first(lent, least(size, 4092), chart, text)
 }

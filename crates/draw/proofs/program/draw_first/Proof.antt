@@ -4,8 +4,9 @@ use mathlib.Core.Path.{sym}
 use native.Mathlib.Omega.{arith}
 use lib.ListN.{take}
 use lib.Seq.{length-take-le}
+use Rattle.codec.proofs.Answers.{bytes-left}
 use Rattle.draw.proofs.Size.{drawn-bytes}
-use Rattle.draw.proofs.Inputs.{line-front, none-saved, chart-saved, output-is}
+use Rattle.draw.proofs.Inputs.{line-front, line-lent, none-saved, chart-saved, output-is}
 use Rattle.draw.proofs.program.draw_first.Statement.{statement}
 use Rattle.draw.proofs.program.draw_first.Tie as tie
 
@@ -38,7 +39,8 @@ returns c =
     let at-line = at-draw .before .before .before .before in
     let start = at-line .before .before .before .before .before .before in
     let s = take (start .args .end) (start .args .lent .now) in (
-      output-is s (none-saved s _ _ (at-draw .draw .result) _ (start .pre .1) (at-draw .draw .ensures) (c .enum-told .given .1)) (line-front s (start .pre .2) (at-line .line .ensures .0)),
+      output-is s _ _ (none-saved s _ _ (at-draw .draw .result) _ (start .pre .1) (at-draw .draw .ensures) (c .enum-told .given .1)) (line-front s (start .pre .2) (at-line .line .ensures .0))
+          (bytes-left (at-draw .draw .result) _ (at-draw .draw .ensures)) (line-lent s (start .pre .2) (at-line .line .ensures .0)),
       omega (arith, at-line .line .ensures .1, at-line .line .kept .1 .0, start .pre),
     )
 
@@ -55,7 +57,8 @@ returns-2 c =
     let at-line = at-draw .before .before .before .before in
     let start = at-line .before .before .before .before .before .before in
     let s = take (start .args .end) (start .args .lent .now) in (
-      output-is s (chart-saved s _ _ (at-draw .draw .result) _ (start .pre .1) (at-draw .draw .ensures) (at-k .k .given .1)) (line-front s (start .pre .2) (at-line .line .ensures .0)),
+      output-is s _ _ (chart-saved s _ _ (at-draw .draw .result) _ (start .pre .1) (at-draw .draw .ensures) (at-k .k .given .1)) (line-front s (start .pre .2) (at-line .line .ensures .0))
+          (bytes-left (at-draw .draw .result) _ (at-draw .draw .ensures)) (line-lent s (start .pre .2) (at-line .line .ensures .0)),
       (omega (arith, drawn-bytes s _ _ (at-draw .draw .result) _ (at-draw .draw .ensures) (at-k .k .given .1), at-draw .draw .kept .1 .0, start .pre), omega (arith, at-line .line .ensures .1, at-line .line .kept .1 .0, start .pre)),
     )
 

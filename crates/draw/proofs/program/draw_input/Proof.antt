@@ -1,8 +1,11 @@
 -- What is done with the first bytes of an input is done with the input (`begins-output` of Inputs.antt).
 use borrow.Author.Needs.{needs}
-use mathlib.Core.Path.{_∙_, ap}
+use mathlib.Core.Path.{_≡_, _∙_, ap}
+use mathlib.Core.List.{List}
+use Prim.Native.Nat.{ℕ}
 use native.Mathlib.Omega.{arith}
 use lib.ListN.{take}
+use Rattle.codec.specs.Input.{Begins}
 use Rattle.draw.specs.Program.{output}
 use Rattle.draw.proofs.Inputs.{begins-output}
 use Rattle.draw.proofs.program.draw_input.Statement.{statement}
@@ -19,7 +22,11 @@ returns c =
     let at-least = c .before .before .before in
     let start = at-least .before .before in
     let lent = start .args .lent .now in
-    (λ input b. c .draw-first .ensures .0 ∙ (ap (λ k. output (take k lent)) (at-least .least .ensures) ∙ begins-output lent input (start .args .size) (omega arith) b), c .draw-first .ensures .1)
+    let chart = start .args .chart .now in
+    let text = start .args .text .now in
+    let done : (input : List ℕ) → Begins lent (start .args .size) input → output (take (at-least .least .result) lent) chart text ≡ output input chart text =
+    λ input b. ap (λ (k : ℕ). output (take k lent) chart text) (at-least .least .ensures) ∙ begins-output lent input (start .args .size) (omega arith) b chart text in
+    (λ input b. c .draw-first .ensures .0 ∙ done input b, c .draw-first .ensures .1)
 
 pub draw-input-spec : {M : Type 1} → statement M
 draw-input-spec = tie.close (tie.spec least-requires draw-first-requires returns)
