@@ -17,7 +17,7 @@ use Rattle.umbrella.specs.Plan.{Plan, levels, umbrellas, stems}
 use Rattle.umbrella.specs.Occurs.{times, occurs}
 use Rattle.umbrella.proofs.Occurs.{times-yes, mem-occurs, occurs-mem, occurs-once}
 use Rattle.chart.specs.Places.{cols, rows}
-use Rattle.chart.specs.Edges.{edges}
+use Rattle.polygon.specs.Edges.{edges}
 use Rattle.chart.specs.Chart.{Stroke, level, upright, strokeEdge, stroke, layout, chart, Touching, True}
 use Rattle.chart.proofs.Lists.{mem-map}
 use Rattle.chart.proofs.Nth.{Nth, now, next, nth-mem, nth-at, nth-same}
@@ -28,7 +28,7 @@ use Rattle.chart.proofs.Umbrella.{Drawn}
 use Rattle.chart.proofs.Draw.{draws}
 use Rattle.chart.proofs.Width.{width}
 use Rattle.chart.proofs.EachEdge.{each-drawn}
-use Rattle.chart.proofs.Edges.{edges-in, edges-ascending, edges-count}
+use Rattle.polygon.proofs.Edges.{edges-in, edges-ascending, edges-count}
 use Rattle.chart.proofs.Truth.{truth, touching}
 
 -- an element that stands once in a list stands at one place

@@ -11,7 +11,7 @@ use Rattle.umbrella.specs.Plan.{Plan, none, plain, stemLeft, stemRight, LeftRim
 use Rattle.umbrella.specs.Occurs.{times, occurs}
 use Rattle.umbrella.proofs.Occurs.{occurs-append, occurs-reverse}
 use Rattle.chart.specs.Places.{cols, leftCols, rightCols, leftGateCols, rightGateCols, stemCols, backCols}
-use Rattle.chart.specs.Edges.{edges, edgesAt, edgesPast}
+use Rattle.polygon.specs.Edges.{edges, edgesAt, edgesPast}
 use Rattle.chart.proofs.Flats.{flats, leftFlats, rightFlats, leftGateFlats, rightGateFlats, stemFlats, backFlats}
 
 plus-one : (p : ℕ) → p + 1 ≡ suc p

@@ -6,7 +6,6 @@ pub mod Lists
 pub mod Nth
 pub mod Hull
 pub mod Strokes
-pub mod Edges
 pub mod Cells
 pub mod Runs
 pub mod Labels

@@ -16,7 +16,7 @@ use Rattle.chart.specs.Places.{cols}
 use Rattle.chart.specs.Chart.{upright, level, chart, chartOf, Touching, True, Shows}
 use Rattle.chart.specs.Pieces.{RootBars, EveryPiece}
 use Rattle.chart.specs.Bytes.{Fits}
-use Rattle.chart.proofs.Edges.{edges-linked, edges-ascending}
+use Rattle.polygon.proofs.Edges.{edges-linked, edges-ascending}
 use Rattle.chart.proofs.Charts.{chart-true, chart-touching, chart-size, chart-edges, chart-strokes, chart-named}
 use Rattle.chart.proofs.Fits.{chart-fits}
 use Rattle.chart.proofs.Pieces.{piece-bars}

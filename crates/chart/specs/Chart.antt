@@ -12,7 +12,7 @@ use Rattle.polygon.specs.Tree.{Tree, span}
 use Rattle.umbrella.specs.Plan.{Plan, levels}
 use Rattle.umbrella.specs.Best.{planOf}
 use Rattle.chart.specs.Places.{cols, rows}
-use Rattle.chart.specs.Edges.{edges}
+use Rattle.polygon.specs.Edges.{edges}
 
 -- the horizontal segment of a corner: its row, its first and its last column
 pub record Bar : Type 0 where

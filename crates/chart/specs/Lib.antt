@@ -1,5 +1,4 @@
 pub mod Places
-pub mod Edges
 pub mod Chart
 pub mod Bytes
 pub mod Pieces

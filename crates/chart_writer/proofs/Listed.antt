@@ -12,8 +12,8 @@ use Rattle.polygon.proofs.TreeTheorem.{tree-of}
 use Rattle.keys.specs.Keys.{edgeOf, edgesOf}
 use Rattle.keys.proofs.InOrder.{ascends-sorted, edges-ascend}
 use Rattle.keys.proofs.Crosses.{at-all}
-use Rattle.chart.specs.Edges.{edges}
-use Rattle.chart.proofs.Edges.{edges-in, edges-ascending}
+use Rattle.polygon.specs.Edges.{edges}
+use Rattle.polygon.proofs.Edges.{edges-in, edges-ascending}
 use Rattle.chart_writer.specs.Tables.{Rising, Keyed, Drawn}
 use Rattle.chart_writer.proofs.Placing.{same-key}
 

@@ -18,8 +18,8 @@ use Rattle.keys.specs.Keys.{keyOf, edgeOf, edgesOf}
 use Rattle.keys.specs.Sort.{ascends, sortKeys, merge}
 use Rattle.keys.proofs.Merge.{merge-sorts}
 use Rattle.keys.proofs.InOrder.{edge-of-key, sort-edges, ascends-same, edges-ascend}
-use Rattle.chart.specs.Edges.{edges}
-use Rattle.chart.proofs.Edges.{edges-linked, edges-ascending}
+use Rattle.polygon.specs.Edges.{edges}
+use Rattle.polygon.proofs.Edges.{edges-linked, edges-ascending}
 use Rattle.chart.proofs.Lists.{mem-map}
 use Rattle.chart_writer.proofs.Below.{take-below}
 

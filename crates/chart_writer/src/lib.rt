@@ -9,7 +9,7 @@ ghost use Rattle.polygon.specs.Polygon.{Triangulated};
 ghost use Rattle.polygon.specs.Tree.{treeOf};
 ghost use Rattle.codec.specs.Answer.{answered, written, write};
 ghost use Rattle.keys.specs.Keys.{edgesOf};
-ghost use Rattle.chart.specs.Edges.{edges};
+ghost use Rattle.polygon.specs.Edges.{edges};
 ghost use Rattle.chart.specs.Chart.{layout};
 ghost use Rattle.chart.specs.Bytes.{bytesOf};
 ghost use Rattle.chart_writer.specs.Tables.{Rising, Keyed, Drawn, RowsAre};

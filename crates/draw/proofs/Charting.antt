@@ -18,7 +18,7 @@ use Rattle.umbrella.specs.Best.{best}
 use Rattle.umbrella.proofs.Occurs.{mem-occurs, occurs-mem}
 use Rattle.umbrella.proofs.Theorems.{umbrellas-bound}
 use Rattle.chart.specs.Places.{cols, rows}
-use Rattle.chart.specs.Edges.{edges}
+use Rattle.polygon.specs.Edges.{edges}
 use Rattle.chart.specs.Chart.{layout, chart}
 use Rattle.chart.specs.Bytes.{bytesOf}
 use Rattle.chart.proofs.EachEdge.{each-drawn}

@@ -6,6 +6,7 @@ pub mod Chords
 pub mod Every
 pub mod TreeOf
 pub mod TreeTheorem
+pub mod Edges
 pub mod Triangle
 pub mod Piece
 pub mod PieceTheorem

@@ -2,3 +2,4 @@ pub mod Lists
 pub mod Polygon
 pub mod Order
 pub mod Tree
+pub mod Edges

@@ -14,7 +14,7 @@ use Rattle.umbrella.specs.Numbers.{ud}
 use Rattle.umbrella.specs.Best.{best, umbrella, leftAt, rightAt, stemAt, over-node}
 use Rattle.plan.specs.Answer.{answer, planned}
 use Rattle.chart.specs.Places.{cols, rows}
-use Rattle.chart.specs.Edges.{edges, edgesAt, edgesPast}
+use Rattle.polygon.specs.Edges.{edges, edgesAt, edgesPast}
 use Rattle.chart.specs.Chart.{barsOf, meets?, first, last, stroke, layout, chart, chartOf}
 use Rattle.chart.specs.Bytes.{barBytes, strokeBytes, bytesOf}
 use Rattle.log_line.specs.Line.{digits, decimal, numberWord, line, refusedLine}

@@ -1,5 +1,5 @@
 -- The edges of a piece: they ascend, they are its sides and its chords, and so many; and the edges of a polygon's tree are the polygon's sides and diagonals.
--- Rests on the chords of a piece in crate polygon.
+-- Rests on Chords.antt.
 use mathlib.Core.Path.{_≡_, refl, sym, ap, subst}
 use mathlib.Core.Logic.{_⊎_, inl, inr, _↔_}
 use mathlib.Core.List.{List, [], _∷_, _++_}
@@ -7,22 +7,22 @@ use Prim.Native.Nat.{ℕ, suc, _+_, _*_, _≤_, _<_}
 use native.Mathlib.Decide.{decLt}
 use native.Mathlib.Omega.{arith}
 use lib.ListN.{length, length-append}
 use Rattle.polygon.specs.Lists.{Mem, head, All, all-nil, all-cons, sorted-nil, sorted-cons}
 use Rattle.polygon.specs.Polygon.{Edge, _—_, Ascending, Linked}
 use Rattle.polygon.specs.Tree.{Tree, leaf, node, span, chordsAt, chordsPast, chords, inner}
 use Rattle.polygon.proofs.Lists.{all-append, all-left, all-right, all-imp, all-mem, all-self, sorted-append}
 use Rattle.polygon.proofs.Order.{edge, low-of, high-of}
 use Rattle.polygon.proofs.Chords.{span-pos, all-node, InPieces, node-cases, inner-left, inner-right, inner-chords, root-in}
 use Rattle.polygon.proofs.TreeTheorem.{TreeIs}
-use Rattle.chart.specs.Edges.{edges, edgesAt, edgesPast}
+use Rattle.polygon.specs.Edges.{edges, edgesAt, edgesPast}
 
 -- where they lie
-at-in : (u : ℕ) (t : Tree) → All (λ e. (e .0 ≡ u) × (u < e .1) × (e .1 ≤ u + span t)) (edgesAt u t)
+pub at-in : (u : ℕ) (t : Tree) → All (λ e. (e .0 ≡ u) × (u < e .1) × (e .1 ≤ u + span t)) (edgesAt u t)
 unfolding edgesAt chordsAt span
 at-in u leaf = all-cons {x = u — suc u} (omega arith) all-nil
 at-in u (node l r) = all-append (all-imp (λ e h. omega arith) (at-in u l)) (all-cons {x = u — (u + (span l + span r))} (omega (arith, span-pos l)) all-nil)
 
-past-in : (u : ℕ) (t : Tree) → All (λ e. (u < e .0) × (e .0 < e .1) × (e .1 ≤ u + span t)) (edgesPast u t)
+pub past-in : (u : ℕ) (t : Tree) → All (λ e. (u < e .0) × (e .0 < e .1) × (e .1 ≤ u + span t)) (edgesPast u t)
 unfolding edgesPast span
 past-in u leaf = all-nil
 past-in u (node l r) =

@@ -1,0 +1,41 @@
+-- The table that the code fills shows the tree of the whole part.
+use mathlib.Core.Path.{_≡_, refl, sym, _∙_, ap, subst}
+use mathlib.Core.List.{List}
+use Prim.Native.Nat.{ℕ, suc, _+_, _*_, _-_, _≤_, _<_}
+use native.Mathlib.Omega.{arith}
+use lib.ListN.{length, take, getD, length-map, List·getD-map}
+use lib.Seq.{getD-take, length-take-le}
+use Rattle.polygon.specs.Polygon.{Edge, _—_, Triangulated}
+use Rattle.polygon.specs.Edges.{edges}
+use Rattle.polygon.specs.Tree.{Tree, span, treeOf}
+use Rattle.polygon.proofs.Edges.{edges-in, edges-count}
+use Rattle.polygon.proofs.TreeTheorem.{tree-of}
+use Rattle.keys.specs.Keys.{edgeOf, edgesOf}
+use Rattle.tree.specs.declared.Piece.{Piece}
+use Rattle.tree.specs.Shows.{edgeAt, Lasts, Whole}
+use Rattle.tree.proofs.Listing.{edge-at}
+use Rattle.tree.proofs.ShowsTree.{shows-all}
+
+module _ (n : ℕ) (ks : List ℕ) (P : Triangulated n (edgesOf ks)) (small : n ≤ 1024) (tr : List ℕ) (room : length tr ≡ 3072) (E : edgesOf (take (2 * n - 3) tr) ≡ edges 0 (treeOf n (edgesOf ks))) where
+  abbrev t : Tree
+  t = treeOf n (edgesOf ks)
+
+  size : span t + 1 ≡ n
+  size = omega (arith, tree-of n (edgesOf ks) P .size, P .full)
+
+  -- the keys are of edges of at most 1,024 corners
+  pub keyed : (j : ℕ) → j < 2 * n - 3 → getD tr j 0 < 1047552
+  keyed j h =
+      let b = edge-at {Q = λ e. (0 ≤ e .0) × (e .0 < e .1) × (e .1 ≤ 0 + span t)} (take (2 * n - 3) tr) (rw E (edges-in 0 t)) j (omega (arith, length-take-le (2 * n - 3) tr (omega arith))) in
+      omega (arith, b, size, getD-take (2 * n - 3) tr j 0 h)
+
+  stands : (i : ℕ) → i < length (edges 0 t) → edgeAt tr i ≡ getD (edges 0 t) i (0 — 0)
+  stands i h =
+      ap edgeOf (sym (getD-take (2 * n - 3) tr i 0 (omega (arith, edges-count 0 t, size))))
+      ∙ (sym (List·getD-map edgeOf (take (2 * n - 3) tr) i 0) ∙ ap (λ (l : List Edge). getD l i (0 — 0)) E)
+
+  pub whole : Lasts (2 * n - 3) tr → (e : ℕ) → e ≡ getD tr 2048 0 → Whole n t tr (record { e = e; u = 0; v = n - 1 })
+  whole f e q = record { lower = refl; upper = refl; shows = rw (q, v) (shows-all (2 * n - 3) tr (omega arith) f t (omega (arith, size)) (omega (arith, edges-count 0 t, size)) stands) }
+    where
+      v : n - 1 ≡ 0 + span t
+      v = omega (arith, size)

@@ -1,0 +1,13 @@
+-- The sides of a part as keys.
+use mathlib.Core.List.{List, map}
+use Prim.Native.Nat.{ℕ, suc}
+use Rattle.polygon.specs.Lists.{below}
+use Rattle.polygon.specs.Polygon.{_—_}
+use Rattle.keys.specs.Keys.{keyOf}
+
+-- the key of (i,i+1), and those of the first k sides
+abbrev pub side : ℕ → ℕ
+side i = keyOf (i — suc i)
+
+abbrev pub sides : ℕ → List ℕ
+sides k = map side (below k)

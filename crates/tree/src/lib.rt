@@ -1,0 +1,87 @@
+// The tree of a part in one table: all its edges ascending, and for each corner the place of its last edge. A piece is the place of its root edge and its two corners.
+// In that order the edge (u,c) of a triangle (u,c,v) stands just before (u,v), and (c,v) is the last edge of c; so a piece is opened by two reads.
+// specs/Shows.antt says what the table shows; edges.rt lists the edges.
+ghost use mathlib.Core.Path.{_≡_};
+ghost use Prim.Native.Nat.{ℕ, _+_, _*_, _-_, _<_, _≤_};
+ghost use lib.ListN.{length, take, getD};
+ghost use Rattle.polygon.specs.Polygon.{Triangulated};
+ghost use Rattle.polygon.specs.Edges.{edges};
+ghost use Rattle.polygon.specs.Tree.{treeOf};
+ghost use Rattle.keys.specs.Keys.{edgesOf};
+ghost use Rattle.tree.specs.Shows.{Shown, beyond, Lasts, Whole};
+use crate::edges::list_edges;
+use keys::low;
+
+pub mod edges;
+
+// The place of the last edges: that of corner c stands at LAST + c.
+pub const LAST: usize = 2048;
+
+// How many places the table has.
+pub const PLACES: usize = 3072;
+
+// The piece on the corners u to v, whose root edge stands at e.
+pub struct Piece {
+    pub e: u16,
+    pub u: u16,
+    pub v: u16,
+}
+
+// The pieces beyond the other two edges of a piece's triangle.
+pub struct Two {
+    pub left: Piece,
+    pub right: Piece,
+}
+
+// Opens a piece that is no side.
+pub fn open(tree: &[u32; PLACES], p: Piece) -> Two
+    requires shown { ⌜ Shown (now tree) p ⌝ }
+    requires apart { ⌜ p .u + 1 < p .v ⌝ }
+    ensures { λ r. ⌜ r ≡ beyond (now (tree .entry)) p ⌝ }
+{
+    let e = p.e as usize;
+    let c = tree[e - 1] % 1024;
+    let r = tree[LAST + c as usize];
+    let left = Piece {
+        e: p.e - 1,
+        u: p.u,
+        v: c as u16,
+    };
+    let right = Piece {
+        e: r as u16,
+        u: c as u16,
+        v: p.v,
+    };
+    Two { left, right }
+}
+
+// Stores the place of each corner's last edge.
+fn place_lasts(tree: &mut [u32], m: usize)
+    requires { ⌜ (m ≤ 2045) × (length (now tree) ≡ 3072) × ((j : ℕ) → j < m → getD (now tree) j 0 < 1048576) ⌝ }
+    ensures edges { λ _. ⌜ take m (now (tree .exit)) ≡ take m (now (tree .entry)) ⌝ }
+    ensures lasts { λ _. ⌜ Lasts m (now (tree .exit)) ⌝ }
+{
+    let mut j = 0;
+    while j < m {
+        let c = low(tree[j]);
+        tree[LAST + c] = j as u32;
+        j += 1;
+    }
+}
+
+// Fills the table from the keys of a part's diagonals, and gives the whole part.
+pub fn build(keys: &[u32], n: usize, tree: &mut [u32]) -> Piece
+    requires part { ⌜ Triangulated n (edgesOf (now keys)) × (n ≤ 1024) ⌝ }
+    requires room { ⌜ length (now tree) ≡ 3072 ⌝ }
+    ensures edges { λ _. ⌜ edgesOf (take (2 * n - 3) (now (tree .exit))) ≡ edges 0 (treeOf n (edgesOf (now (keys .entry)))) ⌝ }
+    ensures whole { λ r. ⌜ Whole n (treeOf n (edgesOf (now (keys .entry)))) (now (tree .exit)) r ⌝ }
+{
+    let m = 2 * n - 3;
+    list_edges(keys, n, tree);
+    place_lasts(tree, m);
+    Piece {
+        e: tree[LAST] as u16,
+        u: 0,
+        v: (n - 1) as u16,
+    }
+}
