@@ -32,6 +32,10 @@ module _ {tr : List ℕ} where
   ends (side h k p q) = p
   ends (triangle i h k q x y) = omega (arith, ends x, ends y)
 
+  pub corners : {e u v : ℕ} {t : Tree} → Shows tr e u v t → (u < v) × (v < 1024)
+  corners (side h k p q) = (omega arith, k)
+  corners (triangle {l = l} {r = r} i h k q x y) = (omega (arith, ends x, ends y, span-pos l, span-pos r), k)
+
   pub inside : {e u v : ℕ} {t : Tree} → Shows tr e u v t → e < 2045
   inside (side h k p q) = h
   inside (triangle i h k q x y) = h
@@ -58,12 +62,12 @@ module _ {tr : List ℕ} where
     top = k;
   }
 
-  pub closed : {e u v : ℕ} {t : Tree} → Shows tr e u v t → (u + 1 < v → ⊥) → t ≡ leaf
+  pub closed : {e u v : ℕ} {t : Tree} → Shows tr e u v t → v ≤ u + 1 → t ≡ leaf
   closed (side h k p q) a = refl
-  closed (triangle {l = l} {r = r} i h k q x y) a = absurd (a (omega (arith, ends x, ends y, span-pos l, span-pos r)))
+  closed (triangle {l = l} {r = r} i h k q x y) a = absurd (omega (arith, ends x, ends y, span-pos l, span-pos r))
 
   same : {e u v u′ v′ : ℕ} {t t′ : Tree} → v ≡ v′ → Shows tr e u v t → Shows tr e u′ v′ t′ → t ≡ t′
-  same w (side h k p q) s = sym (closed s (λ a. omega (arith, low-of q, low-of (at-edge s))))
+  same w (side h k p q) s = sym (closed s (omega (arith, low-of q, low-of (at-edge s))))
   same w (triangle {l = l} {r = r} i h k q x y) s =
       let d = opened s (omega (arith, ends x, ends y, span-pos l, span-pos r, low-of q, low-of (at-edge s))) in
       ap₂ node (same refl x (d .shows-l)) (same w y (d .shows-r)) ∙ sym (d .is)

@@ -1,0 +1,94 @@
+-- The way down through the larger parts of a piece, and one step back up.
+-- Rests on Storing.antt, and on Pieces.antt of the crate tree.
+use mathlib.Core.Path.{_≡_, refl, sym, _∙_, ap, ap₂}
+use mathlib.Core.List.{List}
+use Prim.Native.Nat.{ℕ, suc, _+_, _-_, _<_, _≤_, max}
+use native.Mathlib.Omega.{arith}
+use lib.ListN.{length, getD}
+use Rattle.polygon.specs.Tree.{Tree, node, span}
+use Rattle.tree.specs.Shows.{rightAt, Shows, triangle}
+use Rattle.tree.proofs.Pieces.{ends, inside}
+use Rattle.levels.specs.Numbered.{six, join, sixAt, withSix, Deep, flat, deep, Grows, Passed, begun, left, right, Rising}
+use Rattle.levels.proofs.Storing.{six-node, join-fits, six-same, deep-root, deep-grows, store-grows}
+
+shows-left : {tr : List ℕ} {e u v : ℕ} {l r : Tree} → Shows tr e u v (node l r) → (w : ℕ) × Shows tr (e - 1) u w l
+shows-left (triangle i h k q x y) = (_, x)
+
+shows-right : {tr : List ℕ} {e u v : ℕ} {l r : Tree} → Shows tr e u v (node l r) → (w : ℕ) × Shows tr (rightAt tr e) w v r
+shows-right (triangle i h k q x y) = (_, y)
+
+-- the piece whose edge stands at j of the path, and its two parts
+pub record Turn (tr ds path : List ℕ) (from e₀ : ℕ) (t₀ : Tree) (j : ℕ) : Type 0 where
+  pub e : ℕ
+  pub u : ℕ
+  pub v : ℕ
+  pub l : Tree
+  pub r : Tree
+  pub at : getD path j 0 ≡ e
+  pub shows : Shows tr e u v (node l r)
+  pub passed : Passed tr ds path from e₀ t₀ j e (node l r)
+  pub deep-l : Deep tr ds (e - 1) l
+  pub deep-r : Deep tr ds (rightAt tr e) r
+
+module _ {tr ds path : List ℕ} {from e₀ : ℕ} {t₀ : Tree} where
+  -- where the numbers of more pieces are right, and the path is written further on
+  pub passed-grows : {ds′ path′ : List ℕ} {k e : ℕ} {t : Tree} → Grows tr ds ds′ → ((j : ℕ) → j < k → getD path′ j 0 ≡ getD path j 0) → Passed tr ds path from e₀ t₀ k e t → Passed tr ds′ path′ from e₀ t₀ k e t
+  passed-grows g f (begun p q z) = begun p q z
+  passed-grows g f (left {j} p s x y d) = left p (passed-grows g (λ i h. f i (omega arith)) s) x (f j (omega arith) ∙ y) (deep-grows g (shows-right x .1) d)
+  passed-grows g f (right {j} p s x y d) = right p (passed-grows g (λ i h. f i (omega arith)) s) x (f j (omega arith) ∙ y) (deep-grows g (shows-left x .1) d)
+
+  pub turn : (j k : ℕ) → k ≡ suc j → from ≤ j → Rising tr ds path from e₀ t₀ k → Turn tr ds path from e₀ t₀ j
+  turn j k h f R = go (R .passed) (R .deep)
+    where
+      go : {e : ℕ} {t : Tree} → Passed tr ds path from e₀ t₀ k e t → Deep tr ds e t → Turn tr ds path from e₀ t₀ j
+      go (begun p q z) d = absurd (omega arith)
+      go (left {j = i} {e} {u} {v} {l} {r} p s x y a) d =
+          let q : i ≡ j = omega arith in
+          record { e = e; u = u; v = v; l = l; r = r; at = ap (λ (n : ℕ). getD path n 0) (sym q) ∙ y; shows = x; passed = rw q at s; deep-l = d; deep-r = a }
+      go (right {j = i} {e} {u} {v} {l} {r} p s x y a) d =
+          let q : i ≡ j = omega arith in
+          record { e = e; u = u; v = v; l = l; r = r; at = ap (λ (n : ℕ). getD path n 0) (sym q) ∙ y; shows = x; passed = rw q at s; deep-l = a; deep-r = d }
+
+  module _ {j : ℕ} (T : Turn tr ds path from e₀ t₀ j) (room : length ds ≡ 12270) where
+    pub turn-places : (1 ≤ T .e) × (T .e < 2045) × (rightAt tr (T .e) < 2045)
+    turn-places = go (T .shows)
+      where
+        go : {e u v : ℕ} {l r : Tree} → Shows tr e u v (node l r) → (1 ≤ e) × (e < 2045) × (rightAt tr e < 2045)
+        go (triangle i h k q x y) = (i, h, inside y)
+
+    pub turn-fits : max (sixAt ds (T .e - 1) .«part_a») (sixAt ds (rightAt tr (T .e)) .«fan_b») < 1024
+    turn-fits = join-fits (T .l) (T .r) (deep-root (T .deep-l)) (deep-root (T .deep-r)) (wide (T .shows))
+      where
+        wide : {e u v : ℕ} {l r : Tree} → Shows tr e u v (node l r) → span l + span r < 1024
+        wide (triangle i h k q x y) = omega (arith, ends x, ends y)
+
+    numbers : join (sixAt ds (T .e - 1)) (sixAt ds (rightAt tr (T .e))) ≡ six (node (T .l) (T .r))
+    numbers = ap₂ join (deep-root (T .deep-l)) (deep-root (T .deep-r)) ∙ sym (six-node (T .l) (T .r))
+
+    -- its numbers are stored
+    module _ (ds′ : List ℕ) (is : ds′ ≡ withSix ds (T .e) (join (sixAt ds (T .e - 1)) (sixAt ds (rightAt tr (T .e))))) where
+      stored : ds′ ≡ withSix ds (T .e) (six (node (T .l) (T .r)))
+      stored = is ∙ ap (withSix ds (T .e)) numbers
+
+      pub turn-grows : Grows tr ds ds′
+      turn-grows = rw stored (store-grows ds room (T .shows))
+
+      pub turn-rises : Rising tr ds′ path from e₀ t₀ j
+      turn-rises = record { e = T .e; t = node (T .l) (T .r); passed = passed-grows turn-grows (λ i h. refl) (T .passed); deep = parts (T .shows) }
+        where
+          parts : {u v : ℕ} → Shows tr (T .e) u v (node (T .l) (T .r)) → Deep tr ds′ (T .e) (node (T .l) (T .r))
+          parts (triangle i h k q x y) = deep (ap (λ (x : List ℕ). sixAt x (T .e)) stored ∙ six-same ds (T .e) _ (omega arith)) (deep-grows turn-grows x (T .deep-l)) (deep-grows turn-grows y (T .deep-r))
+
+  -- at the place where the path begins the way is back
+  pub back-at-start : (k : ℕ) → k ≤ from → Rising tr ds path from e₀ t₀ k → Deep tr ds e₀ t₀
+  back-at-start k h R = go (R .passed) (R .deep)
+    where
+      below : {k e : ℕ} {t : Tree} → Passed tr ds path from e₀ t₀ k e t → from ≤ k
+      below (begun p q z) = omega arith
+      below (left p s x y d) = omega (arith, below s)
+      below (right p s x y d) = omega (arith, below s)
+
+      go : {e : ℕ} {t : Tree} → Passed tr ds path from e₀ t₀ k e t → Deep tr ds e t → Deep tr ds e₀ t₀
+      go (begun p q z) d = rw (q, z) at d
+      go (left p s x y a) d = absurd (omega (arith, below s))
+      go (right p s x y a) d = absurd (omega (arith, below s))

@@ -1,0 +1,120 @@
+-- The numbers of an edge stored in the table, and that numbers which are right stay right.
+-- Rests on the theorems of the crate umbrella, and on Pieces.antt of the crate tree.
+use mathlib.Core.Path.{_≡_, refl, sym, _∙_, ap}
+use mathlib.Core.List.{List}
+use Prim.Native.Nat.{ℕ, suc, _+_, _*_, _-_, _<_, _≤_, max}
+use native.Mathlib.Decide.{ℕ-discrete}
+use native.Mathlib.Numerals.{add-one}
+use native.Mathlib.Omega.{arith}
+use lib.ListN.{length, getD, set, length-set}
+use lib.Seq.{getD-set-same, getD-set-other}
+use Rattle.polygon.specs.Tree.{Tree, leaf, node, span}
+use Rattle.umbrella.specs.Numbers.{ud}
+use Rattle.umbrella.specs.Best.{best}
+use Rattle.umbrella.proofs.Inequalities.{inequalities}
+use Rattle.umbrella.proofs.Theorems.{computed-has, umbrellas-bound}
+use Rattle.tree.specs.Shows.{rightAt, Shows, side, triangle}
+use Rattle.tree.proofs.Pieces.{one-piece, inside}
+use Rattle.levels.specs.declared.Six.{Six}
+use Rattle.levels.specs.Numbered.{six, join, sixAt, withSix, Deep, flat, deep, Grows, Leaves}
+
+pub six-node : (l r : Tree) → six (node l r) ≡ join (six l) (six r)
+unfolding ud
+six-node l r = simp add-one
+
+-- a piece has fewer levels than sides besides its root edge
+ud-below : (t : Tree) → ud t < span t
+ud-below t = omega (arith, computed-has t, umbrellas-bound (best t))
+
+-- what `join` asks
+pub join-fits : (l r : Tree) {a b : Six} → a ≡ six l → b ≡ six r → span l + span r < 1024 → max (a .«part_a») (b .«fan_b») < 1024
+join-fits l r p q h = rw (p, q) (omega (arith, inequalities l, inequalities r, ud-below l, ud-below r))
+
+module _ (ds : List ℕ) (e : ℕ) (s : Six) where
+  pub with-length : length (withSix ds e s) ≡ length ds
+  with-length = simp length-set
+
+  -- the table as the numbers are stored, one after the other
+  abbrev d₁ : List ℕ
+  d₁ = set ds (6 * e) (s .ud)
+
+  abbrev d₂ : List ℕ
+  d₂ = set d₁ (6 * e + 1) (s .handle)
+
+  abbrev d₃ : List ℕ
+  d₃ = set d₂ (6 * e + 2) (s .«fan_a»)
+
+  abbrev d₄ : List ℕ
+  d₄ = set d₃ (6 * e + 3) (s .«fan_b»)
+
+  abbrev d₅ : List ℕ
+  d₅ = set d₄ (6 * e + 4) (s .«part_a»)
+
+  -- places of other edges
+  other-place : (i : ℕ) → ¬ ((6 * e ≤ i) × (i < 6 * e + 6)) → getD (withSix ds e s) i 0 ≡ getD ds i 0
+  other-place i o =
+      getD-set-other d₅ (6 * e + 5) i _ 0 (λ q. o (omega arith))
+      ∙ (getD-set-other d₄ (6 * e + 4) i _ 0 (λ q. o (omega arith))
+      ∙ (getD-set-other d₃ (6 * e + 3) i _ 0 (λ q. o (omega arith))
+      ∙ (getD-set-other d₂ (6 * e + 2) i _ 0 (λ q. o (omega arith))
+      ∙ (getD-set-other d₁ (6 * e + 1) i _ 0 (λ q. o (omega arith))
+      ∙ (getD-set-other ds (6 * e) i _ 0 (λ q. o (omega arith)))))))
+
+  pub six-other : (f : ℕ) → ¬ (f ≡ e) → sixAt (withSix ds e s) f ≡ sixAt ds f
+  six-other f o = λ i. record {
+    ud = other-place (6 * f) (λ h. o (omega arith)) i;
+    handle = other-place (6 * f + 1) (λ h. o (omega arith)) i;
+    «fan_a» = other-place (6 * f + 2) (λ h. o (omega arith)) i;
+    «fan_b» = other-place (6 * f + 3) (λ h. o (omega arith)) i;
+    «part_a» = other-place (6 * f + 4) (λ h. o (omega arith)) i;
+    «part_b» = other-place (6 * f + 5) (λ h. o (omega arith)) i;
+  }
+
+  -- its own places: a number is not overwritten by those stored after it
+  pub six-same : 6 * e + 6 ≤ length ds → sixAt (withSix ds e s) e ≡ s
+  six-same room = λ i. record { ud = at-0 i; handle = at-1 i; «fan_a» = at-2 i; «fan_b» = at-3 i; «part_a» = at-4 i; «part_b» = at-5 i }
+    where
+      at-0 : getD (withSix ds e s) (6 * e) 0 ≡ s .ud
+      at-0 = getD-set-other d₅ (6 * e + 5) (6 * e) _ 0 (λ q. omega arith) ∙ (getD-set-other d₄ (6 * e + 4) (6 * e) _ 0 (λ q. omega arith) ∙ (getD-set-other d₃ (6 * e + 3) (6 * e) _ 0 (λ q. omega arith) ∙ (getD-set-other d₂ (6 * e + 2) (6 * e) _ 0 (λ q. omega arith) ∙ (getD-set-other d₁ (6 * e + 1) (6 * e) _ 0 (λ q. omega arith) ∙ (getD-set-same ds (6 * e) _ 0 (omega arith))))))
+
+      at-1 : getD (withSix ds e s) (6 * e + 1) 0 ≡ s .handle
+      at-1 = getD-set-other d₅ (6 * e + 5) (6 * e + 1) _ 0 (λ q. omega arith) ∙ (getD-set-other d₄ (6 * e + 4) (6 * e + 1) _ 0 (λ q. omega arith) ∙ (getD-set-other d₃ (6 * e + 3) (6 * e + 1) _ 0 (λ q. omega arith) ∙ (getD-set-other d₂ (6 * e + 2) (6 * e + 1) _ 0 (λ q. omega arith) ∙ (getD-set-same d₁ (6 * e + 1) _ 0 (simp length-set (omega arith))))))
+
+      at-2 : getD (withSix ds e s) (6 * e + 2) 0 ≡ s .«fan_a»
+      at-2 = getD-set-other d₅ (6 * e + 5) (6 * e + 2) _ 0 (λ q. omega arith) ∙ (getD-set-other d₄ (6 * e + 4) (6 * e + 2) _ 0 (λ q. omega arith) ∙ (getD-set-other d₃ (6 * e + 3) (6 * e + 2) _ 0 (λ q. omega arith) ∙ (getD-set-same d₂ (6 * e + 2) _ 0 (simp length-set (omega arith)))))
+
+      at-3 : getD (withSix ds e s) (6 * e + 3) 0 ≡ s .«fan_b»
+      at-3 = getD-set-other d₅ (6 * e + 5) (6 * e + 3) _ 0 (λ q. omega arith) ∙ (getD-set-other d₄ (6 * e + 4) (6 * e + 3) _ 0 (λ q. omega arith) ∙ (getD-set-same d₃ (6 * e + 3) _ 0 (simp length-set (omega arith))))
+
+      at-4 : getD (withSix ds e s) (6 * e + 4) 0 ≡ s .«part_a»
+      at-4 = getD-set-other d₅ (6 * e + 5) (6 * e + 4) _ 0 (λ q. omega arith) ∙ (getD-set-same d₄ (6 * e + 4) _ 0 (simp length-set (omega arith)))
+
+      at-5 : getD (withSix ds e s) (6 * e + 5) 0 ≡ s .«part_b»
+      at-5 = getD-set-same d₅ (6 * e + 5) _ 0 (simp length-set (omega arith))
+
+module _ {tr ds : List ℕ} where
+  -- what the root of a piece has
+  pub deep-root : {e : ℕ} {t : Tree} → Deep tr ds e t → sixAt ds e ≡ six t
+  deep-root (flat h) = h
+  deep-root (deep h x y) = h
+
+  pub deep-grows : {ds′ : List ℕ} {e u v : ℕ} {t : Tree} → Grows tr ds ds′ → Shows tr e u v t → Deep tr ds e t → Deep tr ds′ e t
+  deep-grows g (side {e} {u} {v} h k p q) (flat d) = flat (g .right e u v leaf (side h k p q) d)
+  deep-grows g (triangle {e} {u} {v} {l} {r} i h k q x y) (deep d a b) = deep (g .right e u v (node l r) (triangle {l = l} {r = r} i h k q x y) d) (deep-grows g x a) (deep-grows g y b)
+
+  pub grows-on : {ds₁ ds₂ : List ℕ} → Grows tr ds ds₁ → Grows tr ds₁ ds₂ → Grows tr ds ds₂
+  grows-on g h = record { right = λ e u v t s p. h .right e u v t s (g .right e u v t s p) }
+
+  pub leaves-grow : {ds′ : List ℕ} → Grows tr ds ds′ → Leaves tr ds → Leaves tr ds′
+  leaves-grow g h = record { sides = λ e u v s. g .right e u v leaf s (h .sides e u v s) }
+
+  pub grows-self : Grows tr ds ds
+  grows-self = record { right = λ e u v t s h. h }
+
+-- a place shows one piece only, so storing its numbers harms none that are right
+pub store-grows : {tr : List ℕ} {e u v : ℕ} {t : Tree} (ds : List ℕ) → length ds ≡ 12270 → Shows tr e u v t → Grows tr ds (withSix ds e (six t))
+store-grows {tr} {e} {t = t} ds room s = record { right = λ f u′ v′ t′ s′ h. go f u′ v′ t′ s′ h (ℕ-discrete f e) }
+  where
+    go : (f u′ v′ : ℕ) (t′ : Tree) → Shows tr f u′ v′ t′ → sixAt ds f ≡ six t′ → Dec (f ≡ e) → sixAt (withSix ds e (six t)) f ≡ six t′
+    go f u′ v′ t′ s′ h (yes q) = ap (sixAt (withSix ds e (six t))) q ∙ (six-same ds e (six t) (omega (arith, inside s)) ∙ ap six (one-piece s (rw q at s′)))
+    go f u′ v′ t′ s′ h (no q) = six-other ds e (six t) f q ∙ h
