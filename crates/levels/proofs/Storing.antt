@@ -118,3 +118,8 @@ store-grows {tr} {e} {t = t} ds room s = record { right = λ f u′ v′ t′ s�
     go : (f u′ v′ : ℕ) (t′ : Tree) → Shows tr f u′ v′ t′ → sixAt ds f ≡ six t′ → Dec (f ≡ e) → sixAt (withSix ds e (six t)) f ≡ six t′
     go f u′ v′ t′ s′ h (yes q) = ap (sixAt (withSix ds e (six t))) q ∙ (six-same ds e (six t) (omega (arith, inside s)) ∙ ap six (one-piece s (rw q at s′)))
     go f u′ v′ t′ s′ h (no q) = six-other ds e (six t) f q ∙ h
+
+-- a table of zeros has the numbers of the sides
+pub fresh-leaves : {tr : List ℕ} (ds : List ℕ) → ((i : ℕ) → getD ds i 0 ≡ 0) → Leaves tr ds
+unfolding ud
+fresh-leaves ds z = record { sides = λ e u v s i. record { ud = z (6 * e) i; handle = z (6 * e + 1) i; «fan_a» = z (6 * e + 2) i; «fan_b» = z (6 * e + 3) i; «part_a» = z (6 * e + 4) i; «part_b» = z (6 * e + 5) i } }

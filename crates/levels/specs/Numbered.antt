@@ -2,10 +2,13 @@
 use mathlib.Core.Path.{_≡_}
 use mathlib.Core.List.{List}
 use Prim.Native.Nat.{ℕ, suc, _+_, _*_, _-_, _≤_, max, min}
-use lib.ListN.{getD, set}
+use lib.ListN.{getD, set, take}
 use Rattle.polygon.specs.Tree.{Tree, leaf, node}
 use Rattle.umbrella.specs.Numbers.{ud, handle, fanA, fanB, partA, partB}
-use Rattle.tree.specs.Shows.{rightAt, Shows}
+use Rattle.polygon.specs.Edges.{edges}
+use Rattle.keys.specs.Keys.{edgesOf}
+use Rattle.tree.specs.declared.Piece.{Piece}
+use Rattle.tree.specs.Shows.{rightAt, Shows, Whole}
 use Rattle.levels.specs.declared.Six.{Six}
 
 abbrev pub six : Tree → Six
@@ -53,6 +56,12 @@ pub record Leaves (tr ds : List ℕ) : Type 0 where
 pub record Known (tr ds : List ℕ) (e u v : ℕ) (t : Tree) : Type 0 where
   pub shows : Shows tr e u v t
   pub deep : Deep tr ds e t
+
+-- the tables of a part with n corners and the tree t, p being the whole part
+pub record Filled (n : ℕ) (t : Tree) (tr ds : List ℕ) (p : Piece) : Type 0 where
+  pub listed : edgesOf (take (2 * n - 3) tr) ≡ edges 0 t
+  pub whole : Whole n t tr p
+  pub deep : Deep tr ds (p .e) t
 
 -- On the way down from the piece t₀ at e₀: the edges passed stand in the path, from a place on, and the part that was not gone into has its numbers.
 -- After k places of the path the piece t at e is reached.

@@ -4,13 +4,16 @@ ghost use mathlib.Core.Path.{_≡_};
 ghost use mathlib.Core.Logic.{_⊎_};
 ghost use Prim.Native.Nat.{ℕ, _+_, _*_, _-_, _<_, _≤_, max, min};
 ghost use lib.ListN.{length, getD};
-ghost use Rattle.polygon.specs.Tree.{Tree};
+ghost use Rattle.polygon.specs.Polygon.{Triangulated};
+ghost use Rattle.polygon.specs.Tree.{Tree, treeOf};
+ghost use Rattle.keys.specs.Keys.{edgesOf};
 ghost use Rattle.tree.specs.Shows.{rightAt, Shows, Shown};
-ghost use Rattle.levels.specs.Numbered.{join, sixAt, withSix, Leaves, Deep, Grows, Rising};
+ghost use Rattle.levels.specs.Numbered.{join, sixAt, withSix, Leaves, Deep, Grows, Rising, Filled};
 use tree::LAST;
 use tree::PLACES;
 use tree::Piece;
 use tree::Two;
+use tree::build;
 use tree::open;
 
 // How many places the table of numbers has.
@@ -167,4 +170,17 @@ pub fn levels(
         x = t.right;
     }
     ascend(tree, depths, path, from, k);
+}
+
+// Fills the two tables of a part from the keys of its diagonals, and gives the whole part.
+pub fn fill(keys: &[u32], n: usize, tree: &mut [u32; PLACES], depths: &mut [u16; NUMBERS]) -> Piece
+    requires part { ⌜ Triangulated n (edgesOf (now keys)) × (n ≤ 1024) ⌝ }
+    requires room { ⌜ (length (now tree) ≡ 3072) × (length (now depths) ≡ 12270) ⌝ }
+    requires fresh { ⌜ ((i : ℕ) → getD (now depths) i 0 ≡ 0) ⌝ }
+    ensures { λ r. ⌜ Filled n (treeOf n (edgesOf (now (keys .entry)))) (now (tree .exit)) (now (depths .exit)) r ⌝ }
+{
+    let p = build(keys, n, tree);
+    let mut path = [0u16; CORNERS];
+    levels(tree, depths, &mut path, 0, p);
+    p
 }
