@@ -1,9 +1,6 @@
-pub mod Cases
-pub mod Ways
-pub mod Induction
+pub mod Orders
 pub mod Planned
 pub mod Writing
-pub mod Orders
 pub mod Recording
 pub mod Placing
 pub mod OnLines

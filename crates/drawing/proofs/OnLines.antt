@@ -6,11 +6,13 @@ use Prim.Native.Nat.{ℕ, suc, _*_, _-_, _≤_}
 use native.Mathlib.Nat.{add-zero}
 use native.Mathlib.Omega.{arith}
 use Rattle.polygon.specs.Tree.{Tree, node}
-use Rattle.umbrella.specs.Numbers.{ud, handle}
+use Rattle.umbrella.specs.Numbers.{ud}
 use Rattle.chart.specs.Places.{up}
-use Rattle.drawing.specs.declared.steps.Part.the-variants.{Hung, LeftRim, RightRim, FromLeft, FromRight}
+use Rattle.umbrella.specs.declared.roles.Role.{Role}
+use Rattle.umbrella.specs.declared.roles.Role.the-variants.{Hung, LeftRim, RightRim, FromLeft, FromRight}
 use Rattle.drawing.specs.declared.rows.Line.{Line}
-use Rattle.drawing.specs.Parts.{goesLeft, stemStep, stepAt, leftStep, rightStep}
+use Rattle.umbrella.specs.declared.roles.Step.{Step}
+use Rattle.umbrella.specs.Roles.{fromRight, isHung, stepAt, stepOf}
 use Rattle.drawing.specs.Lines.{onLine, rowAt, farLine, nearLine, aside, linesAt, ranks}
 
 -- up to row k the line m stands for f
@@ -57,34 +59,11 @@ module _ (d : ℕ) (far near : Line) (l r : Tree) where
   unfolding ranks stepAt linesAt
   hung-ranks n k e h = rw (e, h)
 
-  pub left-hung-ranks : leftStep d (ud r) ≡ record { left = LeftRim; right = Hung; crossed = false } → ranks LeftRim d far near (node l r) ≡ ranks LeftRim d far near l ++ (far .base ∷ ranks Hung d far near r)
-  unfolding ranks stepAt linesAt aside
-  left-hung-ranks e = rw e
-
-  pub left-entered-ranks : leftStep d (ud r) ≡ record { left = LeftRim; right = FromRight; crossed = true } → ranks LeftRim d far near (node l r) ≡ ranks LeftRim d near near l ++ (near .base ∷ ranks FromRight d far near r)
-  unfolding ranks stepAt linesAt aside
-  left-entered-ranks e = rw e
-
-  pub right-hung-ranks : rightStep d (ud l) ≡ record { left = Hung; right = RightRim; crossed = false } → ranks RightRim d far near (node l r) ≡ ranks Hung d far near l ++ (far .base ∷ ranks RightRim d far near r)
-  unfolding ranks stepAt linesAt aside
-  right-hung-ranks e = rw e
-
-  pub right-entered-ranks : rightStep d (ud l) ≡ record { left = FromLeft; right = RightRim; crossed = true } → ranks RightRim d far near (node l r) ≡ ranks FromLeft d far near l ++ (near .base ∷ ranks RightRim d near near r)
-  unfolding ranks stepAt linesAt aside
-  right-entered-ranks e = rw e
-
-  pub forth-left-ranks : goesLeft false d (ud l) (ud r) (handle l) ≡ true → ranks FromLeft d far near (node l r) ≡ ranks FromLeft d far near l ++ (near .base ∷ ranks Hung d near near r)
-  unfolding ranks stepAt stemStep linesAt aside
-  forth-left-ranks e = rw e
-
-  pub forth-right-ranks : goesLeft false d (ud l) (ud r) (handle l) ≡ false → ranks FromLeft d far near (node l r) ≡ ranks Hung d far near l ++ (far .base ∷ ranks FromLeft d far near r)
-  unfolding ranks stepAt stemStep linesAt aside
-  forth-right-ranks e = rw e
-
-  pub back-left-ranks : goesLeft true d (ud l) (ud r) (handle l) ≡ true → ranks FromRight d far near (node l r) ≡ ranks FromRight d far near l ++ (far .base ∷ ranks Hung d far near r)
-  unfolding ranks stepAt stemStep linesAt aside
-  back-left-ranks e = rw e
-
-  pub back-right-ranks : goesLeft true d (ud l) (ud r) (handle l) ≡ false → ranks FromRight d far near (node l r) ≡ ranks Hung d near near l ++ (near .base ∷ ranks FromRight d far near r)
-  unfolding ranks stepAt stemStep linesAt aside
-  back-right-ranks e = rw e
+  pub own-ranks : (p : Role) (s : Step) → isHung p ≡ false → stepOf p d l r ≡ s
+      → let q = aside (fromRight p) (s .crossed) d far near in ranks p d far near (node l r) ≡ ranks (s .left) (q .d) (q .left) (q .near) l ++ (q .middle ∷ ranks (s .right) (q .d) (q .right) (q .near) r)
+  unfolding ranks linesAt
+  own-ranks Hung s h e = absurd (true≢false h)
+  own-ranks LeftRim s h e = rw e
+  own-ranks RightRim s h e = rw e
+  own-ranks FromLeft s h e = rw e
+  own-ranks FromRight s h e = rw e

@@ -8,12 +8,12 @@ use lib.ListN.{length, length-append, length-reverse}
 use Rattle.polygon.specs.Polygon.{Edge, _—_}
 use Rattle.polygon.specs.Tree.{Tree, leaf, node, span}
 use Rattle.umbrella.specs.Numbers.{ud}
-use Rattle.drawing.specs.declared.steps.Part.{Part}
-use Rattle.drawing.specs.declared.steps.Part.the-variants.{Hung, LeftRim, RightRim, FromLeft, FromRight}
-use Rattle.drawing.specs.declared.steps.Step.{Step}
-use Rattle.drawing.specs.Parts.{fromRight, isHung, stepOf, under, around, arranged, sideColumn, columns}
+use Rattle.umbrella.specs.declared.roles.Role.{Role}
+use Rattle.umbrella.specs.declared.roles.Role.the-variants.{Hung, LeftRim, RightRim, FromLeft, FromRight}
+use Rattle.umbrella.specs.declared.roles.Step.{Step}
+use Rattle.umbrella.specs.Roles.{fromRight, isHung, stepAt, stepOf, levelsUnder}
+use Rattle.drawing.specs.Columns.{around, arranged, sideColumn, columns}
 use Rattle.drawing.specs.Tables.{differ, pick, lay, both}
-use Rattle.drawing.proofs.Cases.{hung-columns}
 
 -- the own column first, or last
 module _ (e : Edge) (xs ys : List Edge) where
@@ -43,7 +43,7 @@ pub no-own : (t : Bool) (xs ys : List Edge) → both t (lay t xs) (lay t ys) ≡
 no-own true xs ys = sym (reverse-append xs ys)
 no-own false xs ys = refl
 
-pub only-hung : (p : Part) → isHung p ≡ true → p ≡ Hung
+pub only-hung : (p : Role) → isHung p ≡ true → p ≡ Hung
 only-hung Hung h = refl
 only-hung LeftRim h = absurd (false≢true h)
 only-hung RightRim h = absurd (false≢true h)
@@ -51,7 +51,7 @@ only-hung FromLeft h = absurd (false≢true h)
 only-hung FromRight h = absurd (false≢true h)
 
 -- the columns of a rim or a stem at a side and at a triangle
-pub side-columns : (p : Part) (d : ℕ) (t : Tree) (u v : ℕ) → isHung p ≡ false → t ≡ leaf → columns p d t u v ≡ (u — v) ∷ []
+pub side-columns : (p : Role) (d : ℕ) (t : Tree) (u v : ℕ) → isHung p ≡ false → t ≡ leaf → columns p d t u v ≡ (u — v) ∷ []
 unfolding columns sideColumn
 side-columns Hung d t u v h e = absurd (true≢false h)
 side-columns LeftRim d t u v h e = rw e
@@ -59,21 +59,22 @@ side-columns RightRim d t u v h e = rw e
 side-columns FromLeft d t u v h e = rw e
 side-columns FromRight d t u v h e = rw e
 
-pub own-columns : (p : Part) (d : ℕ) (l r : Tree) {t : Tree} (u v c : ℕ) (s : Step) → isHung p ≡ false → t ≡ node l r → c ≡ u + span l → s ≡ stepOf p d l r
-    → columns p d t u v ≡ around (fromRight p) (s .crossed) (u — v) (columns (s .left) d l u c) (columns (s .right) d r c v)
-unfolding columns arranged under
-own-columns Hung d l r u v c s h e m q = absurd (true≢false h)
-own-columns LeftRim d l r u v c s h e m q = rw (e, m, q)
-own-columns RightRim d l r u v c s h e m q = rw (e, m, q)
-own-columns FromLeft d l r u v c s h e m q = rw (e, m, q)
-own-columns FromRight d l r u v c s h e m q = rw (e, m, q)
+pub own-columns : (p : Role) (d : ℕ) (l r : Tree) (u v : ℕ) (s : Step) → isHung p ≡ false → stepOf p d l r ≡ s
+    → columns p d (node l r) u v ≡ around (fromRight p) (s .crossed) (u — v) (columns (s .left) d l u (u + span l)) (columns (s .right) d r (u + span l) v)
+unfolding columns arranged levelsUnder
+own-columns Hung d l r u v s h e = absurd (true≢false h)
+own-columns LeftRim d l r u v s h e = rw e
+own-columns RightRim d l r u v s h e = rw e
+own-columns FromLeft d l r u v s h e = rw e
+own-columns FromRight d l r u v s h e = rw e
 
 pub hung-side : (d : ℕ) (t : Tree) (u v : ℕ) → t ≡ leaf → columns Hung d t u v ≡ []
 unfolding columns sideColumn
 hung-side d t u v e = rw e
 
-pub rims : (d : ℕ) (l r : Tree) {t : Tree} (u v c k : ℕ) → t ≡ node l r → c ≡ u + span l → ud (node l r) - 1 ≡ k → columns Hung d t u v ≡ columns LeftRim k l u c ++ columns RightRim k r c v
-rims d l r u v c k e m q = rw (e, m) (hung-columns d l r u v k q)
+pub rims : (d : ℕ) (l r : Tree) (u v k : ℕ) → ud (node l r) - 1 ≡ k → columns Hung d (node l r) u v ≡ columns LeftRim k l u (u + span l) ++ columns RightRim k r (u + span l) v
+unfolding columns stepAt levelsUnder arranged
+rims d l r u v k e = rw e
 
 pub lay-length : (t : Bool) (xs : List Edge) → length (lay t xs) ≡ length xs
 lay-length true xs = length-reverse xs
@@ -90,7 +91,7 @@ around-length false true e xs ys = omega (arith, length-append (reverse ys) xs, 
 around-length true false e xs ys = omega (arith, length-append xs (ys ++ (e ∷ [])), length-append ys (e ∷ []))
 around-length true true e xs ys = omega (arith, length-append ys (reverse xs ++ (e ∷ [])), length-append (reverse xs) (e ∷ []), length-reverse xs)
 
-arranged-length : (p : Part) (x : Bool) (e : Edge) (xs ys : List Edge) → length (arranged p x e xs ys) ≤ suc (length xs + length ys)
+arranged-length : (p : Role) (x : Bool) (e : Edge) (xs ys : List Edge) → length (arranged p x e xs ys) ≤ suc (length xs + length ys)
 unfolding arranged
 arranged-length Hung x e xs ys = omega (arith, length-append xs ys)
 arranged-length LeftRim x e xs ys = around-length true x e xs ys
@@ -98,7 +99,7 @@ arranged-length RightRim x e xs ys = around-length false x e xs ys
 arranged-length FromLeft x e xs ys = around-length false x e xs ys
 arranged-length FromRight x e xs ys = around-length true x e xs ys
 
-side-length : (p : Part) (e : Edge) → length (sideColumn p e) ≤ 1
+side-length : (p : Role) (e : Edge) → length (sideColumn p e) ≤ 1
 unfolding sideColumn
 side-length Hung e = omega arith
 side-length LeftRim e = omega arith
@@ -106,11 +107,11 @@ side-length RightRim e = omega arith
 side-length FromLeft e = omega arith
 side-length FromRight e = omega arith
 
-pub few-columns : (t : Tree) (p : Part) (d u v : ℕ) → length (columns p d t u v) < 2 * span t
+pub few-columns : (t : Tree) (p : Role) (d u v : ℕ) → length (columns p d t u v) < 2 * span t
 unfolding columns span
 few-columns leaf p d u v = omega (arith, side-length p (u — v))
 few-columns (node l r) p d u v =
     let s = stepOf p d l r in
-    let k : ℕ = under p d (ud (node l r)) in
+    let k : ℕ = levelsUnder p d (ud (node l r)) in
     let c : ℕ = u + span l in
     omega (arith, arranged-length p (s .crossed) (u — v) (columns (s .left) k l u c) (columns (s .right) k r c v), few-columns l (s .left) k u c, few-columns r (s .right) k c v)

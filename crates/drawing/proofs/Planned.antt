@@ -1,4 +1,4 @@
--- The columns by parts are those of the plan drawn. Rests on Best.antt of the crate umbrella, and on the inequalities between the six numbers there.
+-- The columns by roles are those of the plan drawn. Rests on Best.antt of the crate umbrella, and on the inequalities between the six numbers there.
 use mathlib.Core.Path.{_≡_, refl, ap₂, _∙_}
 use mathlib.Core.Bool.{true, false}
 use mathlib.Core.List.{List, [], _∷_, _++_, reverse}
@@ -13,11 +13,13 @@ use Rattle.umbrella.specs.Numbers.{ud, handle, fanA, fanB, partA, partB}
 use Rattle.umbrella.specs.Best.{Over, Node, two, umbrella, leftAt, rightAt, under, best, bestLeft, bestRight, gateLeft, gateRight, bestStem}
 use Rattle.umbrella.proofs.Inequalities.{inequalities}
 use Rattle.chart.specs.Places.{cols, leftCols, rightCols, leftGateCols, rightGateCols, stemCols, backCols}
-use Rattle.drawing.specs.declared.steps.Part.the-variants.{Hung, LeftRim, RightRim, FromLeft, FromRight}
-use Rattle.drawing.specs.Parts.{stemStep, around, sideColumn, columns}
-use Rattle.drawing.proofs.Ways.{Way, ends, ends-left, ends-right, goes-left, goes-right, way}
-use Rattle.drawing.proofs.Induction.{by-recursion}
-use Rattle.drawing.proofs.Cases.{left-hung, left-entered, right-hung, right-entered, hung-columns, left-columns, right-columns, stem-columns, back-columns}
+use Rattle.umbrella.specs.declared.roles.Role.the-variants.{Hung, LeftRim, RightRim, FromLeft, FromRight}
+use Rattle.umbrella.specs.Roles.{stemStep, stepAt}
+use Rattle.drawing.specs.Columns.{around, sideColumn, columns}
+use Rattle.umbrella.proofs.Ways.{Way, ends, ends-left, ends-right, goes-left, goes-right, way}
+use Rattle.umbrella.proofs.Induction.{by-recursion}
+use Rattle.umbrella.proofs.Cases.{left-hung, left-entered, right-hung, right-entered}
+use Rattle.drawing.proofs.Orders.{own-columns, rims}
 
 -- the rim below c, with d levels under the umbrella: no gate on it, or one
 record Left (d : ℕ) (t : Tree) : Type 0 where
@@ -50,7 +52,7 @@ right-side d = record { within = λ h u v. refl; over = λ f. absurd (f (omega a
 
 root-next : (d : ℕ) (l r : Tree) → Left (under l r) l → Right (under l r) r → HungIs d (node l r)
 unfolding best cols umbrella ud
-root-next d l r L R u v = hung-columns d l r u v (under l r) (omega arith) ∙ go (decLe (fanA l) (under l r)) (decLe (fanB r) (under l r))
+root-next d l r L R u v = rims d l r u v (under l r) (omega arith) ∙ go (decLe (fanA l) (under l r)) (decLe (fanB r) (under l r))
   where
     go : (h : Dec (fanA l ≤ under l r)) (k : Dec (fanB r ≤ under l r)) → columns LeftRim (under l r) l u (u + span l) ++ columns RightRim (under l r) r (u + span l) v
         ≡ cols (umbrella (under l r) l r h k (bestLeft l) (bestRight r) (λ f. gateLeft (under l r) l f) (λ f. gateRight (under l r) r f)) u v
@@ -60,43 +62,43 @@ root-next d l r L R u v = hung-columns d l r u v (under l r) (omega arith) ∙ g
     go (no h) (no k) = absurd (omega arith)
 
 left-next : (d : ℕ) (a b : Tree) → (partA a ≤ d → Left d a) → HungIs d b → Stems d b → partA (node a b) ≤ d → Left d (node a b)
-unfolding best cols leftAt ud around
+unfolding best cols leftAt ud around stepAt
 left-next d a b L p s h = record { within = within; over = λ f u v. over f u v (decLe (ud b) d) }
   where
     within : max (fanA a) (ud b) ≤ d → (u v : ℕ) → columns LeftRim d (node a b) u v ≡ leftCols (bestLeft (node a b)) u v
-    within k u v = left-columns d a b u v _ (left-hung d (ud b) (omega arith)) ∙ rw (L (omega (arith, inequalities a)) .within (omega arith) u (u + span a), p (u + span a) v)
+    within k u v = own-columns LeftRim d a b u v _ refl (left-hung d (ud b) (omega arith)) ∙ rw (L (omega (arith, inequalities a)) .within (omega arith) u (u + span a), p (u + span a) v)
 
     over : (f : Over (max (fanA a) (ud b)) d) (u v : ℕ) (k : Dec (ud b ≤ d)) → columns LeftRim d (node a b) u v ≡ leftGateCols (leftAt d a b f k (bestLeft a) (best b) (λ e. gateLeft d a e) (λ n. bestStem d b n)) u v
-    over f u v (yes k) = left-columns d a b u v _ (left-hung d (ud b) k) ∙ ap₂ (λ (x y : List Edge). x ++ (y ++ ((u — v) ∷ []))) (L (omega (arith, inequalities a)) .over _ u (u + span a)) (p (u + span a) v)
-    over f u v (no k) = left-columns d a b u v _ (left-entered d (ud b) k) ∙ ap₂ (λ (x y : List Edge). y ++ (reverse x ++ ((u — v) ∷ []))) (L (omega (arith, inequalities a)) .within (omega arith) u (u + span a)) (s .back _ (u + span a) v)
+    over f u v (yes k) = own-columns LeftRim d a b u v _ refl (left-hung d (ud b) k) ∙ ap₂ (λ (x y : List Edge). x ++ (y ++ ((u — v) ∷ []))) (L (omega (arith, inequalities a)) .over _ u (u + span a)) (p (u + span a) v)
+    over f u v (no k) = own-columns LeftRim d a b u v _ refl (left-entered d (ud b) k) ∙ ap₂ (λ (x y : List Edge). y ++ (reverse x ++ ((u — v) ∷ []))) (L (omega (arith, inequalities a)) .within (omega arith) u (u + span a)) (s .back _ (u + span a) v)
 
 right-next : (d : ℕ) (a b : Tree) → HungIs d a → Stems d a → (partB b ≤ d → Right d b) → partB (node a b) ≤ d → Right d (node a b)
-unfolding best cols rightAt ud around
+unfolding best cols rightAt ud around stepAt
 right-next d a b p s R h = record { within = within; over = λ f u v. over f u v (decLe (ud a) d) }
   where
     within : max (ud a) (fanB b) ≤ d → (u v : ℕ) → columns RightRim d (node a b) u v ≡ rightCols (bestRight (node a b)) u v
-    within k u v = right-columns d a b u v _ (right-hung d (ud a) (omega arith)) ∙ rw (p u (u + span a), R (omega (arith, inequalities b)) .within (omega arith) (u + span a) v)
+    within k u v = own-columns RightRim d a b u v _ refl (right-hung d (ud a) (omega arith)) ∙ rw (p u (u + span a), R (omega (arith, inequalities b)) .within (omega arith) (u + span a) v)
 
     over : (f : Over (max (ud a) (fanB b)) d) (u v : ℕ) (k : Dec (ud a ≤ d)) → columns RightRim d (node a b) u v ≡ rightGateCols (rightAt d a b f k (best a) (bestRight b) (λ e. gateRight d b e) (λ n. bestStem d a n)) u v
-    over f u v (yes k) = right-columns d a b u v _ (right-hung d (ud a) k) ∙ ap₂ (λ (x y : List Edge). (u — v) ∷ (x ++ y)) (p u (u + span a)) (R (omega (arith, inequalities b)) .over _ (u + span a) v)
-    over f u v (no k) = right-columns d a b u v _ (right-entered d (ud a) k) ∙ ap₂ (λ (x y : List Edge). (u — v) ∷ (reverse y ++ x)) (s .forth _ u (u + span a)) (R (omega (arith, inequalities b)) .within (omega arith) (u + span a) v)
+    over f u v (yes k) = own-columns RightRim d a b u v _ refl (right-hung d (ud a) k) ∙ ap₂ (λ (x y : List Edge). (u — v) ∷ (x ++ y)) (p u (u + span a)) (R (omega (arith, inequalities b)) .over _ (u + span a) v)
+    over f u v (no k) = own-columns RightRim d a b u v _ refl (right-entered d (ud a) k) ∙ ap₂ (λ (x y : List Edge). (u — v) ∷ (reverse y ++ x)) (s .forth _ u (u + span a)) (R (omega (arith, inequalities b)) .within (omega arith) (u + span a) v)
 
 module _ (d : ℕ) (u v : ℕ) where
   forth-next : {a b : Tree} {S : Stem (node a b)} → Way false d a b S → HungIs d a → HungIs d b → Stems d a → Stems d b → columns FromLeft d (node a b) u v ≡ stemCols S u v
   unfolding cols stemStep around columns sideColumn span
-  forth-next (ends e) p q s r = stem-columns d leaf leaf u v true e ∙ rw (add-one u)
-  forth-next (ends-left {x} {y} e h) p q s r = stem-columns d leaf (node x y) u v true e ∙ rw (q (u + 1) v, add-one u)
-  forth-next (ends-right {x} {y} e h) p q s r = stem-columns d (node x y) leaf u v false e ∙ rw (p u (u + span (node x y)))
-  forth-next (goes-left {x} {y} {b} e h i) p q s r = stem-columns d (node x y) b u v true e ∙ ap₂ (λ (xs ys : List Edge). (u — v) ∷ (reverse ys ++ xs)) (s .forth two u (u + span (node x y))) (q (u + span (node x y)) v)
-  forth-next (goes-right {a} {x} {y} e h) p q s r = stem-columns d a (node x y) u v false e ∙ ap₂ (λ (xs ys : List Edge). (u — v) ∷ (xs ++ ys)) (p u (u + span a)) (r .forth two (u + span a) v)
+  forth-next (ends e) p q s r = own-columns FromLeft d leaf leaf u v _ refl e ∙ rw (add-one u)
+  forth-next (ends-left {x} {y} e h) p q s r = own-columns FromLeft d leaf (node x y) u v _ refl e ∙ rw (q (u + 1) v, add-one u)
+  forth-next (ends-right {x} {y} e h) p q s r = own-columns FromLeft d (node x y) leaf u v _ refl e ∙ rw (p u (u + span (node x y)))
+  forth-next (goes-left {x} {y} {b} e h i) p q s r = own-columns FromLeft d (node x y) b u v _ refl e ∙ ap₂ (λ (xs ys : List Edge). (u — v) ∷ (reverse ys ++ xs)) (s .forth two u (u + span (node x y))) (q (u + span (node x y)) v)
+  forth-next (goes-right {a} {x} {y} e h) p q s r = own-columns FromLeft d a (node x y) u v _ refl e ∙ ap₂ (λ (xs ys : List Edge). (u — v) ∷ (xs ++ ys)) (p u (u + span a)) (r .forth two (u + span a) v)
 
   back-next : {a b : Tree} {S : Stem (node a b)} → Way true d a b S → HungIs d a → HungIs d b → Stems d a → Stems d b → columns FromRight d (node a b) u v ≡ backCols S u v
   unfolding cols stemStep around columns sideColumn span
-  back-next (ends e) p q s r = back-columns d leaf leaf u v false e ∙ rw (add-one u)
-  back-next (ends-left {x} {y} e h) p q s r = back-columns d leaf (node x y) u v true e ∙ rw (q (u + 1) v, add-one u)
-  back-next (ends-right {x} {y} e h) p q s r = back-columns d (node x y) leaf u v false e ∙ rw (p u (u + span (node x y)))
-  back-next (goes-left {x} {y} {b} e h i) p q s r = back-columns d (node x y) b u v true e ∙ ap₂ (λ (xs ys : List Edge). xs ++ (ys ++ ((u — v) ∷ []))) (s .back two u (u + span (node x y))) (q (u + span (node x y)) v)
-  back-next (goes-right {a} {x} {y} e h) p q s r = back-columns d a (node x y) u v false e ∙ ap₂ (λ (xs ys : List Edge). ys ++ (reverse xs ++ ((u — v) ∷ []))) (p u (u + span a)) (r .back two (u + span a) v)
+  back-next (ends e) p q s r = own-columns FromRight d leaf leaf u v _ refl e ∙ rw (add-one u)
+  back-next (ends-left {x} {y} e h) p q s r = own-columns FromRight d leaf (node x y) u v _ refl e ∙ rw (q (u + 1) v, add-one u)
+  back-next (ends-right {x} {y} e h) p q s r = own-columns FromRight d (node x y) leaf u v _ refl e ∙ rw (p u (u + span (node x y)))
+  back-next (goes-left {x} {y} {b} e h i) p q s r = own-columns FromRight d (node x y) b u v _ refl e ∙ ap₂ (λ (xs ys : List Edge). xs ++ (ys ++ ((u — v) ∷ []))) (s .back two u (u + span (node x y))) (q (u + span (node x y)) v)
+  back-next (goes-right {a} {x} {y} e h) p q s r = own-columns FromRight d a (node x y) u v _ refl e ∙ ap₂ (λ (xs ys : List Edge). ys ++ (reverse xs ++ ((u — v) ∷ []))) (p u (u + span a)) (r .back two (u + span a) v)
 
 stems-side : (d : ℕ) → Stems d leaf
 stems-side d = record { forth = λ n. elim n [ ]; back = λ n. elim n [ ] }

@@ -1,4 +1,4 @@
--- The rows by parts are those of the plan drawn. Rests on OnLines.antt, on Best.antt of the crate umbrella, and on the inequalities between the six numbers there.
+-- The rows by roles are those of the plan drawn. Rests on OnLines.antt, on Best.antt of the crate umbrella, and on the inequalities between the six numbers there.
 use mathlib.Core.Path.{_≡_, refl, sym, _∙_}
 use mathlib.Core.Bool.{true, false}
 use mathlib.Core.List.{List, [], _∷_, _++_, map, map-map}
@@ -12,14 +12,14 @@ use Rattle.umbrella.specs.Best.{Over, Node, two, umbrella, leftAt, rightAt, und
 use Rattle.umbrella.proofs.Inequalities.{inequalities}
 use Rattle.umbrella.proofs.Theorems.{computed-has}
 use Rattle.chart.specs.Places.{up, rows, leftRows, rightRows, leftGateRows, rightGateRows, stemRows}
-use Rattle.drawing.specs.declared.steps.Part.the-variants.{Hung, LeftRim, RightRim, FromLeft, FromRight}
+use Rattle.umbrella.specs.declared.roles.Role.the-variants.{Hung, LeftRim, RightRim, FromLeft, FromRight}
 use Rattle.drawing.specs.declared.rows.Line.{Line}
-use Rattle.drawing.specs.Parts.{goesLeft}
-use Rattle.drawing.specs.Lines.{farLine, nearLine, ranks}
-use Rattle.drawing.proofs.Ways.{Way, ends, ends-left, ends-right, goes-left, goes-right, way}
-use Rattle.drawing.proofs.Induction.{by-recursion}
-use Rattle.drawing.proofs.Cases.{left-hung, left-entered, right-hung, right-entered}
-use Rattle.drawing.proofs.OnLines.{OnLine, fewer, at-zero, far-on, near-on, joined, hung-ranks, left-hung-ranks, left-entered-ranks, right-hung-ranks, right-entered-ranks, forth-left-ranks, forth-right-ranks, back-left-ranks, back-right-ranks}
+use Rattle.umbrella.specs.Roles.{stemStep, stepAt, stepOf}
+use Rattle.drawing.specs.Lines.{farLine, nearLine, aside, ranks}
+use Rattle.umbrella.proofs.Ways.{Way, ends, ends-left, ends-right, goes-left, goes-right, way}
+use Rattle.umbrella.proofs.Induction.{by-recursion}
+use Rattle.umbrella.proofs.Cases.{left-hung, left-entered, right-hung, right-entered}
+use Rattle.drawing.proofs.OnLines.{OnLine, fewer, at-zero, far-on, near-on, joined, hung-ranks, own-ranks}
 
 abbrev HungIs : ℕ → Tree → Type 0
 HungIs d t = (far near : Line) (f : ℕ → ℕ) → OnLine far f (2 * ud t) → ranks Hung d far near t ≡ map f (rows (best t))
@@ -92,46 +92,50 @@ root-next d l r L R far near f o = hung-ranks d far near l r (suc (under l r)) (
     go (no h) (no i) e = absurd (omega arith)
 
 left-next : (d : ℕ) (a b : Tree) → (partA a ≤ d → Left d a) → HungIs d b → Stems d b → partA (node a b) ≤ d → Left d (node a b)
-unfolding best rows leftAt ud
+unfolding best rows leftAt ud stepAt aside
 left-next d a b L p s h = record { within = within; over = λ o far near f g B. over o far near f g B (decLe (ud b) d) }
   where
     within : max (fanA a) (ud b) ≤ d → (far near : Line) (f g : ℕ → ℕ) → OnLine far (λ r. f (g r)) (2 * d) → ranks LeftRim d far near (node a b) ≡ map f (leftRows g (bestLeft (node a b)))
-    within k far near f g o = left-hung-ranks d far near a b (left-hung d (ud b) (omega arith))
+    within k far near f g o = own-ranks d far near a b LeftRim _ refl (left-hung d (ud b) (omega arith))
         ∙ joined f (leftRows g (bestLeft a)) (g 0) (map g (rows (best b))) (L (omega (arith, inequalities a)) .within (omega arith) far near f g o) (at-zero far o) (hung-on d b far near f g p (omega arith) o)
 
     over : (o : Over (max (fanA a) (ud b)) d) (far near : Line) (f g : ℕ → ℕ) → Both d far near f g → (k : Dec (ud b ≤ d)) → ranks LeftRim d far near (node a b) ≡ map f (leftGateRows g (leftAt d a b o k (bestLeft a) (best b) (λ e. gateLeft d a e) (λ n. bestStem d b n)))
-    over o far near f g B (yes k) = left-hung-ranks d far near a b (left-hung d (ud b) k)
+    over o far near f g B (yes k) = own-ranks d far near a b LeftRim _ refl (left-hung d (ud b) k)
         ∙ joined f (leftGateRows g (gateLeft d a _)) (g 0) (map g (rows (best b))) (L (omega (arith, inequalities a)) .over _ far near f g B) (at-zero far (B .on-far)) (hung-on d b far near f g p k (B .on-far))
-    over o far near f g B (no k) = left-entered-ranks d far near a b (left-entered d (ud b) k)
+    over o far near f g B (no k) = own-ranks d far near a b LeftRim _ refl (left-entered d (ud b) k)
         ∙ joined f (leftRows suc (bestLeft a)) 1 (stemRows g suc (bestStem d b _)) (L (omega (arith, inequalities a)) .within (omega arith) near near f suc (B .on-near)) (at-zero near (B .on-near)) (s .back _ (omega arith) far near f g B)
 
 right-next : (d : ℕ) (a b : Tree) → HungIs d a → Stems d a → (partB b ≤ d → Right d b) → partB (node a b) ≤ d → Right d (node a b)
-unfolding best rows rightAt ud
+unfolding best rows rightAt ud stepAt aside
 right-next d a b p s R h = record { within = within; over = λ o far near f g B. over o far near f g B (decLe (ud a) d) }
   where
     within : max (ud a) (fanB b) ≤ d → (far near : Line) (f g : ℕ → ℕ) → OnLine far (λ r. f (g r)) (2 * d) → ranks RightRim d far near (node a b) ≡ map f (rightRows g (bestRight (node a b)))
-    within k far near f g o = right-hung-ranks d far near a b (right-hung d (ud a) (omega arith))
+    within k far near f g o = own-ranks d far near a b RightRim _ refl (right-hung d (ud a) (omega arith))
         ∙ joined f (map g (rows (best a))) (g 0) (rightRows g (bestRight b)) (hung-on d a far near f g p (omega arith) o) (at-zero far o) (R (omega (arith, inequalities b)) .within (omega arith) far near f g o)
 
     over : (o : Over (max (ud a) (fanB b)) d) (far near : Line) (f g : ℕ → ℕ) → Both d far near f g → (k : Dec (ud a ≤ d)) → ranks RightRim d far near (node a b) ≡ map f (rightGateRows g (rightAt d a b o k (best a) (bestRight b) (λ e. gateRight d b e) (λ n. bestStem d a n)))
-    over o far near f g B (yes k) = right-hung-ranks d far near a b (right-hung d (ud a) k)
+    over o far near f g B (yes k) = own-ranks d far near a b RightRim _ refl (right-hung d (ud a) k)
         ∙ joined f (map g (rows (best a))) (g 0) (rightGateRows g (gateRight d b _)) (hung-on d a far near f g p k (B .on-far)) (at-zero far (B .on-far)) (R (omega (arith, inequalities b)) .over _ far near f g B)
-    over o far near f g B (no k) = right-entered-ranks d far near a b (right-entered d (ud a) k)
+    over o far near f g B (no k) = own-ranks d far near a b RightRim _ refl (right-entered d (ud a) k)
         ∙ joined f (stemRows suc g (bestStem d a _)) 1 (rightRows suc (bestRight b)) (s .forth _ (omega arith) far near f g B) (at-zero near (B .on-near)) (R (omega (arith, inequalities b)) .within (omega arith) near near f suc (B .on-near))
 
 -- a stem goes on across one edge, and the other piece is hung
 module _ (d : ℕ) (far near : Line) (f g : ℕ → ℕ) (B : Both d far near f g) (a b : Tree) where
-  forth-left : (xs : List ℕ) → goesLeft false d (ud a) (ud b) (handle a) ≡ true → ranks FromLeft d far near a ≡ map f xs → HungIs d b → ud b ≤ d → ranks FromLeft d far near (node a b) ≡ map f (xs ++ (1 ∷ map suc (rows (best b))))
-  forth-left xs e x q h = forth-left-ranks d far near a b e ∙ joined f xs 1 (map suc (rows (best b))) x (at-zero near (B .on-near)) (hung-on d b near near f suc q h (B .on-near))
+  forth-left : (xs : List ℕ) → stepOf FromLeft d a b ≡ stemStep FromLeft false true → ranks FromLeft d far near a ≡ map f xs → HungIs d b → ud b ≤ d → ranks FromLeft d far near (node a b) ≡ map f (xs ++ (1 ∷ map suc (rows (best b))))
+  unfolding stemStep aside
+  forth-left xs e x q h = own-ranks d far near a b FromLeft _ refl e ∙ joined f xs 1 (map suc (rows (best b))) x (at-zero near (B .on-near)) (hung-on d b near near f suc q h (B .on-near))
 
-  forth-right : (ys : List ℕ) → goesLeft false d (ud a) (ud b) (handle a) ≡ false → HungIs d a → ud a ≤ d → ranks FromLeft d far near b ≡ map f ys → ranks FromLeft d far near (node a b) ≡ map f (map g (rows (best a)) ++ (g 0 ∷ ys))
-  forth-right ys e p h y = forth-right-ranks d far near a b e ∙ joined f (map g (rows (best a))) (g 0) ys (hung-on d a far near f g p h (B .on-far)) (at-zero far (B .on-far)) y
+  forth-right : (ys : List ℕ) → stepOf FromLeft d a b ≡ stemStep FromLeft false false → HungIs d a → ud a ≤ d → ranks FromLeft d far near b ≡ map f ys → ranks FromLeft d far near (node a b) ≡ map f (map g (rows (best a)) ++ (g 0 ∷ ys))
+  unfolding stemStep aside
+  forth-right ys e p h y = own-ranks d far near a b FromLeft _ refl e ∙ joined f (map g (rows (best a))) (g 0) ys (hung-on d a far near f g p h (B .on-far)) (at-zero far (B .on-far)) y
 
-  back-left : (xs : List ℕ) → goesLeft true d (ud a) (ud b) (handle a) ≡ true → ranks FromRight d far near a ≡ map f xs → HungIs d b → ud b ≤ d → ranks FromRight d far near (node a b) ≡ map f (xs ++ (g 0 ∷ map g (rows (best b))))
-  back-left xs e x q h = back-left-ranks d far near a b e ∙ joined f xs (g 0) (map g (rows (best b))) x (at-zero far (B .on-far)) (hung-on d b far near f g q h (B .on-far))
+  back-left : (xs : List ℕ) → stepOf FromRight d a b ≡ stemStep FromRight true true → ranks FromRight d far near a ≡ map f xs → HungIs d b → ud b ≤ d → ranks FromRight d far near (node a b) ≡ map f (xs ++ (g 0 ∷ map g (rows (best b))))
+  unfolding stemStep aside
+  back-left xs e x q h = own-ranks d far near a b FromRight _ refl e ∙ joined f xs (g 0) (map g (rows (best b))) x (at-zero far (B .on-far)) (hung-on d b far near f g q h (B .on-far))
 
-  back-right : (ys : List ℕ) → goesLeft true d (ud a) (ud b) (handle a) ≡ false → HungIs d a → ud a ≤ d → ranks FromRight d far near b ≡ map f ys → ranks FromRight d far near (node a b) ≡ map f (map suc (rows (best a)) ++ (1 ∷ ys))
-  back-right ys e p h y = back-right-ranks d far near a b e ∙ joined f (map suc (rows (best a))) 1 ys (hung-on d a near near f suc p h (B .on-near)) (at-zero near (B .on-near)) y
+  back-right : (ys : List ℕ) → stepOf FromRight d a b ≡ stemStep FromRight true false → HungIs d a → ud a ≤ d → ranks FromRight d far near b ≡ map f ys → ranks FromRight d far near (node a b) ≡ map f (map suc (rows (best a)) ++ (1 ∷ ys))
+  unfolding stemStep aside
+  back-right ys e p h y = own-ranks d far near a b FromRight _ refl e ∙ joined f (map suc (rows (best a))) 1 ys (hung-on d a near near f suc p h (B .on-near)) (at-zero near (B .on-near)) y
 
 module _ (d : ℕ) (far near : Line) (f g : ℕ → ℕ) (B : Both d far near f g) where
   forth-next : {a b : Tree} {S : Stem (node a b)} → Way false d a b S → HungIs d a → HungIs d b → Stems d a → Stems d b → handle (node a b) ≤ d → ranks FromLeft d far near (node a b) ≡ map f (stemRows suc g S)

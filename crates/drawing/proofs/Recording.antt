@@ -13,10 +13,11 @@ use Rattle.keys.specs.Keys.{keyOf}
 use Rattle.plan.specs.Numbered.{Holds}
 use Rattle.plan.proofs.Pieces.{Parts, opened}
 use Rattle.plan.proofs.Held.{held-root}
-use Rattle.drawing.specs.declared.steps.Part.{Part}
-use Rattle.drawing.specs.declared.steps.Part.the-variants.{Hung, LeftRim, RightRim}
-use Rattle.drawing.specs.declared.steps.Step.{Step}
-use Rattle.drawing.specs.Parts.{fromRight, isHung, stepAt, stepOf, columns, around}
+use Rattle.umbrella.specs.declared.roles.Role.{Role}
+use Rattle.umbrella.specs.declared.roles.Role.the-variants.{Hung, LeftRim, RightRim}
+use Rattle.umbrella.specs.declared.roles.Step.{Step}
+use Rattle.umbrella.specs.Roles.{fromRight, isHung, stepAt, stepOf}
+use Rattle.drawing.specs.Columns.{columns, around}
 use Rattle.drawing.specs.Tables.{Recorded, differ, pick, lay, both, Drawn}
 use Rattle.drawing.proofs.Writing.{none, one, seq, same}
 use Rattle.drawing.proofs.Orders.{own-first, own-last, no-own, side-columns, own-columns, hung-side, rims, lay-length, both-length, few-columns}
@@ -27,7 +28,7 @@ pub record RecordedParts (apex left right uds handles : List ℕ) (e u v : ℕ) 
   pub of-r : Recorded apex left right uds handles (getD right e 0) (getD apex e 0) v (parts .r)
   pub levels-are : getD uds e 0 ≡ ud (node (parts .l) (parts .r))
   pub not-empty : 1 ≤ getD uds e 0
-  pub step-is : (p : Part) (d : ℕ)
+  pub step-is : (p : Role) (d : ℕ)
       → stepAt p d (getD uds (getD left e 0) 0) (getD uds (getD right e 0) 0) (getD handles (getD left e 0) 0) ≡ stepOf p d (parts .l) (parts .r)
 
 pub recorded-parts : {apex left right uds handles : List ℕ} {e u v : ℕ} {t : Tree} → Recorded apex left right uds handles e u v t → (e ≡ 65535 → ⊥) → RecordedParts apex left right uds handles e u v t
@@ -50,17 +51,17 @@ pub hung-drawn : (d : ℕ) (t : Tree) (u v : ℕ) (turned : Bool) (at : ℕ) (o 
 hung-drawn d t u v true at o e = rw (hung-side d t u v e) (none at o)
 hung-drawn d t u v false at o e = rw (hung-side d t u v e) (none at o)
 
-pub side-drawn : (p : Part) (d : ℕ) (t : Tree) (u v : ℕ) (turned : Bool) (k at : ℕ) (o : List ℕ) → isHung p ≡ false → t ≡ leaf → k ≡ keyOf (u — v) → Drawn (lay turned (columns p d t u v)) at o (set o at k) (at + 1)
+pub side-drawn : (p : Role) (d : ℕ) (t : Tree) (u v : ℕ) (turned : Bool) (k at : ℕ) (o : List ℕ) → isHung p ≡ false → t ≡ leaf → k ≡ keyOf (u — v) → Drawn (lay turned (columns p d t u v)) at o (set o at k) (at + 1)
 side-drawn p d t u v true k at o h e q = rw (side-columns p d t u v h e) (one (u — v) k at o q)
 side-drawn p d t u v false k at o h e q = rw (side-columns p d t u v h e) (one (u — v) k at o q)
 
 -- both rims of an umbrella
 pub rims-drawn : (d : ℕ) (l r : Tree) {t : Tree} (u v c k : ℕ) (turned : Bool) {at n : ℕ} {o o₁ : List ℕ} → t ≡ node l r → c ≡ u + span l → ud (node l r) - 1 ≡ k
     → Drawn (both turned (lay turned (columns LeftRim k l u c)) (lay turned (columns RightRim k r c v))) at o o₁ n → Drawn (lay turned (columns Hung d t u v)) at o o₁ n
-rims-drawn d l r u v c k turned e m q D = rw (rims d l r u v c k e m q) (same (no-own turned (columns LeftRim k l u c) (columns RightRim k r c v)) D)
+rims-drawn d l r u v c k turned e m q D = rw (e, rims d l r u v k q, ← m) (same (no-own turned (columns LeftRim k l u c) (columns RightRim k r c v)) D)
 
--- how a rim or a stem goes on from its triangle: its parts, and the flags of the two pieces
-pub record Going (p : Part) (d : ℕ) (l r t : Tree) (u c : ℕ) (s : Step) (turned back other tl tr : Bool) : Type 0 where
+-- how a rim or a stem goes on from its triangle: its step, and the flags of the two pieces
+pub record Going (p : Role) (d : ℕ) (l r t : Tree) (u c : ℕ) (s : Step) (turned back other tl tr : Bool) : Type 0 where
   pub not-hung : isHung p ≡ false
   pub is : t ≡ node l r
   pub middle : c ≡ u + span l
@@ -71,12 +72,12 @@ pub record Going (p : Part) (d : ℕ) (l r t : Tree) (u c : ℕ) (s : Step) (tur
   pub right-is : tr ≡ pick back turned other
 
 -- its own column is the last one, or the first
-module _ {p : Part} {d : ℕ} {l r t : Tree} {u c : ℕ} {s : Step} {turned back other tl tr : Bool} (G : Going p d l r t u c s turned back other tl tr) (v : ℕ) where
+module _ {p : Role} {d : ℕ} {l r t : Tree} {u c : ℕ} {s : Step} {turned back other tl tr : Bool} (G : Going p d l r t u c s turned back other tl tr) (v : ℕ) where
   abbrev Within : List Edge
   Within = both other (lay tl (columns (s .left) d l u c)) (lay tr (columns (s .right) d r c v))
 
   own : columns p d t u v ≡ around (fromRight p) (s .crossed) (u — v) (columns (s .left) d l u c) (columns (s .right) d r c v)
-  own = own-columns p d l r u v c s (G .not-hung) (G .is) (G .middle) (G .step-is)
+  own = rw (G .is, G .middle) (own-columns p d l r u v s (G .not-hung) (sym (G .step-is)))
 
   pub last-drawn : (flag : Bool) → flag ≡ differ back turned → flag ≡ true → (k : ℕ) {at n : ℕ} {o o₁ : List ℕ} → k ≡ keyOf (u — v) → Drawn Within at o o₁ n → Drawn (lay turned (columns p d t u v)) at o (set o₁ n k) (n + 1)
   last-drawn flag g h k {n = n} {o₁ = o₁} q D =
@@ -93,10 +94,10 @@ module _ {p : Part} {d : ℕ} {l r t : Tree} {u c : ℕ} {s : Step} {turned back
       (seq (one (u — v) k at o q) D))
 
 -- where the columns end
-pub end-one : (t : Tree) (p : Part) (d u v : ℕ) (turned : Bool) {at n : ℕ} {o o₁ : List ℕ} → Drawn (lay turned (columns p d t u v)) at o o₁ n → n < at + 2 * span t
+pub end-one : (t : Tree) (p : Role) (d u v : ℕ) (turned : Bool) {at n : ℕ} {o o₁ : List ℕ} → Drawn (lay turned (columns p d t u v)) at o o₁ n → n < at + 2 * span t
 end-one t p d u v turned D = omega (arith, D .end, lay-length turned (columns p d t u v), few-columns t p d u v)
 
-pub end-two : (l r : Tree) (a b : Part) (d u c v : ℕ) (x tl tr : Bool) {at n : ℕ} {o o₁ : List ℕ} → Drawn (both x (lay tl (columns a d l u c)) (lay tr (columns b d r c v))) at o o₁ n → n + 2 ≤ at + 2 * (span l + span r)
+pub end-two : (l r : Tree) (a b : Role) (d u c v : ℕ) (x tl tr : Bool) {at n : ℕ} {o o₁ : List ℕ} → Drawn (both x (lay tl (columns a d l u c)) (lay tr (columns b d r c v))) at o o₁ n → n + 2 ≤ at + 2 * (span l + span r)
 end-two l r a b d u c v x tl tr D =
     omega (arith, D .end, both-length x (lay tl (columns a d l u c)) (lay tr (columns b d r c v)), lay-length tl (columns a d l u c), lay-length tr (columns b d r c v), few-columns l a d u c, few-columns r b d c v)
 

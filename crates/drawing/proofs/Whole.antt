@@ -19,10 +19,11 @@ use Rattle.keys.proofs.InOrder.{edge-of-key}
 use Rattle.plan.specs.Numbered.{Known}
 use Rattle.chart.specs.Places.{cols, rows}
 use Rattle.chart.proofs.Lists.{all-reverse}
-use Rattle.drawing.specs.declared.steps.Part.{Part}
-use Rattle.drawing.specs.declared.steps.Part.the-variants.{Hung, LeftRim, RightRim, FromLeft, FromRight}
+use Rattle.umbrella.specs.declared.roles.Role.{Role}
+use Rattle.umbrella.specs.declared.roles.Role.the-variants.{Hung, LeftRim, RightRim, FromLeft, FromRight}
 use Rattle.drawing.specs.declared.rows.Line.{Line}
-use Rattle.drawing.specs.Parts.{stepOf, under, around, arranged, sideColumn, columns}
+use Rattle.umbrella.specs.Roles.{stepOf, levelsUnder}
+use Rattle.drawing.specs.Columns.{around, arranged, sideColumn, columns}
 use Rattle.drawing.specs.Tables.{Recorded, Drawn}
 use Rattle.drawing.specs.Lines.{ranks}
 use Rattle.drawing.specs.Placed.{Placed}
@@ -47,7 +48,7 @@ module _ (m : ℕ) where
   around-low true false e xs ys h a b = all-append a (all-append b (all-cons h all-nil))
   around-low true true e xs ys h a b = all-append b (all-append (all-reverse a) (all-cons h all-nil))
 
-  arranged-low : (p : Part) (x : Bool) (e : Edge) (xs ys : List Edge) → e .1 < m → Low xs → Low ys → Low (arranged p x e xs ys)
+  arranged-low : (p : Role) (x : Bool) (e : Edge) (xs ys : List Edge) → e .1 < m → Low xs → Low ys → Low (arranged p x e xs ys)
   unfolding arranged
   arranged-low Hung x e xs ys h a b = all-append a b
   arranged-low LeftRim x e xs ys h a b = around-low true x e xs ys h a b
@@ -55,7 +56,7 @@ module _ (m : ℕ) where
   arranged-low FromLeft x e xs ys h a b = around-low false x e xs ys h a b
   arranged-low FromRight x e xs ys h a b = around-low true x e xs ys h a b
 
-  side-low : (p : Part) (e : Edge) → e .1 < m → Low (sideColumn p e)
+  side-low : (p : Role) (e : Edge) → e .1 < m → Low (sideColumn p e)
   unfolding sideColumn
   side-low Hung e h = all-nil
   side-low LeftRim e h = all-cons h all-nil
@@ -63,12 +64,12 @@ module _ (m : ℕ) where
   side-low FromLeft e h = all-cons h all-nil
   side-low FromRight e h = all-cons h all-nil
 
-  columns-low : (t : Tree) (p : Part) (d u v : ℕ) → v < m → u + span t < m → Low (columns p d t u v)
+  columns-low : (t : Tree) (p : Role) (d u v : ℕ) → v < m → u + span t < m → Low (columns p d t u v)
   unfolding columns span
   columns-low leaf p d u v h i = side-low p (u — v) h
   columns-low (node l r) p d u v h i =
       let s = stepOf p d l r in
-      let k : ℕ = under p d (ud (node l r)) in
+      let k : ℕ = levelsUnder p d (ud (node l r)) in
       let c : ℕ = u + span l in
       arranged-low p (s .crossed) (u — v) (columns (s .left) k l u c) (columns (s .right) k r c v) h (columns-low l (s .left) k u c (omega arith) (omega arith)) (columns-low r (s .right) k c v h (omega arith))
 

@@ -1,4 +1,4 @@
-pub mod Parts
+pub mod Columns
 pub mod Tables
 pub mod Lines
 pub mod Placed

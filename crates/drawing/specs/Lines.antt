@@ -1,15 +1,15 @@
--- The rows of the corners strictly inside a piece, by the part that the piece is of an umbrella.
+-- The rows of the corners strictly inside a piece, by the role of the piece in an umbrella.
 -- (`rows-best` in proofs/Ranked.antt: they are those of the plan drawn.)
 use mathlib.Core.Bool.{Bool, true, false, not}
 use mathlib.Core.List.{List, [], _∷_, _++_}
 use Prim.Native.Nat.{ℕ, _+_, _-_, _*_}
 use Rattle.polygon.specs.Tree.{Tree, leaf, node}
 use Rattle.umbrella.specs.Numbers.{ud}
-use Rattle.drawing.specs.declared.steps.Part.{Part}
-use Rattle.drawing.specs.declared.steps.Part.the-variants.{Hung, LeftRim, RightRim, FromLeft, FromRight}
+use Rattle.umbrella.specs.declared.roles.Role.{Role}
+use Rattle.umbrella.specs.declared.roles.Role.the-variants.{Hung, LeftRim, RightRim, FromLeft, FromRight}
 use Rattle.drawing.specs.declared.rows.Line.{Line}
 use Rattle.drawing.specs.declared.rows.Lines.{Lines}
-use Rattle.drawing.specs.Parts.{stepOf}
+use Rattle.umbrella.specs.Roles.{stepOf}
 
 -- "A hung piece on row 2D goes upwards, on row 1 downwards; its row 0 is that row": the row of the part on which row r of a hung piece lies
 abbrev pub onLine : (down : Bool) (base r : ℕ) → ℕ
@@ -33,18 +33,18 @@ aside true true d far near = record { d = d; left = near; right = far; near = ne
 aside false true d far near = record { d = d; left = far; right = near; near = near; middle = near .base }
 
 -- the lines of the two pieces beyond a triangle, and the row of its third corner; n are the levels of its piece
-unfoldable pub linesAt : Part → Bool → (d n : ℕ) → Line → Line → Lines
+unfoldable pub linesAt : Role → Bool → (d n : ℕ) → Line → Line → Lines
 linesAt Hung k d n far near = record { d = n - 1; left = farLine n far; right = farLine n far; near = nearLine far; middle = farLine n far .base }
 linesAt LeftRim k d n far near = aside true k d far near
 linesAt RightRim k d n far near = aside false k d far near
 linesAt FromLeft k d n far near = aside false k d far near
 linesAt FromRight k d n far near = aside true k d far near
 
-abbrev pub linesOf : Part → ℕ → Line → Line → Tree → Tree → Lines
+abbrev pub linesOf : Role → ℕ → Line → Line → Tree → Tree → Lines
 linesOf p d far near l r = linesAt p (stepOf p d l r .crossed) d (ud (node l r)) far near
 
 -- in the order of the corners
-unfoldable pub ranks : Part → ℕ → Line → Line → Tree → List ℕ
+unfoldable pub ranks : Role → ℕ → Line → Line → Tree → List ℕ
 ranks p d far near leaf = []
 ranks p d far near (node l r) =
     let s = stepOf p d l r in

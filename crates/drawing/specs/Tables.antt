@@ -1,6 +1,6 @@
 -- How the code holds a piece and its columns.
 use mathlib.Core.Path.{_≡_}
-use mathlib.Core.Bool.{Bool, true, false}
+use mathlib.Core.Bool.{Bool, true, false, not}
 use mathlib.Core.List.{List, _++_, map, reverse}
 use Prim.Native.Nat.{ℕ, _+_, _*_, _-_, _≤_, _<_}
 use lib.ListN.{length}
@@ -24,10 +24,8 @@ pub record Room (u v at : ℕ) : Type 0 where
   pub fits : at + 2 * (v - u) ≤ 4096
 
 abbrev pub differ : Bool → Bool → Bool
-differ true true = false
-differ true false = true
-differ false true = true
-differ false false = false
+differ true b = not b
+differ false b = b
 
 abbrev pub pick : Bool → Bool → Bool → Bool
 pick true a b = a

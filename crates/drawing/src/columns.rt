@@ -3,17 +3,33 @@
 ghost use mathlib.Core.Path.{_≡_};
 ghost use Prim.Native.Nat.{ℕ, _+_, _*_, _-_, _≤_, _<_};
 ghost use Rattle.polygon.specs.Tree.{Tree};
-ghost use Rattle.drawing.specs.Parts.{columns};
-ghost use Rattle.drawing.specs.declared.steps.Part.the-variants.{Hung};
-ghost use Rattle.drawing.specs.Tables.{Recorded, Room, lay, both, Drawn};
-use crate::steps::Part;
-use crate::steps::differ;
-use crate::steps::from_right;
-use crate::steps::is_hung;
-use crate::steps::pick;
-use crate::steps::step_at;
+ghost use Rattle.drawing.specs.Columns.{columns};
+ghost use Rattle.umbrella.specs.declared.roles.Role.the-variants.{Hung};
+ghost use Rattle.drawing.specs.Tables.{Recorded, Room, differ, pick, lay, both, Drawn};
 use keys::key;
 use plan::counts::number;
+use umbrella::roles::Role;
+use umbrella::roles::from_right;
+use umbrella::roles::is_hung;
+use umbrella::roles::step_at;
+
+fn differ(a: bool, b: bool) -> bool
+    ensures { λ r. ⌜ r ≡ differ a b ⌝ }
+{
+    if a {
+        return !b;
+    }
+    b
+}
+
+fn pick(c: bool, a: bool, b: bool) -> bool
+    ensures { λ r. ⌜ r ≡ pick c a b ⌝ }
+{
+    if c {
+        return a;
+    }
+    b
+}
 
 // Writes the columns of the piece at e, on the corners u to v, from `at` on, and returns the place behind them. `turned`: "It is reversed left to right".
 pub fn draw_piece(
@@ -51,8 +67,8 @@ pub fn draw_piece(
         c,
         j,
         v,
-        Part::LeftRim,
-        Part::RightRim,
+        Role::LeftRim,
+        Role::RightRim,
         d,
         turned,
         turned,
@@ -62,7 +78,7 @@ pub fn draw_piece(
     )
 }
 
-// The same for a piece that is part p of an umbrella with d levels under it: a rim or a stem, with the column of its root edge; or a hung piece.
+// The same for a piece by its role p in an umbrella with d levels under it: a rim or a stem, with the column of its root edge; or a hung piece.
 pub fn draw_stem(
     apex: &[u16; 1022],
     left: &[u16; 1022],
@@ -72,7 +88,7 @@ pub fn draw_stem(
     e: usize,
     u: usize,
     v: usize,
-    p: Part,
+    p: Role,
     d: u16,
     turned: bool,
     at: usize,
@@ -158,8 +174,8 @@ fn draw_two(
     c: usize,
     j: usize,
     v: usize,
-    a: Part,
-    b: Part,
+    a: Role,
+    b: Role,
     d: u16,
     turned_l: bool,
     turned_r: bool,

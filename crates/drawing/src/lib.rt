@@ -1,5 +1,5 @@
 // The columns and rows of the drawing of a part.
-// steps.rt says how the drawing goes on from a triangle, columns.rt writes the upright of each column, rows.rt the row of each corner.
+// columns.rt writes the upright of each column, rows.rt the row of each corner.
 // The definitions that the contracts cite are in specs/; Placed.antt says what is drawn of a part.
 ghost use mathlib.Core.Path.{_≡_};
 ghost use Prim.Native.Nat.{_≤_};
@@ -11,12 +11,11 @@ ghost use Rattle.drawing.specs.Placed.{Placed};
 use crate::columns::draw_piece;
 use crate::rows::Line;
 use crate::rows::place_rows;
-use crate::steps::Part;
 use plan::filled::fill;
+use umbrella::roles::Role;
 
 pub mod columns;
 pub mod rows;
-pub mod steps;
 
 // How many columns and levels a drawing has.
 pub struct Size {
@@ -79,7 +78,7 @@ pub fn place_part(keys: &[u32], n: usize, columns: &mut [u32; 4096], rows: &mut 
         root,
         0,
         v,
-        Part::Hung,
+        Role::Hung,
         0,
         top,
         top,

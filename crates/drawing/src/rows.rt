@@ -5,9 +5,9 @@ ghost use lib.Seq.{sets};
 ghost use Rattle.polygon.specs.Tree.{Tree};
 ghost use Rattle.drawing.specs.Lines.{rowAt, farLine, nearLine, aside, linesAt, ranks};
 ghost use Rattle.drawing.specs.Tables.{Recorded};
-use crate::steps::Part;
-use crate::steps::step_at;
 use plan::counts::number;
+use umbrella::roles::Role;
+use umbrella::roles::step_at;
 
 // The row of the part on which row 0 of a hung piece lies, and whether its rows go down from there. Rows are numbered downwards.
 pub struct Line {
@@ -91,13 +91,13 @@ fn aside(right: bool, crossed: bool, d: u16, far: Line, near: Line) -> Lines
     }
 }
 
-// By the part of the piece; `levels` are its levels.
-fn lines_at(p: Part, crossed: bool, d: u16, levels: u16, far: Line, near: Line) -> Lines
+// By the role of the piece; `levels` are its levels.
+fn lines_at(p: Role, crossed: bool, d: u16, levels: u16, far: Line, near: Line) -> Lines
     requires { ⌜ (far .base ≤ 60000) × (1 ≤ levels) × (levels ≤ 50) ⌝ }
     ensures { λ r. ⌜ r ≡ linesAt p crossed d levels far near ⌝ }
 {
     match p {
-        Part::Hung => {
+        Role::Hung => {
             let row = far_line(levels, far);
             Lines {
                 d: levels - 1,
@@ -107,14 +107,14 @@ fn lines_at(p: Part, crossed: bool, d: u16, levels: u16, far: Line, near: Line) 
                 middle: row.base,
             }
         }
-        Part::LeftRim => aside(true, crossed, d, far, near),
-        Part::RightRim => aside(false, crossed, d, far, near),
-        Part::FromLeft => aside(false, crossed, d, far, near),
-        Part::FromRight => aside(true, crossed, d, far, near),
+        Role::LeftRim => aside(true, crossed, d, far, near),
+        Role::RightRim => aside(false, crossed, d, far, near),
+        Role::FromLeft => aside(false, crossed, d, far, near),
+        Role::FromRight => aside(true, crossed, d, far, near),
     }
 }
 
-// Writes the rows of the corners strictly between u and v, for the piece at e that is part p of an umbrella with d levels under it.
+// Writes the rows of the corners strictly between u and v, for the piece at e by its role p in an umbrella with d levels under it.
 pub fn place_rows(
     apex: &[u16; 1022],
     left: &[u16; 1022],
@@ -124,7 +124,7 @@ pub fn place_rows(
     e: usize,
     u: usize,
     v: usize,
-    p: Part,
+    p: Role,
     d: u16,
     far: Line,
     near: Line,

@@ -17,3 +17,6 @@ pub mod Rim
 pub mod Gates
 pub mod Cut
 pub mod Border
+pub mod Induction
+pub mod Cases
+pub mod Ways

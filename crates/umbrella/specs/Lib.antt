@@ -6,3 +6,4 @@ pub mod Occurs
 pub mod Triangles
 pub mod Rim
 pub mod Border
+pub mod Roles

@@ -21,11 +21,11 @@ use Rattle.drawing.proofs.columns.+draw_piece+draw_stem+draw_two.Lts-dr
 use Rattle.drawing.proofs.columns.draw_two.Reads as draw-two
 use Rattle.drawing.proofs.columns.draw_two.Kinds as draw-two-kinds
 use Rattle.drawing.proofs.columns.+draw_piece+draw_stem+draw_two.Lts-draw_two as draw-two-lts
-use Rattle.drawing.proofs.steps.differ.Reads as differ-reads
-use Rattle.drawing.proofs.steps.from_right.Reads as from-right-reads
-use Rattle.drawing.proofs.steps.is_hung.Reads as is-hung-reads
-use Rattle.drawing.proofs.steps.pick.Reads as pick-reads
-use Rattle.drawing.proofs.steps.step_at.Reads as step-at-reads
+use Rattle.drawing.proofs.columns.differ.Reads as differ-reads
+use Rattle.umbrella.proofs.roles.from_right.Reads as from-right-reads
+use Rattle.umbrella.proofs.roles.is_hung.Reads as is-hung-reads
+use Rattle.drawing.proofs.columns.pick.Reads as pick-reads
+use Rattle.umbrella.proofs.roles.step_at.Reads as step-at-reads
 use Rattle.keys.proofs.key.Reads as key-reads
 use Rattle.plan.proofs.counts.number.Reads as number-reads
 use Rattle.drawing.proofs.columns.+draw_piece+draw_stem+draw_two.{statement}

@@ -6,7 +6,7 @@ use native.Mathlib.Omega.{arith}
 use Rattle.polygon.specs.Tree.{node, span}
 use Rattle.umbrella.proofs.Wide.{nine}
 use Rattle.plan.proofs.Pieces.{ends, closed}
-use Rattle.drawing.specs.Parts.{stepOf}
+use Rattle.umbrella.specs.Roles.{stepOf}
 use Rattle.drawing.proofs.Recording.{recorded-parts}
 use Rattle.drawing.proofs.Placing.{Small, lines-small, side-placed, lines-are, triangle-placed}
 use Prim.Native.Nat.{ℕ, _<_}
@@ -16,7 +16,7 @@ use Rattle.drawing.proofs.rows.place_rows.Reads as place-rows
 use Rattle.drawing.proofs.rows.place_rows.Kinds as place-rows-kinds
 use Rattle.drawing.proofs.rows.+place_rows.Lts-place_rows as place-rows-lts
 use Rattle.drawing.proofs.rows.lines_at.Reads as lines-at-reads
-use Rattle.drawing.proofs.steps.step_at.Reads as step-at-reads
+use Rattle.umbrella.proofs.roles.step_at.Reads as step-at-reads
 use Rattle.plan.proofs.counts.number.Reads as number-reads
 use Rattle.drawing.proofs.rows.+place_rows.{statement}
 use Rattle.drawing.proofs.rows.+place_rows.Tie.{close}

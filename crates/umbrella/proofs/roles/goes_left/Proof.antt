@@ -1,9 +1,9 @@
 -- By the tests.
 use mathlib.Core.Path.{sym}
 use native.Mathlib.Omega.{arith}
-use Rattle.drawing.proofs.Cases.{end-both, end-left, only-right, end-right, only-left, both-left, both-right}
-use Rattle.drawing.proofs.steps.goes_left.Statement.{statement}
-use Rattle.drawing.proofs.steps.goes_left.Tie as tie
+use Rattle.umbrella.proofs.Cases.{end-both, end-left, only-right, end-right, only-left, both-left, both-right}
+use Rattle.umbrella.proofs.roles.goes_left.Statement.{statement}
+use Rattle.umbrella.proofs.roles.goes_left.Tie as tie
 
 returns : tie.Need-returns
 returns c =

@@ -1,23 +1,13 @@
--- The cases of a step from a triangle to the two pieces beyond it, each by the tests that lead to it; and the columns of the triangle's piece by its step.
+-- The cases of a step from a triangle to the two pieces beyond it, each by the tests that lead to it. Rests on the definitions alone.
 use mathlib.Core.Path.{_≡_, refl, _∙_}
 use mathlib.Core.Bool.{Bool, true, false, not}
-use mathlib.Core.List.{_++_}
-use Prim.Native.Nat.{ℕ, zero, suc, _+_, _-_, _≤_}
+use Prim.Native.Nat.{ℕ, zero, suc, _≤_}
 use native.Mathlib.Decide.{decLe}
 use native.Mathlib.Omega.{arith}
 use Rattle.polygon.specs.Lists.{choose}
-use Rattle.polygon.specs.Polygon.{_—_}
-use Rattle.polygon.specs.Tree.{Tree, node, span}
 use Rattle.polygon.proofs.Lists.{choose-yes, choose-no}
-use Rattle.umbrella.specs.Numbers.{ud, handle}
-use Rattle.drawing.specs.declared.steps.Part.the-variants.{Hung, LeftRim, RightRim, FromLeft, FromRight}
-use Rattle.drawing.specs.declared.steps.Step.{Step}
-use Rattle.drawing.specs.Parts.{leftStep, rightStep, goesLeft, stemStep, stepAt, under, around, arranged, columns}
-use Rattle.drawing.specs.Tables.{differ}
-
-pub differ-false : (a b : Bool) → a ≡ false → b ≡ differ a b
-differ-false a true e = rw e
-differ-false a false e = rw e
+use Rattle.umbrella.specs.declared.roles.Role.the-variants.{Hung, LeftRim, RightRim, FromLeft, FromRight}
+use Rattle.umbrella.specs.Roles.{leftStep, rightStep, goesLeft}
 
 module _ (d n : ℕ) where
   pub left-hung : n ≤ d → leftStep d n ≡ record { left = LeftRim; right = Hung; crossed = false }
@@ -78,25 +68,3 @@ module _ (k : Bool) (d h : ℕ) where
       go (yes x) (yes y) f = absurd (f x y)
       go (yes x) (no y) f = refl
       go (no x) y f = refl
-
--- the columns at a triangle
-module _ (d : ℕ) (l r : Tree) (u v : ℕ) where
-  pub hung-columns : (k : ℕ) → ud (node l r) - 1 ≡ k → columns Hung d (node l r) u v ≡ columns LeftRim k l u (u + span l) ++ columns RightRim k r (u + span l) v
-  unfolding columns stepAt under arranged
-  hung-columns k e = rw e
-
-  pub left-columns : (s : Step) → leftStep d (ud r) ≡ s → columns LeftRim d (node l r) u v ≡ around true (s .crossed) (u — v) (columns (s .left) d l u (u + span l)) (columns (s .right) d r (u + span l) v)
-  unfolding columns stepAt under arranged
-  left-columns s e = rw e
-
-  pub right-columns : (s : Step) → rightStep d (ud l) ≡ s → columns RightRim d (node l r) u v ≡ around false (s .crossed) (u — v) (columns (s .left) d l u (u + span l)) (columns (s .right) d r (u + span l) v)
-  unfolding columns stepAt under arranged
-  right-columns s e = rw e
-
-  pub stem-columns : (g : Bool) → goesLeft false d (ud l) (ud r) (handle l) ≡ g → let s = stemStep FromLeft false g in columns FromLeft d (node l r) u v ≡ around false (s .crossed) (u — v) (columns (s .left) d l u (u + span l)) (columns (s .right) d r (u + span l) v)
-  unfolding columns stepAt under arranged
-  stem-columns g e = rw e
-
-  pub back-columns : (g : Bool) → goesLeft true d (ud l) (ud r) (handle l) ≡ g → let s = stemStep FromRight true g in columns FromRight d (node l r) u v ≡ around true (s .crossed) (u — v) (columns (s .left) d l u (u + span l)) (columns (s .right) d r (u + span l) v)
-  unfolding columns stepAt under arranged
-  back-columns g e = rw e

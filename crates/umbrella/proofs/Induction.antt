@@ -1,11 +1,11 @@
--- What holds of the best umbrella of a piece, by what holds of its rims and of its stem: the recursion of Best.antt of the crate umbrella, for any statements about them.
--- Rests on the inequalities between the six numbers there.
+-- What holds of the best umbrella of a piece, by what holds of its rims and of its stem: the recursion of Best.antt, for any statements about them.
+-- Rests on the inequalities between the six numbers.
 use Prim.Native.Nat.{ℕ, _≤_}
 use native.Mathlib.Omega.{arith}
 use Rattle.polygon.specs.Tree.{Tree, leaf, node}
 use Rattle.umbrella.specs.Numbers.{ud, partA, partB}
 use Rattle.umbrella.specs.Best.{under}
 use Rattle.umbrella.proofs.Inequalities.{inequalities}
 
 -- of a piece that is hung, that lies on the rim below or above c, and that a stem enters, with d levels under the umbrella
 pub record Statements : Type 1 where

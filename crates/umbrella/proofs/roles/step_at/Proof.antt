@@ -1,9 +1,9 @@
--- By the five parts.
+-- By the five roles.
 use mathlib.Core.Path.{_∙_}
 use borrow.Author.Needs.{needs}
-use Rattle.drawing.specs.Parts.{stepAt}
-use Rattle.drawing.proofs.steps.step_at.Statement.{statement}
-use Rattle.drawing.proofs.steps.step_at.Tie as tie
+use Rattle.umbrella.specs.Roles.{stepAt}
+use Rattle.umbrella.proofs.roles.step_at.Statement.{statement}
+use Rattle.umbrella.proofs.roles.step_at.Tie as tie
 
 enum-told : tie.Need-enum-told
 enum-told c = search needs

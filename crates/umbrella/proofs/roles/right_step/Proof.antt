@@ -1,9 +1,9 @@
 -- By the test.
 use mathlib.Core.Path.{sym}
 use native.Mathlib.Omega.{arith}
-use Rattle.drawing.proofs.Cases.{right-hung, right-entered}
-use Rattle.drawing.proofs.steps.right_step.Statement.{statement}
-use Rattle.drawing.proofs.steps.right_step.Tie as tie
+use Rattle.umbrella.proofs.Cases.{right-hung, right-entered}
+use Rattle.umbrella.proofs.roles.right_step.Statement.{statement}
+use Rattle.umbrella.proofs.roles.right_step.Tie as tie
 
 returns : tie.Need-returns
 returns c = sym (right-hung (c .before .args .d) (c .before .args .ud-l) (omega arith))

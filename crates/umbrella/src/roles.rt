@@ -1,10 +1,9 @@
-// How the drawing goes on from a triangle to the two pieces beyond its other edges. specs/Parts.antt has the same in definitions.
+// How the plan drawn goes on from a triangle to the two pieces beyond its other edges. specs/Roles.antt has the same in definitions.
 ghost use mathlib.Core.Path.{_≡_};
-ghost use Rattle.drawing.specs.Parts.{fromRight, isHung, leftStep, rightStep, goesLeft, stemStep, stepAt};
-ghost use Rattle.drawing.specs.Tables.{differ, pick};
+ghost use Rattle.umbrella.specs.Roles.{fromRight, isHung, leftStep, rightStep, goesLeft, stemStep, stepAt};
 
 // A piece is hung, with an umbrella of its own; or it lies on the rim below or above the apex of an umbrella; or the umbrella's stem has entered it, and is built from the left or from the right.
-pub enum Part {
+pub enum Role {
     Hung,
     LeftRim,
     RightRim,
@@ -12,56 +11,35 @@ pub enum Part {
     FromRight,
 }
 
-// The parts of the left and of the right piece, and whether their columns are crossed.
+// The roles of the left and of the right piece, and whether their columns are crossed.
 pub struct Step {
-    pub left: Part,
-    pub right: Part,
+    pub left: Role,
+    pub right: Role,
     pub crossed: bool,
 }
 
-pub fn differ(a: bool, b: bool) -> bool
-    ensures { λ r. ⌜ r ≡ differ a b ⌝ }
-{
-    if a {
-        if b {
-            return false;
-        }
-        return true;
-    }
-    b
-}
-
-pub fn pick(c: bool, a: bool, b: bool) -> bool
-    ensures { λ r. ⌜ r ≡ pick c a b ⌝ }
-{
-    if c {
-        return a;
-    }
-    b
-}
-
 // "If s < i, build from the right": the rim below the apex, and a stem that enters across it.
-pub fn from_right(p: Part) -> bool
+pub fn from_right(p: Role) -> bool
     ensures { λ r. ⌜ r ≡ fromRight p ⌝ }
 {
     match p {
-        Part::Hung => false,
-        Part::LeftRim => true,
-        Part::RightRim => false,
-        Part::FromLeft => false,
-        Part::FromRight => true,
+        Role::Hung => false,
+        Role::LeftRim => true,
+        Role::RightRim => false,
+        Role::FromLeft => false,
+        Role::FromRight => true,
     }
 }
 
-pub fn is_hung(p: Part) -> bool
+pub fn is_hung(p: Role) -> bool
     ensures { λ r. ⌜ r ≡ isHung p ⌝ }
 {
     match p {
-        Part::Hung => true,
-        Part::LeftRim => false,
-        Part::RightRim => false,
-        Part::FromLeft => false,
-        Part::FromRight => false,
+        Role::Hung => true,
+        Role::LeftRim => false,
+        Role::RightRim => false,
+        Role::FromLeft => false,
+        Role::FromRight => false,
     }
 }
 
@@ -71,14 +49,14 @@ fn left_step(d: u16, ud_r: u16) -> Step
 {
     if ud_r <= d {
         return Step {
-            left: Part::LeftRim,
-            right: Part::Hung,
+            left: Role::LeftRim,
+            right: Role::Hung,
             crossed: false,
         };
     }
     Step {
-        left: Part::LeftRim,
-        right: Part::FromRight,
+        left: Role::LeftRim,
+        right: Role::FromRight,
         crossed: true,
     }
 }
@@ -89,14 +67,14 @@ fn right_step(d: u16, ud_l: u16) -> Step
 {
     if ud_l <= d {
         return Step {
-            left: Part::Hung,
-            right: Part::RightRim,
+            left: Role::Hung,
+            right: Role::RightRim,
             crossed: false,
         };
     }
     Step {
-        left: Part::FromLeft,
-        right: Part::RightRim,
+        left: Role::FromLeft,
+        right: Role::RightRim,
         crossed: true,
     }
 }
@@ -130,36 +108,36 @@ fn goes_left(right: bool, d: u16, ud_l: u16, ud_r: u16, handle_l: u16) -> bool
 }
 
 // The stem goes on across one edge, the other piece is hung.
-fn stem_step(p: Part, right: bool, left: bool) -> Step
+fn stem_step(p: Role, right: bool, left: bool) -> Step
     ensures { λ r. ⌜ r ≡ stemStep p right left ⌝ }
 {
     if left {
         return Step {
             left: p,
-            right: Part::Hung,
+            right: Role::Hung,
             crossed: !right,
         };
     }
     Step {
-        left: Part::Hung,
+        left: Role::Hung,
         right: p,
         crossed: right,
     }
 }
 
-// From a triangle by the part of its piece: `ud_l`, `ud_r` are the levels of the left and right piece, `handle_l` those of a stem through the left one.
-pub fn step_at(p: Part, d: u16, ud_l: u16, ud_r: u16, handle_l: u16) -> Step
+// From a triangle by the role of its piece: `ud_l`, `ud_r` are the levels of the left and right piece, `handle_l` those of a stem through the left one.
+pub fn step_at(p: Role, d: u16, ud_l: u16, ud_r: u16, handle_l: u16) -> Step
     ensures { λ r. ⌜ r ≡ stepAt p d «ud_l» «ud_r» «handle_l» ⌝ }
 {
     match p {
-        Part::Hung => Step {
-            left: Part::LeftRim,
-            right: Part::RightRim,
+        Role::Hung => Step {
+            left: Role::LeftRim,
+            right: Role::RightRim,
             crossed: false,
         },
-        Part::LeftRim => left_step(d, ud_r),
-        Part::RightRim => right_step(d, ud_l),
-        Part::FromLeft => stem_step(p, false, goes_left(false, d, ud_l, ud_r, handle_l)),
-        Part::FromRight => stem_step(p, true, goes_left(true, d, ud_l, ud_r, handle_l)),
+        Role::LeftRim => left_step(d, ud_r),
+        Role::RightRim => right_step(d, ud_l),
+        Role::FromLeft => stem_step(p, false, goes_left(false, d, ud_l, ud_r, handle_l)),
+        Role::FromRight => stem_step(p, true, goes_left(true, d, ud_l, ud_r, handle_l)),
     }
 }

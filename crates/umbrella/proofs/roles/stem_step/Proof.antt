@@ -1,7 +1,7 @@
 -- By the test.
-use Rattle.drawing.specs.Parts.{stemStep}
-use Rattle.drawing.proofs.steps.stem_step.Statement.{statement}
-use Rattle.drawing.proofs.steps.stem_step.Tie as tie
+use Rattle.umbrella.specs.Roles.{stemStep}
+use Rattle.umbrella.proofs.roles.stem_step.Statement.{statement}
+use Rattle.umbrella.proofs.roles.stem_step.Tie as tie
 
 returns : tie.Need-returns
 unfolding stemStep

@@ -1,9 +1,9 @@
 -- By the test.
 use mathlib.Core.Path.{sym}
 use native.Mathlib.Omega.{arith}
-use Rattle.drawing.proofs.Cases.{left-hung, left-entered}
-use Rattle.drawing.proofs.steps.left_step.Statement.{statement}
-use Rattle.drawing.proofs.steps.left_step.Tie as tie
+use Rattle.umbrella.proofs.Cases.{left-hung, left-entered}
+use Rattle.umbrella.proofs.roles.left_step.Statement.{statement}
+use Rattle.umbrella.proofs.roles.left_step.Tie as tie
 
 returns : tie.Need-returns
 returns c = sym (left-hung (c .before .args .d) (c .before .args .ud-r) (omega arith))
