@@ -61,7 +61,7 @@ side-columns FromRight d t u v h e = rw e
 
 pub own-columns : (p : Role) (d : ℕ) (l r : Tree) (u v : ℕ) (s : Step) → isHung p ≡ false → stepOf p d l r ≡ s
     → columns p d (node l r) u v ≡ around (fromRight p) (s .crossed) (u — v) (columns (s .left) d l u (u + span l)) (columns (s .right) d r (u + span l) v)
-unfolding columns arranged levelsUnder
+unfolding columns arranged
 own-columns Hung d l r u v s h e = absurd (true≢false h)
 own-columns LeftRim d l r u v s h e = rw e
 own-columns RightRim d l r u v s h e = rw e
@@ -73,7 +73,7 @@ unfolding columns sideColumn
 hung-side d t u v e = rw e
 
 pub rims : (d : ℕ) (l r : Tree) (u v k : ℕ) → ud (node l r) - 1 ≡ k → columns Hung d (node l r) u v ≡ columns LeftRim k l u (u + span l) ++ columns RightRim k r (u + span l) v
-unfolding columns stepAt levelsUnder arranged
+unfolding columns stepAt arranged
 rims d l r u v k e = rw e
 
 pub lay-length : (t : Bool) (xs : List Edge) → length (lay t xs) ≡ length xs
@@ -112,6 +112,6 @@ unfolding columns span
 few-columns leaf p d u v = omega (arith, side-length p (u — v))
 few-columns (node l r) p d u v =
     let s = stepOf p d l r in
-    let k : ℕ = levelsUnder p d (ud (node l r)) in
+    let k : ℕ = levelsUnder p d (ud (node l r) - 1) in
     let c : ℕ = u + span l in
     omega (arith, arranged-length p (s .crossed) (u — v) (columns (s .left) k l u c) (columns (s .right) k r c v), few-columns l (s .left) k u c, few-columns r (s .right) k c v)

@@ -1,50 +1,23 @@
--- What the tables give at an entry that is no side; and how the columns of its two pieces make those of the piece.
--- Rests on Orders.antt and Writing.antt, and on the laws of the tables in the crate plan.
+-- How the columns of the two pieces beyond a triangle make those of its piece.
+-- Rests on Orders.antt and Writing.antt.
 use mathlib.Core.Path.{_≡_, sym, _∙_}
 use mathlib.Core.Bool.{Bool, true, false}
 use mathlib.Core.List.{List}
 use Prim.Native.Nat.{ℕ, _+_, _*_, _-_, _≤_, _<_}
 use native.Mathlib.Omega.{arith}
-use lib.ListN.{getD, set}
+use lib.ListN.{set}
 use Rattle.polygon.specs.Polygon.{Edge, _—_}
 use Rattle.polygon.specs.Tree.{Tree, leaf, node, span}
-use Rattle.umbrella.specs.Numbers.{ud, handle}
+use Rattle.umbrella.specs.Numbers.{ud}
 use Rattle.keys.specs.Keys.{keyOf}
-use Rattle.plan.specs.Numbered.{Holds}
-use Rattle.plan.proofs.Pieces.{Parts, opened}
-use Rattle.plan.proofs.Held.{held-root}
 use Rattle.umbrella.specs.declared.roles.Role.{Role}
 use Rattle.umbrella.specs.declared.roles.Role.the-variants.{Hung, LeftRim, RightRim}
 use Rattle.umbrella.specs.declared.roles.Step.{Step}
-use Rattle.umbrella.specs.Roles.{fromRight, isHung, stepAt, stepOf}
+use Rattle.umbrella.specs.Roles.{fromRight, isHung, stepOf}
 use Rattle.drawing.specs.Columns.{columns, around}
-use Rattle.drawing.specs.Tables.{Recorded, differ, pick, lay, both, Drawn}
+use Rattle.drawing.specs.Tables.{differ, pick, lay, both, Drawn}
 use Rattle.drawing.proofs.Writing.{none, one, seq, same}
 use Rattle.drawing.proofs.Orders.{own-first, own-last, no-own, side-columns, own-columns, hung-side, rims, lay-length, both-length, few-columns}
-
-pub record RecordedParts (apex left right uds handles : List ℕ) (e u v : ℕ) (t : Tree) : Type 0 where
-  pub parts : Parts apex left right e u v t
-  pub of-l : Recorded apex left right uds handles (getD left e 0) u (getD apex e 0) (parts .l)
-  pub of-r : Recorded apex left right uds handles (getD right e 0) (getD apex e 0) v (parts .r)
-  pub levels-are : getD uds e 0 ≡ ud (node (parts .l) (parts .r))
-  pub not-empty : 1 ≤ getD uds e 0
-  pub step-is : (p : Role) (d : ℕ)
-      → stepAt p d (getD uds (getD left e 0) 0) (getD uds (getD right e 0) 0) (getD handles (getD left e 0) 0) ≡ stepOf p d (parts .l) (parts .r)
-
-pub recorded-parts : {apex left right uds handles : List ℕ} {e u v : ℕ} {t : Tree} → Recorded apex left right uds handles e u v t → (e ≡ 65535 → ⊥) → RecordedParts apex left right uds handles e u v t
-unfolding ud
-recorded-parts {apex} {left} {right} {uds} {handles} {e} {u} {v} {t} K f =
-    let d = opened (K .shows) f in
-    let n : Holds ud left right uds e (node (d .l) (d .r)) = rw (d .is) at (K .ud-held) in
-    let h : Holds handle left right handles e (node (d .l) (d .r)) = rw (d .is) at (K .handle-held) in
-    record {
-      parts = d;
-      of-l = record { shows = d .shows-l; ud-held = n .1; handle-held = h .1 };
-      of-r = record { shows = d .shows-r; ud-held = n .2; handle-held = h .2 };
-      levels-are = n .0;
-      not-empty = omega (arith, n .0);
-      step-is = λ p k. rw (held-root ud left right uds (getD left e 0) (d .l) (n .1), held-root ud left right uds (getD right e 0) (d .r) (n .2), held-root handle left right handles (getD left e 0) (d .l) (h .1));
-    }
 
 -- nothing is drawn of a hung piece that is empty; a rim or stem that is empty has one column
 pub hung-drawn : (d : ℕ) (t : Tree) (u v : ℕ) (turned : Bool) (at : ℕ) (o : List ℕ) → t ≡ leaf → Drawn (lay turned (columns Hung d t u v)) at o o at

@@ -16,7 +16,6 @@ use Rattle.umbrella.specs.Best.{best}
 use Rattle.umbrella.proofs.Theorems.{computed-has}
 use Rattle.keys.specs.Keys.{keyOf, edgesOf}
 use Rattle.keys.proofs.InOrder.{edge-of-key}
-use Rattle.plan.specs.Numbered.{Known}
 use Rattle.chart.specs.Places.{cols, rows}
 use Rattle.chart.proofs.Lists.{all-reverse}
 use Rattle.umbrella.specs.declared.roles.Role.{Role}
@@ -24,7 +23,7 @@ use Rattle.umbrella.specs.declared.roles.Role.the-variants.{Hung, LeftRim, Righ
 use Rattle.drawing.specs.declared.rows.Line.{Line}
 use Rattle.umbrella.specs.Roles.{stepOf, levelsUnder}
 use Rattle.drawing.specs.Columns.{around, arranged, sideColumn, columns}
-use Rattle.drawing.specs.Tables.{Recorded, Drawn}
+use Rattle.drawing.specs.Tables.{Drawn}
 use Rattle.drawing.specs.Lines.{ranks}
 use Rattle.drawing.specs.Placed.{Placed}
 use Rattle.drawing.proofs.Orders.{few-columns}
@@ -32,9 +31,6 @@ use Rattle.drawing.proofs.Planned.{columns-best}
 use Rattle.drawing.proofs.Placing.{ranks-length}
 use Rattle.drawing.proofs.OnLines.{OnLine}
 use Rattle.drawing.proofs.Ranked.{rows-best}
-
-pub recorded-known : {apex left right uds handles fan-as fan-bs : List ℕ} {e u v : ℕ} {t : Tree} → Known apex left right uds handles fan-as fan-bs e u v t → Recorded apex left right uds handles e u v t
-recorded-known K = record { shows = K .shows; ud-held = K .ud-held; handle-held = K .handle-held }
 
 -- all corners of the columns lie below m
 module _ (m : ℕ) where
@@ -69,7 +65,7 @@ module _ (m : ℕ) where
   columns-low leaf p d u v h i = side-low p (u — v) h
   columns-low (node l r) p d u v h i =
       let s = stepOf p d l r in
-      let k : ℕ = levelsUnder p d (ud (node l r)) in
+      let k : ℕ = levelsUnder p d (ud (node l r) - 1) in
       let c : ℕ = u + span l in
       arranged-low p (s .crossed) (u — v) (columns (s .left) k l u c) (columns (s .right) k r c v) h (columns-low l (s .left) k u c (omega arith) (omega arith)) (columns-low r (s .right) k c v h (omega arith))
 

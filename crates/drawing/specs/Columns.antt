@@ -2,7 +2,7 @@
 -- (`columns-best` in proofs/Planned.antt: they are those of the plan drawn.)
 use mathlib.Core.Bool.{Bool, true, false}
 use mathlib.Core.List.{List, [], _∷_, _++_, reverse}
-use Prim.Native.Nat.{ℕ, _+_}
+use Prim.Native.Nat.{ℕ, _+_, _-_}
 use Rattle.polygon.specs.Polygon.{Edge, _—_}
 use Rattle.polygon.specs.Tree.{Tree, leaf, node, span}
 use Rattle.umbrella.specs.Numbers.{ud}
@@ -37,5 +37,5 @@ unfoldable pub columns : Role → ℕ → Tree → ℕ → ℕ → List Edge
 columns p d leaf u v = sideColumn p (u — v)
 columns p d (node l r) u v =
     let s = stepOf p d l r in
-    let k = levelsUnder p d (ud (node l r)) in
+    let k = levelsUnder p d (ud (node l r) - 1) in
     arranged p (s .crossed) (u — v) (columns (s .left) k l u (u + span l)) (columns (s .right) k r (u + span l) v)

@@ -1,4 +1,4 @@
--- How the code holds a piece and its columns.
+-- How the code holds the columns of a piece.
 use mathlib.Core.Path.{_≡_}
 use mathlib.Core.Bool.{Bool, true, false, not}
 use mathlib.Core.List.{List, _++_, map, reverse}
@@ -6,17 +6,7 @@ use Prim.Native.Nat.{ℕ, _+_, _*_, _-_, _≤_, _<_}
 use lib.ListN.{length}
 use lib.Seq.{sets}
 use Rattle.polygon.specs.Polygon.{Edge}
-use Rattle.polygon.specs.Tree.{Tree}
-use Rattle.umbrella.specs.Numbers.{ud, handle}
 use Rattle.keys.specs.Keys.{keyOf}
-use Rattle.plan.specs.Shows.{Shows}
-use Rattle.plan.specs.Numbered.{Holds}
-
--- the tables show the piece t at e, and hold for each of its edges the levels of its piece and of a stem through it
-pub record Recorded (apex left right uds handles : List ℕ) (e u v : ℕ) (t : Tree) : Type 0 where
-  pub shows : Shows apex left right e u v t
-  pub ud-held : Holds ud left right uds e t
-  pub handle-held : Holds handle left right handles e t
 
 -- there is room for the columns of a piece on the corners u to v: at most two for each side, less one
 pub record Room (u v at : ℕ) : Type 0 where

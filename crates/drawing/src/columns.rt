@@ -3,9 +3,10 @@
 ghost use mathlib.Core.Path.{_≡_};
 ghost use Prim.Native.Nat.{ℕ, _+_, _*_, _-_, _≤_, _<_};
 ghost use Rattle.polygon.specs.Tree.{Tree};
+ghost use Rattle.plan.specs.Numbered.{Known};
 ghost use Rattle.drawing.specs.Columns.{columns};
 ghost use Rattle.umbrella.specs.declared.roles.Role.the-variants.{Hung};
-ghost use Rattle.drawing.specs.Tables.{Recorded, Room, differ, pick, lay, both, Drawn};
+ghost use Rattle.drawing.specs.Tables.{Room, differ, pick, lay, both, Drawn};
 use keys::key;
 use plan::counts::number;
 use umbrella::roles::Role;
@@ -45,9 +46,10 @@ pub fn draw_piece(
     at: usize,
     out: &mut [u32; 4096],
 ) -> usize
-    requires known { ⌜ ((t : Tree) × Recorded (now apex) (now left) (now right) (now ud) (now handle) e u v t) ⌝ }
+    requires known { ⌜ ((t : Tree) × Known (now apex) (now left) (now right) (now ud) (now handle) e u v t) ⌝ }
     requires room { ⌜ Room u v at ⌝ }
-    ensures { λ n. ⌜ ((t : Tree) (d : ℕ) → Recorded (now (apex .entry)) (now (left .entry)) (now (right .entry)) (now (ud .entry)) (now (handle .entry)) e u v t → Drawn (lay turned (columns Hung d t u v)) at (now (out .entry)) (now (out .exit)) n) ⌝ }
+    ensures { λ n. ⌜ ((t : Tree) (d : ℕ) → Known (now (apex .entry)) (now (left .entry)) (now (right .entry)) (now (ud .entry)) (now (handle .entry)) e u v t
+        → Drawn (lay turned (columns Hung d t u v)) at (now (out .entry)) (now (out .exit)) n) ⌝ }
 {
     if e == 65535 {
         return at;
@@ -94,9 +96,10 @@ pub fn draw_stem(
     at: usize,
     out: &mut [u32; 4096],
 ) -> usize
-    requires known { ⌜ ((t : Tree) × Recorded (now apex) (now left) (now right) (now ud) (now handle) e u v t) ⌝ }
+    requires known { ⌜ ((t : Tree) × Known (now apex) (now left) (now right) (now ud) (now handle) e u v t) ⌝ }
     requires room { ⌜ Room u v at ⌝ }
-    ensures { λ n. ⌜ ((t : Tree) → Recorded (now (apex .entry)) (now (left .entry)) (now (right .entry)) (now (ud .entry)) (now (handle .entry)) e u v t → Drawn (lay turned (columns p d t u v)) at (now (out .entry)) (now (out .exit)) n) ⌝ }
+    ensures { λ n. ⌜ ((t : Tree) → Known (now (apex .entry)) (now (left .entry)) (now (right .entry)) (now (ud .entry)) (now (handle .entry)) e u v t
+        → Drawn (lay turned (columns p d t u v)) at (now (out .entry)) (now (out .exit)) n) ⌝ }
 {
     if is_hung(p) {
         return draw_piece(apex, left, right, ud, handle, e, u, v, turned, at, out);
@@ -183,10 +186,12 @@ fn draw_two(
     at: usize,
     out: &mut [u32; 4096],
 ) -> usize
-    requires left_known { ⌜ ((t : Tree) × Recorded (now apex) (now left) (now right) (now ud) (now handle) i u c t) ⌝ }
-    requires right_known { ⌜ ((t : Tree) × Recorded (now apex) (now left) (now right) (now ud) (now handle) j c v t) ⌝ }
+    requires left_known { ⌜ ((t : Tree) × Known (now apex) (now left) (now right) (now ud) (now handle) i u c t) ⌝ }
+    requires right_known { ⌜ ((t : Tree) × Known (now apex) (now left) (now right) (now ud) (now handle) j c v t) ⌝ }
     requires room { ⌜ (v < 1024) × (at + 2 * (v - u) ≤ 4097) ⌝ }
-    ensures { λ n. ⌜ ((l r : Tree) → Recorded (now (apex .entry)) (now (left .entry)) (now (right .entry)) (now (ud .entry)) (now (handle .entry)) i u c l → Recorded (now (apex .entry)) (now (left .entry)) (now (right .entry)) (now (ud .entry)) (now (handle .entry)) j c v r → Drawn (both swapped (lay «turned_l» (columns a d l u c)) (lay «turned_r» (columns b d r c v))) at (now (out .entry)) (now (out .exit)) n) ⌝ }
+    ensures { λ n. ⌜ ((l r : Tree) → Known (now (apex .entry)) (now (left .entry)) (now (right .entry)) (now (ud .entry)) (now (handle .entry)) i u c l
+        → Known (now (apex .entry)) (now (left .entry)) (now (right .entry)) (now (ud .entry)) (now (handle .entry)) j c v r
+        → Drawn (both swapped (lay «turned_l» (columns a d l u c)) (lay «turned_r» (columns b d r c v))) at (now (out .entry)) (now (out .exit)) n) ⌝ }
 {
     if swapped {
         let m = draw_stem(

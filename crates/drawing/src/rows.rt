@@ -3,8 +3,8 @@ ghost use mathlib.Core.Path.{_≡_};
 ghost use Prim.Native.Nat.{_+_, _*_, _-_, _≤_, _<_};
 ghost use lib.Seq.{sets};
 ghost use Rattle.polygon.specs.Tree.{Tree};
+ghost use Rattle.plan.specs.Numbered.{Known};
 ghost use Rattle.drawing.specs.Lines.{rowAt, farLine, nearLine, aside, linesAt, ranks};
-ghost use Rattle.drawing.specs.Tables.{Recorded};
 use plan::counts::number;
 use umbrella::roles::Role;
 use umbrella::roles::step_at;
@@ -130,9 +130,10 @@ pub fn place_rows(
     near: Line,
     rows: &mut [u16; 1024],
 )
-    requires known { ⌜ ((t : Tree) × Recorded (now apex) (now left) (now right) (now ud) (now handle) e u v t) ⌝ }
+    requires known { ⌜ ((t : Tree) × Known (now apex) (now left) (now right) (now ud) (now handle) e u v t) ⌝ }
     requires room { ⌜ (v < 1024) × (far .base + 20 * (v - u) ≤ 50000) × (near .base + 20 * (v - u) ≤ 50000) ⌝ }
-    ensures { λ _. ⌜ ((t : Tree) → Recorded (now (apex .entry)) (now (left .entry)) (now (right .entry)) (now (ud .entry)) (now (handle .entry)) e u v t → now (rows .exit) ≡ sets (now (rows .entry)) (u + 1) (ranks p d far near t)) ⌝ }
+    ensures { λ _. ⌜ ((t : Tree) → Known (now (apex .entry)) (now (left .entry)) (now (right .entry)) (now (ud .entry)) (now (handle .entry)) e u v t
+        → now (rows .exit) ≡ sets (now (rows .entry)) (u + 1) (ranks p d far near t)) ⌝ }
 {
     if e == 65535 {
         return;

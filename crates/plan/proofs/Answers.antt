@@ -13,12 +13,12 @@ use Rattle.sheet.specs.declared.Head.{Head}
 use Rattle.umbrella.specs.Best.{best}
 use Rattle.umbrella.proofs.Theorems.{computed-has}
 use Rattle.plan.specs.declared.levels.Six.{Six}
-use Rattle.plan.specs.declared.counts.Role.the-variants.{Hung}
+use Rattle.umbrella.specs.declared.roles.Role.the-variants.{Hung}
 use Rattle.plan.specs.declared.counts.Tally.{Tally}
 use Rattle.plan.specs.declared.Planned.{Planned}
 use Rattle.plan.specs.declared.Planned.the-variants.{Counts, Refused}
 use Rattle.plan.specs.Numbered.{six}
-use Rattle.plan.specs.Roles.{counted}
+use Rattle.plan.specs.Counts.{counted}
 use Rattle.plan.specs.Answer.{countsOf, plannedOf, answer, planned, packedPlan}
 use Rattle.plan.proofs.Counted.{counted-best}
 

@@ -2,17 +2,19 @@
 -- Rests on Pieces.antt.
 use mathlib.Core.Path.{_≡_, refl, ap, ap₂, sym, _∙_}
 use mathlib.Core.List.{List}
-use Prim.Native.Nat.{ℕ, _+_, _<_}
+use Prim.Native.Nat.{ℕ, _+_, _≤_, _<_}
 use native.Mathlib.Decide.{ℕ-discrete}
 use native.Mathlib.Omega.{arith}
 use lib.ListN.{length, set, getD, replicate, length-set, length-replicate, List·getD-eq-default}
 use lib.Seq.{getD-set-same, getD-set-other}
 use Rattle.polygon.specs.Tree.{Tree, leaf, node}
-use Rattle.umbrella.specs.Numbers.{ud, handle, fanA, fanB}
+use Rattle.umbrella.specs.Numbers.{ud, handle}
+use Rattle.umbrella.specs.declared.roles.Role.{Role}
+use Rattle.umbrella.specs.Roles.{stepAt, stepOf}
 use Rattle.plan.specs.declared.levels.Six.{Six}
 use Rattle.plan.specs.Shows.{Shows, side, triangle}
 use Rattle.plan.specs.Numbered.{stored, Stored, Holds, Known}
-use Rattle.plan.proofs.Pieces.{opened, closed}
+use Rattle.plan.proofs.Pieces.{Parts, opened, closed}
 
 module _ {apex left right : List ℕ} where
   -- a side joins neighbours
@@ -87,7 +89,7 @@ module _ (f : Tree → ℕ) (none : f leaf ≡ 0) (apex left right : List ℕ) w
       (getD-set-same w₂ i (f (node l r)) 0 (omega arith), held-set w₂ h₂ g o x (held-stored w₁ h₁ y x (holds w h x)), held-set w₂ h₂ g o y (holds w₁ h₁ y))
 
 -- the number of the piece itself
-pub held-root : (f : Tree → ℕ) (left right xs : List ℕ) (e : ℕ) (t : Tree) → Holds f left right xs e t → getD xs e 0 ≡ f t
+held-root : (f : Tree → ℕ) (left right xs : List ℕ) (e : ℕ) (t : Tree) → Holds f left right xs e t → getD xs e 0 ≡ f t
 held-root f left right xs e leaf h = h
 held-root f left right xs e (node l r) h = h .0
 
@@ -96,13 +98,36 @@ pub fresh-length : length {A = ℕ} (replicate 1022 0) ≡ 1022
 fresh-length = length-replicate {A = ℕ} 1022 0
 
 -- the tables after the recursion for the levels
-pub known-stored : {apex left right : List ℕ} {e u v : ℕ} {t : Tree} {w₀ h₀ a₀ b₀ w h a b : List ℕ} {r : Six} → Shows apex left right e u v t → (length w₀ ≡ 1022) × (length h₀ ≡ 1022) × (length a₀ ≡ 1022) × (length b₀ ≡ 1022) → Stored left right e t w₀ h₀ a₀ b₀ w h a b r → Known apex left right w h a b e u v t
+pub known-stored : {apex left right : List ℕ} {e u v : ℕ} {t : Tree} {w₀ h₀ a₀ b₀ w h a b : List ℕ} {r : Six} → Shows apex left right e u v t → (length w₀ ≡ 1022) × (length h₀ ≡ 1022) → Stored left right e t w₀ h₀ a₀ b₀ w h a b r → Known apex left right w h e u v t
 unfolding ud
-known-stored {apex} {left} {right} {w₀ = w₀} {h₀} {a₀} {b₀} s n S =
+known-stored {apex} {left} {right} {w₀ = w₀} {h₀} s n S =
     record {
       shows = s;
       ud-held = rw (S .ud-stored) (holds ud refl apex left right w₀ (n .0) s);
       handle-held = rw (S .handle-stored) (holds handle refl apex left right h₀ (n .1) s);
-      fan-a-held = rw (S .fan-a-stored) (holds fanA refl apex left right a₀ (n .2) s);
-      fan-b-held = rw (S .fan-b-stored) (holds fanB refl apex left right b₀ (n .3) s);
+    }
+
+-- what they give at an entry that is no side
+pub record KnownParts (apex left right uds handles : List ℕ) (e u v : ℕ) (t : Tree) : Type 0 where
+  pub parts : Parts apex left right e u v t
+  pub known-l : Known apex left right uds handles (getD left e 0) u (getD apex e 0) (parts .l)
+  pub known-r : Known apex left right uds handles (getD right e 0) (getD apex e 0) v (parts .r)
+  pub levels-are : getD uds e 0 ≡ ud (node (parts .l) (parts .r))
+  pub not-empty : 1 ≤ getD uds e 0
+  pub step-is : (p : Role) (d : ℕ) {a b h : ℕ} → a ≡ getD uds (getD left e 0) 0 → b ≡ getD uds (getD right e 0) 0 → h ≡ getD handles (getD left e 0) 0
+      → stepAt p d a b h ≡ stepOf p d (parts .l) (parts .r)
+
+pub known-parts : {apex left right uds handles : List ℕ} {e u v : ℕ} {t : Tree} → Known apex left right uds handles e u v t → (e ≡ 65535 → ⊥) → KnownParts apex left right uds handles e u v t
+unfolding ud
+known-parts {apex} {left} {right} {uds} {handles} {e} {u} {v} {t} K f =
+    let d = opened (K .shows) f in
+    let n : Holds ud left right uds e (node (d .l) (d .r)) = rw (d .is) at (K .ud-held) in
+    let h : Holds handle left right handles e (node (d .l) (d .r)) = rw (d .is) at (K .handle-held) in
+    record {
+      parts = d;
+      known-l = record { shows = d .shows-l; ud-held = n .1; handle-held = h .1 };
+      known-r = record { shows = d .shows-r; ud-held = n .2; handle-held = h .2 };
+      levels-are = n .0;
+      not-empty = omega (arith, n .0);
+      step-is = λ p k x y z. rw (x, y, z, held-root ud left right uds (getD left e 0) (d .l) (n .1), held-root ud left right uds (getD right e 0) (d .r) (n .2), held-root handle left right handles (getD left e 0) (d .l) (h .1));
     }

@@ -1,10 +1,9 @@
--- The tables (Places, Entries, ShowsTree), what they show (Pieces), the numbers (Storing, Held), the counts (Steps, Counted, Counting) and the operation's answer (Answers).
+-- The tables (Places, Entries, ShowsTree), what they show (Pieces), the numbers (Storing, Held), the counts (Counted, Counting) and the operation's answer (Answers).
 pub mod Places
 pub mod Entries
 pub mod ShowsTree
 pub mod Pieces
 pub mod Storing
-pub mod Steps
 pub mod Held
 pub mod Counted
 pub mod Counting

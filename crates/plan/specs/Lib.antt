@@ -1,4 +1,4 @@
 pub mod Shows
 pub mod Numbered
-pub mod Roles
+pub mod Counts
 pub mod Answer

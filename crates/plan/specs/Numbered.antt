@@ -40,10 +40,8 @@ abbrev pub Holds : (Tree → ℕ) → List ℕ → List ℕ → List ℕ → ℕ
 Holds f left right xs e leaf = getD xs e 0 ≡ f leaf
 Holds f left right xs e (node l r) = (getD xs e 0 ≡ f (node l r)) × Holds f left right xs (getD left e 0) l × Holds f left right xs (getD right e 0) r
 
--- the tables show the piece t at e, and hold the four numbers of each of its edges
-pub record Known (apex left right uds handles fan-as fan-bs : List ℕ) (e u v : ℕ) (t : Tree) : Type 0 where
+-- the tables show the piece t at e, and hold for each of its edges the levels of its piece and of a stem through it
+pub record Known (apex left right uds handles : List ℕ) (e u v : ℕ) (t : Tree) : Type 0 where
   pub shows : Shows apex left right e u v t
   pub ud-held : Holds ud left right uds e t
   pub handle-held : Holds handle left right handles e t
-  pub fan-a-held : Holds fanA left right fan-as e t
-  pub fan-b-held : Holds fanB left right fan-bs e t

@@ -1,29 +1,14 @@
 // The umbrellas and stems of the plan drawn, counted in one recursion over the tree that takes each triangle once.
-// What a piece is to the umbrella that reaches it, its role, and the levels d under that umbrella say how the plan goes on from its triangle to the two pieces beyond.
-// specs/Roles.antt has the same in definitions; the plan drawn is that of Best.antt of the crate umbrella.
+// The roles of the pieces say how the plan goes on from a triangle to the two pieces beyond (roles.rt of the crate umbrella); specs/Counts.antt has the same in definitions.
 ghost use mathlib.Core.Path.{_≡_};
-ghost use Prim.Native.Nat.{_<_, _≤_};
+ghost use Prim.Native.Nat.{_<_};
 ghost use lib.ListN.{getD};
 ghost use Rattle.polygon.specs.Tree.{Tree};
 ghost use Rattle.plan.specs.Numbered.{Known};
-ghost use Rattle.plan.specs.Roles.{rimRole, on, ownStems, gateStep, stepAt, counted};
-
-// A piece has an umbrella of its own; or it lies on the rim below or above the apex of an umbrella, which takes the triangles at its lower or higher corner; or a stem has entered it.
-pub enum Role {
-    Hung,
-    LeftRim,
-    RightRim,
-    Entered,
-}
-
-// The levels under the umbrella, the roles of the two pieces beyond a triangle, and what the triangle adds to the counts.
-pub struct Step {
-    pub d: u16,
-    pub left: Role,
-    pub right: Role,
-    pub umbrellas: u16,
-    pub stems: u16,
-}
+ghost use Rattle.plan.specs.Counts.{atGate, adds, counted};
+use umbrella::roles::Role;
+use umbrella::roles::levels_under;
+use umbrella::roles::step_at;
 
 // Umbrellas and stems.
 pub struct Tally {
@@ -31,91 +16,23 @@ pub struct Tally {
     pub stems: u16,
 }
 
-// The role of a piece on the rim: the one that does not do with d levels has the first gate.
-fn rim_role(ud: u16, d: u16) -> Role
-    ensures { λ r. ⌜ r ≡ rimRole ud d ⌝ }
+// The stem whose first gate is at a triangle.
+fn at_gate(crossed: bool) -> u16
+    ensures { λ r. ⌜ r ≡ atGate 1 crossed ⌝ }
 {
-    if ud <= d {
-        return Role::Hung;
-    }
-    Role::Entered
+    if crossed { 1 } else { 0 }
 }
 
-// On to the two pieces, from a triangle that adds nothing to the counts.
-fn on(d: u16, left: Role, right: Role) -> Step
-    ensures { λ r. ⌜ r ≡ on d left right ⌝ }
-{
-    Step {
-        d,
-        left,
-        right,
-        umbrellas: 0,
-        stems: 0,
-    }
-}
-
-// The stems of an umbrella: none if all pieces on its rim do with d levels.
-fn own_stems(d: u16, fan_a: u16, fan_b: u16) -> u16
-    ensures { λ r. ⌜ r ≡ ownStems d «fan_a» «fan_b» ⌝ }
-{
-    if fan_a <= d {
-        if fan_b <= d {
-            return 0;
-        }
-    }
-    1
-}
-
-// From a gate: the stem ends if one of the two pieces is empty and the other does with d levels; else it goes on to the left if the right piece and a stem through the left one do; else to the right.
-fn gate_step(d: u16, ud_l: u16, ud_r: u16, handle_l: u16) -> Step
-    ensures { λ r. ⌜ r ≡ gateStep d «ud_l» «ud_r» «handle_l» ⌝ }
-{
-    if ud_l == 0 {
-        if ud_r <= d {
-            return on(d, Role::Hung, Role::Hung);
-        }
-        return on(d, Role::Hung, Role::Entered);
-    }
-    if ud_r == 0 {
-        if ud_l <= d {
-            return on(d, Role::Hung, Role::Hung);
-        }
-        return on(d, Role::Entered, Role::Hung);
-    }
-    if ud_r > d {
-        return on(d, Role::Hung, Role::Entered);
-    }
-    if handle_l <= d {
-        return on(d, Role::Entered, Role::Hung);
-    }
-    on(d, Role::Hung, Role::Entered)
-}
-
-// From the triangle of a piece by the piece's role: `ud` are the levels of the piece, the other numbers are those of its left and right part.
-fn step_at(
-    role: Role,
-    d: u16,
-    ud: u16,
-    ud_l: u16,
-    ud_r: u16,
-    handle_l: u16,
-    fan_a: u16,
-    fan_b: u16,
-) -> Step
-    requires { ⌜ 1 ≤ ud ⌝ }
-    ensures { λ r. ⌜ r ≡ stepAt role d ud «ud_l» «ud_r» «handle_l» «fan_a» «fan_b» ⌝ }
+// What the triangle of a piece adds: x if the piece is hung, y if it lies on a rim.
+fn adds(role: Role, x: u16, y: u16) -> u16
+    ensures { λ r. ⌜ r ≡ adds role x y ⌝ }
 {
     match role {
-        Role::Hung => Step {
-            d: ud - 1,
-            left: Role::LeftRim,
-            right: Role::RightRim,
-            umbrellas: 1,
-            stems: own_stems(ud - 1, fan_a, fan_b),
-        },
-        Role::LeftRim => on(d, Role::LeftRim, rim_role(ud_r, d)),
-        Role::RightRim => on(d, rim_role(ud_l, d), Role::RightRim),
-        Role::Entered => gate_step(d, ud_l, ud_r, handle_l),
+        Role::Hung => x,
+        Role::LeftRim => y,
+        Role::RightRim => y,
+        Role::FromLeft => 0,
+        Role::FromRight => 0,
     }
 }
 
@@ -133,17 +50,16 @@ pub fn count(
     right: &[u16; 1022],
     ud: &[u16; 1022],
     handle: &[u16; 1022],
-    fan_a: &[u16; 1022],
-    fan_b: &[u16; 1022],
     e: usize,
     u: usize,
     v: usize,
     role: Role,
     d: u16,
 ) -> Tally
-    requires known { ⌜ ((t : Tree) × Known (now apex) (now left) (now right) (now ud) (now handle) (now «fan_a») (now «fan_b») e u v t) ⌝ }
+    requires known { ⌜ ((t : Tree) × Known (now apex) (now left) (now right) (now ud) (now handle) e u v t) ⌝ }
     requires corners { ⌜ v < 1024 ⌝ }
-    ensures { λ r. ⌜ ((t : Tree) → Known (now (apex .entry)) (now (left .entry)) (now (right .entry)) (now (ud .entry)) (now (handle .entry)) (now («fan_a» .entry)) (now («fan_b» .entry)) e u v t → r ≡ counted role d t) ⌝ }
+    ensures { λ r. ⌜ ((t : Tree) → Known (now (apex .entry)) (now (left .entry)) (now (right .entry)) (now (ud .entry)) (now (handle .entry)) e u v t
+        → r ≡ counted role d t) ⌝ }
 {
     if e == 65535 {
         return Tally {
@@ -154,22 +70,16 @@ pub fn count(
     let c = apex[e] as usize;
     let i = left[e] as usize;
     let j = right[e] as usize;
-    let s = step_at(
-        role,
-        d,
-        number(ud, e),
-        number(ud, i),
-        number(ud, j),
-        number(handle, i),
-        number(fan_a, i),
-        number(fan_b, j),
-    );
+    let s = step_at(role, d, number(ud, i), number(ud, j), number(handle, i));
+    let k = levels_under(role, d, number(ud, e) - 1);
+    let x = adds(role, 1, 0);
+    let y = adds(role, 0, at_gate(s.crossed));
     let a = s.left;
     let b = s.right;
-    let l = count(apex, left, right, ud, handle, fan_a, fan_b, i, u, c, a, s.d);
-    let r = count(apex, left, right, ud, handle, fan_a, fan_b, j, c, v, b, s.d);
+    let l = count(apex, left, right, ud, handle, i, u, c, a, k);
+    let r = count(apex, left, right, ud, handle, j, c, v, b, k);
     Tally {
-        umbrellas: l.umbrellas + r.umbrellas + s.umbrellas,
-        stems: l.stems + r.stems + s.stems,
+        umbrellas: l.umbrellas + r.umbrellas + x,
+        stems: l.stems + r.stems + y,
     }
 }

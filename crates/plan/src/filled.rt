@@ -28,7 +28,7 @@ pub fn fill(
     requires { ⌜ (length (now apex) ≡ 1022) × (length (now left) ≡ 1022) × (length (now right) ≡ 1022) ⌝ }
     requires { ⌜ (length (now ud) ≡ 1022) × (length (now handle) ≡ 1022) × (length (now «fan_a») ≡ 1022) × (length (now «fan_b») ≡ 1022) ⌝ }
     ensures { λ r. ⌜ r ≡ six (treeOf n (edgesOf (now (keys .entry)))) ⌝ }
-    ensures { λ _. ⌜ Known (now (apex .exit)) (now (left .exit)) (now (right .exit)) (now (ud .exit)) (now (handle .exit)) (now («fan_a» .exit)) (now («fan_b» .exit)) (n - 3) 0 (n - 1) (treeOf n (edgesOf (now (keys .entry)))) ⌝ }
+    ensures { λ _. ⌜ Known (now (apex .exit)) (now (left .exit)) (now (right .exit)) (now (ud .exit)) (now (handle .exit)) (n - 3) 0 (n - 1) (treeOf n (edgesOf (now (keys .entry)))) ⌝ }
 {
     tables(keys, n, apex, left, right);
     let root = n - 3;

@@ -8,11 +8,11 @@ ghost use Rattle.polygon.specs.Tree.{treeOf};
 ghost use Rattle.keys.specs.Keys.{edgesOf};
 ghost use Rattle.umbrella.specs.Best.{best};
 ghost use Rattle.plan.specs.Answer.{plannedOf, countsOf, planned};
-use crate::counts::Role;
 use crate::counts::count;
 use crate::filled::fill;
 use sheet::Read;
 use sheet::reader::read_sheet;
+use umbrella::roles::Role;
 
 pub mod counts;
 pub mod filled;
@@ -57,8 +57,6 @@ pub fn plan_part(keys: &[u32], n: usize) -> Planned
         &right,
         &ud,
         &handle,
-        &fan_a,
-        &fan_b,
         root,
         0,
         v,

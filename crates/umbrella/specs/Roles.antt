@@ -1,7 +1,7 @@
 -- How the drawing of the plan drawn goes on from a triangle to the two pieces beyond its other edges, by the numbers of the pieces: one walk for counting, columns and rows.
 -- (`by-recursion` in proofs/Induction.antt and `way` in proofs/Ways.antt: its steps are the choices of Best.antt.)
 use mathlib.Core.Bool.{Bool, true, false, not}
-use Prim.Native.Nat.{ℕ, zero, suc, _-_}
+use Prim.Native.Nat.{ℕ, zero, suc}
 use native.Mathlib.Decide.{decLe}
 use Rattle.polygon.specs.Lists.{choose}
 use Rattle.polygon.specs.Tree.{Tree}
@@ -56,10 +56,10 @@ stepAt FromRight d a b h = stemStep FromRight true (goesLeft true d a b h)
 abbrev pub stepOf : Role → ℕ → Tree → Tree → Step
 stepOf p d l r = stepAt p d (ud l) (ud r) (handle l)
 
--- the levels under the umbrella, n being those of the piece
-unfoldable pub levelsUnder : Role → ℕ → ℕ → ℕ
-levelsUnder Hung d n = n - 1
-levelsUnder LeftRim d n = d
-levelsUnder RightRim d n = d
-levelsUnder FromLeft d n = d
-levelsUnder FromRight d n = d
+-- the levels under the umbrella: k under an own one, if the piece is hung
+abbrev pub levelsUnder : Role → ℕ → ℕ → ℕ
+levelsUnder Hung d k = k
+levelsUnder LeftRim d k = d
+levelsUnder RightRim d k = d
+levelsUnder FromLeft d k = d
+levelsUnder FromRight d k = d

@@ -1,6 +1,6 @@
 // How the plan drawn goes on from a triangle to the two pieces beyond its other edges. specs/Roles.antt has the same in definitions.
 ghost use mathlib.Core.Path.{_≡_};
-ghost use Rattle.umbrella.specs.Roles.{fromRight, isHung, leftStep, rightStep, goesLeft, stemStep, stepAt};
+ghost use Rattle.umbrella.specs.Roles.{fromRight, isHung, leftStep, rightStep, goesLeft, stemStep, stepAt, levelsUnder};
 
 // A piece is hung, with an umbrella of its own; or it lies on the rim below or above the apex of an umbrella; or the umbrella's stem has entered it, and is built from the left or from the right.
 pub enum Role {
@@ -139,5 +139,18 @@ pub fn step_at(p: Role, d: u16, ud_l: u16, ud_r: u16, handle_l: u16) -> Step
         Role::RightRim => right_step(d, ud_l),
         Role::FromLeft => stem_step(p, false, goes_left(false, d, ud_l, ud_r, handle_l)),
         Role::FromRight => stem_step(p, true, goes_left(true, d, ud_l, ud_r, handle_l)),
+    }
+}
+
+// The levels under the umbrella: those under an own one, `own`, if the piece is hung.
+pub fn levels_under(p: Role, d: u16, own: u16) -> u16
+    ensures { λ r. ⌜ r ≡ levelsUnder p d own ⌝ }
+{
+    match p {
+        Role::Hung => own,
+        Role::LeftRim => d,
+        Role::RightRim => d,
+        Role::FromLeft => d,
+        Role::FromRight => d,
     }
 }

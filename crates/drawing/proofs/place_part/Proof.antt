@@ -7,7 +7,7 @@ use Rattle.keys.specs.Keys.{edgesOf}
 use Rattle.plan.specs.declared.levels.Six.{Six}
 use Rattle.plan.proofs.Pieces.{ends}
 use Rattle.plan.proofs.Held.{fresh-length}
-use Rattle.drawing.proofs.Whole.{recorded-known, part-placed}
+use Rattle.drawing.proofs.Whole.{part-placed}
 use Rattle.drawing.proofs.place_part.Statement.{statement}
 use Rattle.drawing.proofs.place_part.Tie as tie
 
@@ -28,7 +28,7 @@ draw-piece-requires c κs =
     let earlier = c .before .before .before .before .before .before in
     let filled = earlier in
     let start = filled .before .before .before .before .before .before .before .before .before in
-    ((treeOf (start .args .n) (edgesOf (start .args .keys .now)), recorded-known (filled .fill .ensures .1)), omega (arith, start .pre .0 .full, start .pre .1 .0))
+    ((treeOf (start .args .n) (edgesOf (start .args .keys .now)), filled .fill .ensures .1), omega (arith, start .pre .0 .full, start .pre .1 .0))
 
 element-write-rows : tie.Need-element-write-rows
 element-write-rows c = search needs
@@ -50,7 +50,7 @@ place-rows-requires c κs =
     let earlier = c .before .before .before .before .before .before .before .before .before .before .before .before .before in
     let filled = earlier in
     let start = filled .before .before .before .before .before .before .before .before .before in
-    ((treeOf (start .args .n) (edgesOf (start .args .keys .now)), recorded-known (filled .fill .ensures .1)), omega (arith, start .pre .0 .full, start .pre .1 .0))
+    ((treeOf (start .args .n) (edgesOf (start .args .keys .now)), filled .fill .ensures .1), omega (arith, start .pre .0 .full, start .pre .1 .0))
 
 returns : tie.Need-returns
 returns c =
@@ -62,8 +62,8 @@ returns c =
     let tree = treeOf n (edgesOf (start .args .keys .now)) in
     let known = filled .fill .ensures .1 in
     part-placed tree n (omega (arith, start .pre .0 .full)) (start .pre .1 .0) (ends (known .shows))
-    (start .pre .1 .1 .0) (drawn .draw-piece .ensures tree 0 (recorded-known known))
-    (start .args .rows .now) _ _ (start .pre .1 .1 .1) (c .place-rows .ensures tree (recorded-known known))
+    (start .pre .1 .1 .0) (drawn .draw-piece .ensures tree 0 known)
+    (start .args .rows .now) _ _ (start .pre .1 .1 .1) (c .place-rows .ensures tree known)
     (ap (λ (s : Six). s .ud) (filled .fill .ensures .0))
 
 pub place-part-spec : {M : Type 1} → statement M

@@ -6,10 +6,11 @@ use native.Mathlib.Omega.{arith}
 use lib.ListN.{getD}
 use Rattle.polygon.specs.Tree.{Tree}
 use Rattle.polygon.proofs.Chords.{span-pos}
+use Rattle.plan.specs.Numbered.{Known}
 use Rattle.plan.proofs.Pieces.{ends, closed}
-use Rattle.drawing.specs.Tables.{Recorded}
+use Rattle.plan.proofs.Held.{known-parts}
 use Rattle.drawing.proofs.Orders.{only-hung}
-use Rattle.drawing.proofs.Recording.{recorded-parts, hung-drawn, side-drawn, rims-drawn, Going, last-drawn, first-drawn, end-one, end-two, two-drawn, swapped-drawn}
+use Rattle.drawing.proofs.Recording.{hung-drawn, side-drawn, rims-drawn, Going, last-drawn, first-drawn, end-one, end-two, two-drawn, swapped-drawn}
 use borrow.Fn.Kinds.{In}
 use borrow.Fn.PlainCycle.{Measures, is, falls, and}
 use Rattle.drawing.proofs.columns.draw_piece.Reads as draw-piece
@@ -71,52 +72,52 @@ draw-piece-returns : (t : ℕ) → draw-piece-lts.Need-returns (draw-piece-Cs t)
 draw-piece-returns t c = λ x d k. hung-drawn d x (c .before .args .u) (c .before .args .v) (c .before .args .turned) (c .before .args .at) (c .before .args .out .now) (closed (k .shows) (c .if1 .taken))
 
 draw-piece-mul-c : (t : ℕ) → draw-piece-lts.Need-mul-c (draw-piece-Cs t) (draw-piece-at t) draw-piece.Post
-draw-piece-mul-c t c = omega (arith, (recorded-parts (c .before .pre .1 .0 .1) (c .if1 .left)) .parts .inside)
+draw-piece-mul-c t c = omega (arith, (known-parts (c .before .pre .1 .0 .1) (c .if1 .left)) .parts .inside)
 
 draw-piece-element-copy-out-c : (t : ℕ) → draw-piece-lts.Need-element-copy-out-c (draw-piece-Cs t) (draw-piece-at t) draw-piece.Post
-draw-piece-element-copy-out-c t c = omega (arith, (recorded-parts (c .before .pre .1 .0 .1) (c .if1 .left)) .parts .inside)
+draw-piece-element-copy-out-c t c = omega (arith, (known-parts (c .before .pre .1 .0 .1) (c .if1 .left)) .parts .inside)
 
 draw-piece-cast-c : (t : ℕ) → draw-piece-lts.Need-cast-c (draw-piece-Cs t) (draw-piece-at t) draw-piece.Post
-draw-piece-cast-c t c = omega (arith, (recorded-parts (c .before .before .pre .1 .0 .1) (c .before .if1 .left)) .parts, c .before .before .pre .1 .1)
+draw-piece-cast-c t c = omega (arith, (known-parts (c .before .before .pre .1 .0 .1) (c .before .if1 .left)) .parts, c .before .before .pre .1 .1)
 
 draw-piece-mul-i : (t : ℕ) → draw-piece-lts.Need-mul-i (draw-piece-Cs t) (draw-piece-at t) draw-piece.Post
-draw-piece-mul-i t c = omega (arith, (recorded-parts (c .before .before .pre .1 .0 .1) (c .before .if1 .left)) .parts .inside)
+draw-piece-mul-i t c = omega (arith, (known-parts (c .before .before .pre .1 .0 .1) (c .before .if1 .left)) .parts .inside)
 
 draw-piece-element-copy-out-i : (t : ℕ) → draw-piece-lts.Need-element-copy-out-i (draw-piece-Cs t) (draw-piece-at t) draw-piece.Post
-draw-piece-element-copy-out-i t c = omega (arith, (recorded-parts (c .before .before .pre .1 .0 .1) (c .before .if1 .left)) .parts .inside)
+draw-piece-element-copy-out-i t c = omega (arith, (known-parts (c .before .before .pre .1 .0 .1) (c .before .if1 .left)) .parts .inside)
 
 draw-piece-cast-i : (t : ℕ) → draw-piece-lts.Need-cast-i (draw-piece-Cs t) (draw-piece-at t) draw-piece.Post
-draw-piece-cast-i t c = omega (arith, (recorded-parts (c .before .before .before .pre .1 .0 .1) (c .before .before .if1 .left)) .parts, c .before .before .before .pre .1 .1)
+draw-piece-cast-i t c = omega (arith, (known-parts (c .before .before .before .pre .1 .0 .1) (c .before .before .if1 .left)) .parts, c .before .before .before .pre .1 .1)
 
 draw-piece-mul-j : (t : ℕ) → draw-piece-lts.Need-mul-j (draw-piece-Cs t) (draw-piece-at t) draw-piece.Post
-draw-piece-mul-j t c = omega (arith, (recorded-parts (c .before .before .before .pre .1 .0 .1) (c .before .before .if1 .left)) .parts .inside)
+draw-piece-mul-j t c = omega (arith, (known-parts (c .before .before .before .pre .1 .0 .1) (c .before .before .if1 .left)) .parts .inside)
 
 draw-piece-element-copy-out-j : (t : ℕ) → draw-piece-lts.Need-element-copy-out-j (draw-piece-Cs t) (draw-piece-at t) draw-piece.Post
-draw-piece-element-copy-out-j t c = omega (arith, (recorded-parts (c .before .before .before .pre .1 .0 .1) (c .before .before .if1 .left)) .parts .inside)
+draw-piece-element-copy-out-j t c = omega (arith, (known-parts (c .before .before .before .pre .1 .0 .1) (c .before .before .if1 .left)) .parts .inside)
 
 draw-piece-cast-j : (t : ℕ) → draw-piece-lts.Need-cast-j (draw-piece-Cs t) (draw-piece-at t) draw-piece.Post
-draw-piece-cast-j t c = omega (arith, (recorded-parts (c .before .before .before .before .pre .1 .0 .1) (c .before .before .before .if1 .left)) .parts, c .before .before .before .before .pre .1 .1)
+draw-piece-cast-j t c = omega (arith, (known-parts (c .before .before .before .before .pre .1 .0 .1) (c .before .before .before .if1 .left)) .parts, c .before .before .before .before .pre .1 .1)
 
 draw-piece-mul-d : (t : ℕ) → draw-piece-lts.Need-mul-d (draw-piece-Cs t) (draw-piece-at t) draw-piece.Post
-draw-piece-mul-d t c = omega (arith, (recorded-parts (c .before .before .before .before .pre .1 .0 .1) (c .before .before .before .if1 .left)) .parts .inside)
+draw-piece-mul-d t c = omega (arith, (known-parts (c .before .before .before .before .pre .1 .0 .1) (c .before .before .before .if1 .left)) .parts .inside)
 
 draw-piece-element-copy-out-d : (t : ℕ) → draw-piece-lts.Need-element-copy-out-d (draw-piece-Cs t) (draw-piece-at t) draw-piece.Post
-draw-piece-element-copy-out-d t c = omega (arith, (recorded-parts (c .before .before .before .before .pre .1 .0 .1) (c .before .before .before .if1 .left)) .parts .inside)
+draw-piece-element-copy-out-d t c = omega (arith, (known-parts (c .before .before .before .before .pre .1 .0 .1) (c .before .before .before .if1 .left)) .parts .inside)
 
 draw-piece-sub-d : (t : ℕ) → draw-piece-lts.Need-sub-d (draw-piece-Cs t) (draw-piece-at t) draw-piece.Post
-draw-piece-sub-d t c = omega (arith, (recorded-parts (c .before .before .before .before .before .pre .1 .0 .1) (c .before .before .before .before .if1 .left)) .not-empty)
+draw-piece-sub-d t c = omega (arith, (known-parts (c .before .before .before .before .before .pre .1 .0 .1) (c .before .before .before .before .if1 .left)) .not-empty)
 
 draw-piece-draw-two-requires : (t : ℕ) → draw-piece-lts.Need-draw-two-requires (draw-piece-Cs t) (draw-piece-at t) draw-piece.Post
-draw-piece-draw-two-requires t c κs = let k = (recorded-parts (c .before .before .before .before .before .before .pre .1 .0 .1) (c .before .before .before .before .before .if1 .left)) in (omega (arith, k .parts, c .before .before .before .before .before .before .pre .0), ((k .parts .l, k .of-l), ((k .parts .r, k .of-r), omega (arith, k .parts, c .before .before .before .before .before .before .pre .1 .1))))
+draw-piece-draw-two-requires t c κs = let k = (known-parts (c .before .before .before .before .before .before .pre .1 .0 .1) (c .before .before .before .before .before .if1 .left)) in (omega (arith, k .parts, c .before .before .before .before .before .before .pre .0), ((k .parts .l, k .known-l), ((k .parts .r, k .known-r), omega (arith, k .parts, c .before .before .before .before .before .before .pre .1 .1))))
 
 draw-piece-returns-2 : (t : ℕ) → draw-piece-lts.Need-returns-2 (draw-piece-Cs t) (draw-piece-at t) draw-piece.Post
 draw-piece-returns-2 t c =
     let at-if1 = c .before .before .before .before .before .before in
     let start = at-if1 .before in
     λ x d q.
-    let k = recorded-parts q (at-if1 .if1 .left) in
+    let k = known-parts q (at-if1 .if1 .left) in
     rims-drawn d (k .parts .l) (k .parts .r) (start .args .u) (start .args .v) _ _ (start .args .turned) (k .parts .is) (k .parts .middle)
-    (ap (λ (n : ℕ). n - 1) (sym (k .levels-are))) (c .draw-two .ensures (k .parts .l) (k .parts .r) (k .of-l) (k .of-r))
+    (ap (λ (n : ℕ). n - 1) (sym (k .levels-are))) (c .draw-two .ensures (k .parts .l) (k .parts .r) (k .known-l) (k .known-r))
 
 draw-stem-is-hung-requires : (t : ℕ) → draw-stem-lts.Need-is-hung-requires (draw-stem-Cs t) (draw-stem-at t) draw-stem.Post
 draw-stem-is-hung-requires t c κs = search needs
@@ -147,31 +148,31 @@ draw-stem-returns-2 t c =
     (sym (at-is-hung .is-hung .ensures) ∙ c .before .before .if1 .left) (closed (k .shows) (c .before .if2 .taken)) (c .key .ensures)
 
 draw-stem-mul-c : (t : ℕ) → draw-stem-lts.Need-mul-c (draw-stem-Cs t) (draw-stem-at t) draw-stem.Post
-draw-stem-mul-c t c = omega (arith, (recorded-parts (c .before .before .before .pre .1 .0 .1) (c .if2 .left)) .parts .inside)
+draw-stem-mul-c t c = omega (arith, (known-parts (c .before .before .before .pre .1 .0 .1) (c .if2 .left)) .parts .inside)
 
 draw-stem-element-copy-out-c : (t : ℕ) → draw-stem-lts.Need-element-copy-out-c (draw-stem-Cs t) (draw-stem-at t) draw-stem.Post
-draw-stem-element-copy-out-c t c = omega (arith, (recorded-parts (c .before .before .before .pre .1 .0 .1) (c .if2 .left)) .parts .inside)
+draw-stem-element-copy-out-c t c = omega (arith, (known-parts (c .before .before .before .pre .1 .0 .1) (c .if2 .left)) .parts .inside)
 
 draw-stem-cast-c : (t : ℕ) → draw-stem-lts.Need-cast-c (draw-stem-Cs t) (draw-stem-at t) draw-stem.Post
-draw-stem-cast-c t c = omega (arith, (recorded-parts (c .before .before .before .before .pre .1 .0 .1) (c .before .if2 .left)) .parts, c .before .before .before .before .pre .1 .1)
+draw-stem-cast-c t c = omega (arith, (known-parts (c .before .before .before .before .pre .1 .0 .1) (c .before .if2 .left)) .parts, c .before .before .before .before .pre .1 .1)
 
 draw-stem-mul-i : (t : ℕ) → draw-stem-lts.Need-mul-i (draw-stem-Cs t) (draw-stem-at t) draw-stem.Post
-draw-stem-mul-i t c = omega (arith, (recorded-parts (c .before .before .before .before .pre .1 .0 .1) (c .before .if2 .left)) .parts .inside)
+draw-stem-mul-i t c = omega (arith, (known-parts (c .before .before .before .before .pre .1 .0 .1) (c .before .if2 .left)) .parts .inside)
 
 draw-stem-element-copy-out-i : (t : ℕ) → draw-stem-lts.Need-element-copy-out-i (draw-stem-Cs t) (draw-stem-at t) draw-stem.Post
-draw-stem-element-copy-out-i t c = omega (arith, (recorded-parts (c .before .before .before .before .pre .1 .0 .1) (c .before .if2 .left)) .parts .inside)
+draw-stem-element-copy-out-i t c = omega (arith, (known-parts (c .before .before .before .before .pre .1 .0 .1) (c .before .if2 .left)) .parts .inside)
 
 draw-stem-cast-i : (t : ℕ) → draw-stem-lts.Need-cast-i (draw-stem-Cs t) (draw-stem-at t) draw-stem.Post
-draw-stem-cast-i t c = omega (arith, (recorded-parts (c .before .before .before .before .before .pre .1 .0 .1) (c .before .before .if2 .left)) .parts, c .before .before .before .before .before .pre .1 .1)
+draw-stem-cast-i t c = omega (arith, (known-parts (c .before .before .before .before .before .pre .1 .0 .1) (c .before .before .if2 .left)) .parts, c .before .before .before .before .before .pre .1 .1)
 
 draw-stem-mul-j : (t : ℕ) → draw-stem-lts.Need-mul-j (draw-stem-Cs t) (draw-stem-at t) draw-stem.Post
-draw-stem-mul-j t c = omega (arith, (recorded-parts (c .before .before .before .before .before .pre .1 .0 .1) (c .before .before .if2 .left)) .parts .inside)
+draw-stem-mul-j t c = omega (arith, (known-parts (c .before .before .before .before .before .pre .1 .0 .1) (c .before .before .if2 .left)) .parts .inside)
 
 draw-stem-element-copy-out-j : (t : ℕ) → draw-stem-lts.Need-element-copy-out-j (draw-stem-Cs t) (draw-stem-at t) draw-stem.Post
-draw-stem-element-copy-out-j t c = omega (arith, (recorded-parts (c .before .before .before .before .before .pre .1 .0 .1) (c .before .before .if2 .left)) .parts .inside)
+draw-stem-element-copy-out-j t c = omega (arith, (known-parts (c .before .before .before .before .before .pre .1 .0 .1) (c .before .before .if2 .left)) .parts .inside)
 
 draw-stem-cast-j : (t : ℕ) → draw-stem-lts.Need-cast-j (draw-stem-Cs t) (draw-stem-at t) draw-stem.Post
-draw-stem-cast-j t c = omega (arith, (recorded-parts (c .before .before .before .before .before .before .pre .1 .0 .1) (c .before .before .before .if2 .left)) .parts, c .before .before .before .before .before .before .pre .1 .1)
+draw-stem-cast-j t c = omega (arith, (known-parts (c .before .before .before .before .before .before .pre .1 .0 .1) (c .before .before .before .if2 .left)) .parts, c .before .before .before .before .before .before .pre .1 .1)
 
 draw-stem-number-requires : (t : ℕ) → draw-stem-lts.Need-number-requires (draw-stem-Cs t) (draw-stem-at t) draw-stem.Post
 draw-stem-number-requires t c κs = search needs
@@ -204,14 +205,14 @@ draw-stem-draw-two-requires : (t : ℕ) → draw-stem-lts.Need-draw-two-requires
 draw-stem-draw-two-requires t c κs =
     let at-if2 = c .before .before .before .before .before .before .before .before .before .before .before .before .before .before .before .before .before in
     let start = at-if2 .before .before .before in
-    let k = recorded-parts (start .pre .1 .0 .1) (at-if2 .if2 .left) in
-    (omega (arith, k .parts, start .pre .0), ((k .parts .l, k .of-l), ((k .parts .r, k .of-r), omega (arith, k .parts, start .pre .1 .1))))
+    let k = known-parts (start .pre .1 .0 .1) (at-if2 .if2 .left) in
+    (omega (arith, k .parts, start .pre .0), ((k .parts .l, k .known-l), ((k .parts .r, k .known-r), omega (arith, k .parts, start .pre .1 .1))))
 
 -- the corners and the column of a triangle fit
 stem-fits : (t : ℕ) (c : draw-stem-lts.Else2 (draw-stem-Cs t) (draw-stem-at t) draw-stem.Post) → let args = c .before .before .before .args in (args .u < args .v) × (args .v < 1024) × (args .at + 4 ≤ 4096)
 stem-fits t c =
     let start = c .before .before .before in
-    omega (arith, (recorded-parts (start .pre .1 .0 .1) (c .if2 .left)) .parts, start .pre .1 .1)
+    omega (arith, (known-parts (start .pre .1 .0 .1) (c .if2 .left)) .parts, start .pre .1 .1)
 
 draw-stem-key-requires-2 : (t : ℕ) → draw-stem-lts.Need-key-requires-2 (draw-stem-Cs t) (draw-stem-at t) draw-stem.Post
 draw-stem-key-requires-2 t c κs = omega (arith, stem-fits t (c .before .before .before .before .before .before .before .before .before .before .before .before .before .before .before .before .before .before))
@@ -225,8 +226,8 @@ two-fit t c =
     let at-step-at = at-differ .before .before in
     let at-if2 = at-step-at .before .before .before .before .before .before .before .before .before .before in
     let start = at-if2 .before .before .before in
-    let k = recorded-parts (start .pre .1 .0 .1) (at-if2 .if2 .left) in
-    omega (arith, k .parts, start .pre .1 .1, end-two (k .parts .l) (k .parts .r) (at-step-at .step-at .result .left) (at-step-at .step-at .result .right) (start .args .d) (start .args .u) (getD (start .args .apex .now) (start .args .e) 0) (start .args .v) (at-differ .differ .result) (at-pick .pick .result) (at-pick2 .pick2 .result) (c .draw-two .ensures (k .parts .l) (k .parts .r) (k .of-l) (k .of-r)))
+    let k = known-parts (start .pre .1 .0 .1) (at-if2 .if2 .left) in
+    omega (arith, k .parts, start .pre .1 .1, end-two (k .parts .l) (k .parts .r) (at-step-at .step-at .result .left) (at-step-at .step-at .result .right) (start .args .d) (start .args .u) (getD (start .args .apex .now) (start .args .e) 0) (start .args .v) (at-differ .differ .result) (at-pick .pick .result) (at-pick2 .pick2 .result) (c .draw-two .ensures (k .parts .l) (k .parts .r) (k .known-l) (k .known-r)))
 
 draw-stem-mul-out-2 : (t : ℕ) → draw-stem-lts.Need-mul-out-2 (draw-stem-Cs t) (draw-stem-at t) draw-stem.Post
 draw-stem-mul-out-2 t c = omega (arith, two-fit t (c .before))
@@ -241,8 +242,8 @@ draw-stem-add-result-2 t c = omega (arith, two-fit t (c .before))
 going : (t : ℕ) (c : draw-stem-lts.After-differ2 (draw-stem-Cs t) (draw-stem-at t) draw-stem.Post) (x : Tree)
     → let at-if2 = c .before .before .before .before .before .before .before .before .before .before .before .before .before .before .before in
     let start = at-if2 .before .before .before in
-    (w : Recorded (start .args .apex .now) (start .args .left .now) (start .args .right .now) (start .args .ud .now) (start .args .handle .now) (start .args .e) (start .args .u) (start .args .v) x)
-    → let k = recorded-parts w (at-if2 .if2 .left) in
+    (w : Known (start .args .apex .now) (start .args .left .now) (start .args .right .now) (start .args .ud .now) (start .args .handle .now) (start .args .e) (start .args .u) (start .args .v) x)
+    → let k = known-parts w (at-if2 .if2 .left) in
     Going (start .args .p) (start .args .d) (k .parts .l) (k .parts .r) x (start .args .u) (getD (start .args .apex .now) (start .args .e) 0) (c .before .before .before .before .before .step-at .result) (start .args .turned) (c .before .before .before .before .from-right .result) (c .before .before .before .differ .result) (c .before .before .pick .result) (c .before .pick2 .result)
 going t c x w =
     let at-step-at = c .before .before .before .before .before in
@@ -252,12 +253,12 @@ going t c x w =
     let at-if2 = at-number .before .before .before .before .before in
     let at-if1 = at-if2 .before in
     let start = at-if1 .before .before in
-    let k = recorded-parts w (at-if2 .if2 .left) in
+    let k = known-parts w (at-if2 .if2 .left) in
     record {
       not-hung = sym (at-if1 .before .is-hung .ensures) ∙ at-if1 .if1 .left;
       is = k .parts .is;
       middle = k .parts .middle;
-      step-is = at-step-at .step-at .ensures ∙ rw (at-number .number .ensures, at-number2 .number2 .ensures, at-number3 .number3 .ensures) (k .step-is (start .args .p) (start .args .d));
+      step-is = at-step-at .step-at .ensures ∙ k .step-is (start .args .p) (start .args .d) (at-number .number .ensures) (at-number2 .number2 .ensures) (at-number3 .number3 .ensures);
       back-is = c .before .before .before .before .from-right .ensures;
       other-is = c .before .before .before .differ .ensures;
       left-is = c .before .before .pick .ensures;
@@ -271,9 +272,9 @@ draw-stem-returns-3 t c =
     let at-if2 = at-differ2 .before .before .before .before .before .before .before .before .before .before .before .before .before .before .before in
     let start = at-if2 .before .before .before in
     λ x w.
-    let k = recorded-parts w (at-if2 .if2 .left) in
+    let k = known-parts w (at-if2 .if2 .left) in
     last-drawn (going t at-differ2 x w) (start .args .v) (at-differ2 .differ2 .result) (at-differ2 .differ2 .ensures) (at-if3 .if3 .taken) _ (c .key2 .ensures)
-    (c .before .draw-two .ensures (k .parts .l) (k .parts .r) (k .of-l) (k .of-r))
+    (c .before .draw-two .ensures (k .parts .l) (k .parts .r) (k .known-l) (k .known-r))
 
 draw-stem-key-requires-3 : (t : ℕ) → draw-stem-lts.Need-key-requires-3 (draw-stem-Cs t) (draw-stem-at t) draw-stem.Post
 draw-stem-key-requires-3 t c κs = omega (arith, stem-fits t (c .before .before .before .before .before .before .before .before .before .before .before .before .before .before .before .before))
@@ -291,8 +292,8 @@ draw-stem-draw-two-requires-2 : (t : ℕ) → draw-stem-lts.Need-draw-two-requir
 draw-stem-draw-two-requires-2 t c κs =
     let at-if2 = c .before .before .before .before .before .before .before .before .before .before .before .before .before .before .before .before .before .before in
     let start = at-if2 .before .before .before in
-    let k = recorded-parts (start .pre .1 .0 .1) (at-if2 .if2 .left) in
-    (omega (arith, k .parts, start .pre .0), ((k .parts .l, k .of-l), ((k .parts .r, k .of-r), omega (arith, k .parts, start .pre .1 .1))))
+    let k = known-parts (start .pre .1 .0 .1) (at-if2 .if2 .left) in
+    (omega (arith, k .parts, start .pre .0), ((k .parts .l, k .known-l), ((k .parts .r, k .known-r), omega (arith, k .parts, start .pre .1 .1))))
 
 draw-stem-returns-4 : (t : ℕ) → draw-stem-lts.Need-returns-4 (draw-stem-Cs t) (draw-stem-at t) draw-stem.Post
 draw-stem-returns-4 t c =
@@ -301,9 +302,9 @@ draw-stem-returns-4 t c =
     let at-if2 = at-differ2 .before .before .before .before .before .before .before .before .before .before .before .before .before .before .before in
     let start = at-if2 .before .before .before in
     λ x w.
-    let k = recorded-parts w (at-if2 .if2 .left) in
+    let k = known-parts w (at-if2 .if2 .left) in
     first-drawn (going t at-differ2 x w) (start .args .v) (at-differ2 .differ2 .result) (at-differ2 .differ2 .ensures) (at-if3 .if3 .left) _ (start .args .at) (start .args .out .now) (c .before .before .key3 .ensures)
-    (c .draw-two2 .ensures (k .parts .l) (k .parts .r) (k .of-l) (k .of-r))
+    (c .draw-two2 .ensures (k .parts .l) (k .parts .r) (k .known-l) (k .known-r))
 
 draw-two-draw-stem-requires : (t : ℕ) → draw-two-lts.Need-draw-stem-requires (draw-two-Cs t) (draw-two-at t) draw-two.Post
 draw-two-draw-stem-requires t c κs =

@@ -6,8 +6,8 @@ use native.Mathlib.Omega.{arith}
 use Rattle.polygon.specs.Tree.{node, span}
 use Rattle.umbrella.proofs.Wide.{nine}
 use Rattle.plan.proofs.Pieces.{ends, closed}
+use Rattle.plan.proofs.Held.{known-parts}
 use Rattle.umbrella.specs.Roles.{stepOf}
-use Rattle.drawing.proofs.Recording.{recorded-parts}
 use Rattle.drawing.proofs.Placing.{Small, lines-small, side-placed, lines-are, triangle-placed}
 use Prim.Native.Nat.{ℕ, _<_}
 use borrow.Fn.Kinds.{In}
@@ -37,31 +37,31 @@ place-rows-returns : (t : ℕ) → place-rows-lts.Need-returns (place-rows-Cs t)
 place-rows-returns t c = λ x k. side-placed x (c .before .args .p) (c .before .args .d) (c .before .args .far) (c .before .args .near) (c .before .args .u) (c .before .args .rows .now) (closed (k .shows) (c .if1 .taken))
 
 place-rows-mul-c : (t : ℕ) → place-rows-lts.Need-mul-c (place-rows-Cs t) (place-rows-at t) place-rows.Post
-place-rows-mul-c t c = omega (arith, (recorded-parts (c .before .pre .1 .0 .1) (c .if1 .left)) .parts .inside)
+place-rows-mul-c t c = omega (arith, (known-parts (c .before .pre .1 .0 .1) (c .if1 .left)) .parts .inside)
 
 place-rows-element-copy-out-c : (t : ℕ) → place-rows-lts.Need-element-copy-out-c (place-rows-Cs t) (place-rows-at t) place-rows.Post
-place-rows-element-copy-out-c t c = omega (arith, (recorded-parts (c .before .pre .1 .0 .1) (c .if1 .left)) .parts .inside)
+place-rows-element-copy-out-c t c = omega (arith, (known-parts (c .before .pre .1 .0 .1) (c .if1 .left)) .parts .inside)
 
 place-rows-cast-c : (t : ℕ) → place-rows-lts.Need-cast-c (place-rows-Cs t) (place-rows-at t) place-rows.Post
-place-rows-cast-c t c = omega (arith, (recorded-parts (c .before .before .pre .1 .0 .1) (c .before .if1 .left)) .parts, c .before .before .pre .1 .1)
+place-rows-cast-c t c = omega (arith, (known-parts (c .before .before .pre .1 .0 .1) (c .before .if1 .left)) .parts, c .before .before .pre .1 .1)
 
 place-rows-mul-i : (t : ℕ) → place-rows-lts.Need-mul-i (place-rows-Cs t) (place-rows-at t) place-rows.Post
-place-rows-mul-i t c = omega (arith, (recorded-parts (c .before .before .pre .1 .0 .1) (c .before .if1 .left)) .parts .inside)
+place-rows-mul-i t c = omega (arith, (known-parts (c .before .before .pre .1 .0 .1) (c .before .if1 .left)) .parts .inside)
 
 place-rows-element-copy-out-i : (t : ℕ) → place-rows-lts.Need-element-copy-out-i (place-rows-Cs t) (place-rows-at t) place-rows.Post
-place-rows-element-copy-out-i t c = omega (arith, (recorded-parts (c .before .before .pre .1 .0 .1) (c .before .if1 .left)) .parts .inside)
+place-rows-element-copy-out-i t c = omega (arith, (known-parts (c .before .before .pre .1 .0 .1) (c .before .if1 .left)) .parts .inside)
 
 place-rows-cast-i : (t : ℕ) → place-rows-lts.Need-cast-i (place-rows-Cs t) (place-rows-at t) place-rows.Post
-place-rows-cast-i t c = omega (arith, (recorded-parts (c .before .before .before .pre .1 .0 .1) (c .before .before .if1 .left)) .parts, c .before .before .before .pre .1 .1)
+place-rows-cast-i t c = omega (arith, (known-parts (c .before .before .before .pre .1 .0 .1) (c .before .before .if1 .left)) .parts, c .before .before .before .pre .1 .1)
 
 place-rows-mul-j : (t : ℕ) → place-rows-lts.Need-mul-j (place-rows-Cs t) (place-rows-at t) place-rows.Post
-place-rows-mul-j t c = omega (arith, (recorded-parts (c .before .before .before .pre .1 .0 .1) (c .before .before .if1 .left)) .parts .inside)
+place-rows-mul-j t c = omega (arith, (known-parts (c .before .before .before .pre .1 .0 .1) (c .before .before .if1 .left)) .parts .inside)
 
 place-rows-element-copy-out-j : (t : ℕ) → place-rows-lts.Need-element-copy-out-j (place-rows-Cs t) (place-rows-at t) place-rows.Post
-place-rows-element-copy-out-j t c = omega (arith, (recorded-parts (c .before .before .before .pre .1 .0 .1) (c .before .before .if1 .left)) .parts .inside)
+place-rows-element-copy-out-j t c = omega (arith, (known-parts (c .before .before .before .pre .1 .0 .1) (c .before .before .if1 .left)) .parts .inside)
 
 place-rows-cast-j : (t : ℕ) → place-rows-lts.Need-cast-j (place-rows-Cs t) (place-rows-at t) place-rows.Post
-place-rows-cast-j t c = omega (arith, (recorded-parts (c .before .before .before .before .pre .1 .0 .1) (c .before .before .before .if1 .left)) .parts, c .before .before .before .before .pre .1 .1)
+place-rows-cast-j t c = omega (arith, (known-parts (c .before .before .before .before .pre .1 .0 .1) (c .before .before .before .if1 .left)) .parts, c .before .before .before .before .pre .1 .1)
 
 place-rows-number-requires : (t : ℕ) → place-rows-lts.Need-number-requires (place-rows-Cs t) (place-rows-at t) place-rows.Post
 place-rows-number-requires t c κs = search needs
@@ -82,7 +82,7 @@ place-rows-lines-at-requires : (t : ℕ) → place-rows-lts.Need-lines-at-requir
 place-rows-lines-at-requires t c κs =
     let at-if1 = c .before .before .before .before .before .before .before .before .before .before .before .before in
     let start = at-if1 .before in
-    let k = recorded-parts (start .pre .1 .0 .1) (at-if1 .if1 .left) in
+    let k = known-parts (start .pre .1 .0 .1) (at-if1 .if1 .left) in
     omega (arith, start .pre .1 .1, c .number4 .ensures, k .levels-are, k .not-empty, nine (node (k .parts .l) (k .parts .r)) (omega (arith, ends (start .pre .1 .0 .1 .shows), ap span (k .parts .is), start .pre .1 .1)))
 
 -- the rows of the two lines that the pieces beyond a triangle are drawn on
@@ -91,7 +91,7 @@ lines-fit t c =
     let at-number4 = c .before in
     let at-if1 = at-number4 .before .before .before .before .before .before .before .before .before .before .before .before in
     let start = at-if1 .before in
-    let k = recorded-parts (start .pre .1 .0 .1) (at-if1 .if1 .left) in
+    let k = known-parts (start .pre .1 .0 .1) (at-if1 .if1 .left) in
     let levels = nine (node (k .parts .l) (k .parts .r)) (omega (arith, ends (start .pre .1 .0 .1 .shows), ap span (k .parts .is), start .pre .1 .1)) in
     rw (c .lines-at .ensures)
     (lines-small (start .args .p) (at-number4 .before .before .step-at .result .crossed) (start .args .d) (at-number4 .number4 .result) (50000 - 20 * (start .args .v - start .args .u)) (start .args .far) (start .args .near) (omega (arith, start .pre .1 .1)) (omega (arith, start .pre .1 .1)) (omega (arith, at-number4 .number4 .ensures, k .levels-are, levels)))
@@ -101,30 +101,30 @@ place-rows-place-rows-requires t c κs =
     let at-lines-at = c .before .before .before .before in
     let at-if1 = at-lines-at .before .before .before .before .before .before .before .before .before .before .before .before .before in
     let start = at-if1 .before in
-    let k = recorded-parts (start .pre .1 .0 .1) (at-if1 .if1 .left) in
+    let k = known-parts (start .pre .1 .0 .1) (at-if1 .if1 .left) in
     let m = lines-fit t at-lines-at in
-    (omega (arith, k .parts, start .pre .0), ((k .parts .l, k .of-l), omega (arith, k .parts, start .pre .1 .1, m)))
+    (omega (arith, k .parts, start .pre .0), ((k .parts .l, k .known-l), omega (arith, k .parts, start .pre .1 .1, m)))
 
 place-rows-mul-rows : (t : ℕ) → place-rows-lts.Need-mul-rows (place-rows-Cs t) (place-rows-at t) place-rows.Post
 place-rows-mul-rows t c =
     let at-if1 = c .before .before .before .before .before .before .before .before .before .before .before .before .before .before .before .before .before .before in
     let start = at-if1 .before in
-    omega (arith, (recorded-parts (start .pre .1 .0 .1) (at-if1 .if1 .left)) .parts, start .pre .1 .1)
+    omega (arith, (known-parts (start .pre .1 .0 .1) (at-if1 .if1 .left)) .parts, start .pre .1 .1)
 
 place-rows-element-write-rows : (t : ℕ) → place-rows-lts.Need-element-write-rows (place-rows-Cs t) (place-rows-at t) place-rows.Post
 place-rows-element-write-rows t c =
     let at-if1 = c .before .before .before .before .before .before .before .before .before .before .before .before .before .before .before .before .before .before in
     let start = at-if1 .before in
-    omega (arith, (recorded-parts (start .pre .1 .0 .1) (at-if1 .if1 .left)) .parts, start .pre .1 .1)
+    omega (arith, (known-parts (start .pre .1 .0 .1) (at-if1 .if1 .left)) .parts, start .pre .1 .1)
 
 place-rows-place-rows-requires-2 : (t : ℕ) → place-rows-lts.Need-place-rows-requires-2 (place-rows-Cs t) (place-rows-at t) place-rows.Post
 place-rows-place-rows-requires-2 t c κs =
     let at-lines-at = c .before .before .before .before .before .before in
     let at-if1 = at-lines-at .before .before .before .before .before .before .before .before .before .before .before .before .before in
     let start = at-if1 .before in
-    let k = recorded-parts (start .pre .1 .0 .1) (at-if1 .if1 .left) in
+    let k = known-parts (start .pre .1 .0 .1) (at-if1 .if1 .left) in
     let m = lines-fit t at-lines-at in
-    (omega (arith, k .parts, start .pre .0), ((k .parts .r, k .of-r), omega (arith, k .parts, start .pre .1 .1, m)))
+    (omega (arith, k .parts, start .pre .0), ((k .parts .r, k .known-r), omega (arith, k .parts, start .pre .1 .1, m)))
 
 place-rows-returns-2 : (t : ℕ) → place-rows-lts.Need-returns-2 (place-rows-Cs t) (place-rows-at t) place-rows.Post
 place-rows-returns-2 t c =
@@ -137,12 +137,12 @@ place-rows-returns-2 t c =
     let at-if1 = at-number .before .before .before .before .before in
     let start = at-if1 .before in
     λ x w.
-    let k = recorded-parts w (at-if1 .if1 .left) in
-    let step : at-step-at .step-at .result ≡ stepOf (start .args .p) (start .args .d) (k .parts .l) (k .parts .r) = at-step-at .step-at .ensures ∙ rw (at-number .number .ensures, at-number2 .number2 .ensures, at-number3 .number3 .ensures) (k .step-is (start .args .p) (start .args .d)) in
+    let k = known-parts w (at-if1 .if1 .left) in
+    let step : at-step-at .step-at .result ≡ stepOf (start .args .p) (start .args .d) (k .parts .l) (k .parts .r) = at-step-at .step-at .ensures ∙ k .step-is (start .args .p) (start .args .d) (at-number .number .ensures) (at-number2 .number2 .ensures) (at-number3 .number3 .ensures) in
     triangle-placed (start .args .p) (start .args .d) (start .args .far) (start .args .near) (k .parts .l) (k .parts .r) (start .args .u) _ (at-step-at .step-at .result)
     (at-lines-at .lines-at .result) (start .args .rows .now) _ _ (k .parts .is) (k .parts .middle) step
     (lines-are (start .args .p) (start .args .d) (at-number4 .number4 .result) (start .args .far) (start .args .near) (k .parts .l) (k .parts .r) (at-step-at .step-at .result) (at-lines-at .lines-at .result) step (at-number4 .number4 .ensures ∙ k .levels-are) (at-lines-at .lines-at .ensures))
-    (c .before .before .place-rows .ensures (k .parts .l) (k .of-l)) (c .place-rows2 .ensures (k .parts .r) (k .of-r))
+    (c .before .before .place-rows .ensures (k .parts .l) (k .known-l)) (c .place-rows2 .ensures (k .parts .r) (k .known-r))
 
 pub +place-rows-spec : {M : Type 1} → statement M
 +place-rows-spec = close μ-place-rows λ t. place-rows-lts.spec (place-rows-Cs t) (place-rows-at t) place-rows.Post (place-rows-returns t) (place-rows-mul-c t) (place-rows-element-copy-out-c t) (place-rows-cast-c t) (place-rows-mul-i t) (place-rows-element-copy-out-i t) (place-rows-cast-i t) (place-rows-mul-j t) (place-rows-element-copy-out-j t) (place-rows-cast-j t) (place-rows-number-requires t) (place-rows-number-requires-2 t) (place-rows-number-requires-3 t) (place-rows-step-at-requires t) (place-rows-number-requires-4 t) (place-rows-lines-at-requires t) (place-rows-place-rows-requires t) (place-rows-mul-rows t) (place-rows-element-write-rows t) (place-rows-place-rows-requires-2 t) (place-rows-returns-2 t)

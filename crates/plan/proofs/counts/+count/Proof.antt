@@ -1,65 +1,76 @@
 -- The span falls at each call; each step by the laws of Counting.antt.
-use mathlib.Core.Path.{_≡_, _∙_}
+use mathlib.Core.Path.{ap, _∙_}
 use Prim.Native.Nat.{ℕ, _-_, _<_}
 use borrow.Author.Needs.{needs}
 use native.Mathlib.Omega.{arith}
 use Rattle.polygon.specs.Tree.{Tree}
-use Rattle.plan.specs.Roles.{stepOf}
+use Rattle.umbrella.specs.Roles.{levelsUnder}
+use Rattle.plan.specs.Counts.{adds}
 use Rattle.plan.proofs.Pieces.{closed}
-use Rattle.plan.proofs.Counting.{KnownParts, known-parts, counted-side, counted-triangle, Sums, sums}
+use Rattle.plan.proofs.Held.{KnownParts, known-parts}
+use Rattle.plan.proofs.Counting.{Adding, counted-side, counted-triangle, Fits, sums-fit}
 use borrow.Fn.Kinds.{In}
 use borrow.Fn.PlainCycle.{Measures, is, falls, and}
 use Rattle.plan.proofs.counts.count.Reads as count
 use Rattle.plan.proofs.counts.count.Kinds as count-kinds
 use Rattle.plan.proofs.counts.+count.Lts-count as count-lts
 use Rattle.plan.proofs.counts.number.Reads as number-reads
-use Rattle.plan.proofs.counts.step_at.Reads as step-at-reads
+use Rattle.plan.proofs.counts.adds.Reads as adds-reads
+use Rattle.plan.proofs.counts.at_gate.Reads as at-gate-reads
+use Rattle.umbrella.proofs.roles.levels_under.Reads as levels-under-reads
+use Rattle.umbrella.proofs.roles.step_at.Reads as step-at-reads
 use Rattle.plan.proofs.counts.+count.{statement}
 use Rattle.plan.proofs.counts.+count.Tie.{close}
 
-abbrev μ-count : Measures 7 count-kinds.ps ℕ
-μ-count κs a = a .1 .1 .1 .1 .1 .1 .1 .1 .1 .0 - a .1 .1 .1 .1 .1 .1 .1 .1 .0
+abbrev μ-count : Measures 5 count-kinds.ps ℕ
+μ-count κs a = a .1 .1 .1 .1 .1 .1 .1 .0 - a .1 .1 .1 .1 .1 .1 .0
 
-abbrev count-at : ℕ → In 7 count-kinds.ps
-count-at t = and 7 count-kinds.ps (is 7 count-kinds.ps μ-count t) count.Pre
+abbrev count-at : ℕ → In 5 count-kinds.ps
+count-at t = and 5 count-kinds.ps (is 5 count-kinds.ps μ-count t) count.Pre
 
-abbrev count-below : ℕ → In 7 count-kinds.ps
-count-below t = and 7 count-kinds.ps (falls 7 count-kinds.ps _<_ μ-count t) count.Pre
+abbrev count-below : ℕ → In 5 count-kinds.ps
+count-below t = and 5 count-kinds.ps (falls 5 count-kinds.ps _<_ μ-count t) count.Pre
 
 abbrev count-Cs : ℕ → count-lts.Claims
-count-Cs t = (number-reads.Asked, number-reads.Learnt, step-at-reads.Asked, step-at-reads.Learnt, count-below t, count.Post)
+count-Cs t = (number-reads.Asked, number-reads.Learnt, step-at-reads.Asked, step-at-reads.Learnt, levels-under-reads.Asked, levels-under-reads.Learnt, adds-reads.Asked, adds-reads.Learnt, at-gate-reads.Asked, at-gate-reads.Learnt, count-below t, count.Post)
 
 count-returns : (t : ℕ) → count-lts.Need-returns (count-Cs t) (count-at t) count.Post
 count-returns t c = λ x k. counted-side (c .before .args .role) (c .before .args .d) (closed (k .shows) (c .if1 .taken))
 
--- what the tables hold of a triangle, how the plan goes on from it, and that the counts of the two pieces fit
+-- what the tables hold of a triangle, and what is added there
 abbrev Knows : (t : ℕ) → count-lts.Start (count-Cs t) (count-at t) count.Post → Tree → Type 0
-Knows t c x = KnownParts (c .args .apex .now) (c .args .left .now) (c .args .right .now) (c .args .ud .now) (c .args .handle .now) (c .args .fan-a .now) (c .args .fan-b .now) (c .args .e) (c .args .u) (c .args .v) x
+Knows t c x = KnownParts (c .args .apex .now) (c .args .left .now) (c .args .right .now) (c .args .ud .now) (c .args .handle .now) (c .args .e) (c .args .u) (c .args .v) x
 
 knows : (t : ℕ) (c : count-lts.Else1 (count-Cs t) (count-at t) count.Post) → Knows t (c .before) (c .before .pre .1 .0 .0)
 knows t c = known-parts (c .before .pre .1 .0 .1) (c .if1 .left)
 
-stepped : (t : ℕ) (c : count-lts.After-step-at (count-Cs t) (count-at t) count.Post) (x : Tree) → let start = c .before .before .before .before .before .before .before .before .before .before .before .before .before .before .before .before .before in (k : Knows t start x) → c .step-at .result ≡ stepOf (start .args .role) (start .args .d) (k .parts .l) (k .parts .r)
-stepped t c x k =
-    let at-number5 = c .before .before .before in
-    let at-number4 = at-number5 .before .before in
-    let at-number3 = at-number4 .before .before in
+abbrev tested : (t : ℕ) → count-lts.After-adds2 (count-Cs t) (count-at t) count.Post → count-lts.Else1 (count-Cs t) (count-at t) count.Post
+tested t c = c .before .before .before .before .before .before .before .before .before .before .before .before .before .before .before .before
+
+adding : (t : ℕ) (c : count-lts.After-count2 (count-Cs t) (count-at t) count.Post) (x : Tree) → let at-adds2 = c .before .before in let start = tested t at-adds2 .before in (k : Knows t start x)
+    → Adding (start .args .role) (start .args .d) (k .parts .l) (k .parts .r) (at-adds2 .before .before .before .before .before .before .step-at .result) (at-adds2 .before .before .before .levels-under .result) (at-adds2 .before .before .adds .result) (at-adds2 .adds2 .result) (c .before .count .result) (c .count2 .result)
+adding t c x k =
+    let at-adds2 = c .before .before in
+    let at-adds = at-adds2 .before .before in
+    let at-number4 = at-adds .before .before in
+    let at-step-at = at-number4 .before .before in
+    let at-number3 = at-step-at .before in
     let at-number2 = at-number3 .before .before in
     let at-number = at-number2 .before .before in
-    let start = at-number .before .before .before .before .before .before in
-    c .step-at .ensures ∙ rw
-    (at-number .number .ensures, at-number2 .number2 .ensures, at-number3 .number3 .ensures, at-number4 .number4 .ensures, at-number5 .number5 .ensures, c .before .number6 .ensures)
-    (k .step-is (start .args .role) (start .args .d))
+    let start = tested t at-adds2 .before in
+    record {
+      step-is = at-step-at .step-at .ensures ∙ k .step-is (start .args .role) (start .args .d) (at-number .number .ensures) (at-number2 .number2 .ensures) (at-number3 .number3 .ensures);
+      under-is = at-adds .before .levels-under .ensures ∙ ap (λ (n : ℕ). levelsUnder (start .args .role) (start .args .d) (n - 1)) (at-number4 .number4 .ensures ∙ k .levels-are);
+      umbrellas-add = at-adds .adds .ensures;
+      stems-add = at-adds2 .adds2 .ensures ∙ ap (λ (n : ℕ). adds (start .args .role) 0 n) (at-adds2 .before .at-gate .ensures);
+      left-is = c .before .count .ensures (k .parts .l) (k .known-l);
+      right-is = c .count2 .ensures (k .parts .r) (k .known-r);
+    }
 
-summed : (t : ℕ) (c : count-lts.After-count2 (count-Cs t) (count-at t) count.Post) → Sums (c .before .count .result) (c .count2 .result) (c .before .before .step-at .result)
+summed : (t : ℕ) (c : count-lts.After-count2 (count-Cs t) (count-at t) count.Post) → let at-adds2 = c .before .before in Fits (c .before .count .result) (c .count2 .result) (at-adds2 .before .before .adds .result) (at-adds2 .adds2 .result)
 summed t c =
-    let at-step-at = c .before .before in
-    let at-if1 = at-step-at .before .before .before .before .before .before .before .before .before .before .before .before .before .before .before .before in
-    let start = at-if1 .before in
-    let k = knows t at-if1 in
-    sums (start .args .role) (start .args .d) (k .parts .l) (k .parts .r) (at-step-at .step-at .result) (c .before .count .result) (c .count2 .result)
-    (stepped t at-step-at _ k) (c .before .count .ensures (k .parts .l) (k .known-l)) (c .count2 .ensures (k .parts .r) (k .known-r))
-    (omega (arith, k .parts, start .pre .1 .1))
+    let k = knows t (tested t (c .before .before)) in
+    sums-fit (adding t c _ k) (omega (arith, k .parts, tested t (c .before .before) .before .pre .1 .1))
 
 count-mul-c : (t : ℕ) → count-lts.Need-mul-c (count-Cs t) (count-at t) count.Post
 count-mul-c t c = omega (arith, knows t c .parts .inside)
@@ -97,54 +108,55 @@ count-number-requires-2 t c κs = search needs
 count-number-requires-3 : (t : ℕ) → count-lts.Need-number-requires-3 (count-Cs t) (count-at t) count.Post
 count-number-requires-3 t c κs = search needs
 
+count-step-at-requires : (t : ℕ) → count-lts.Need-step-at-requires (count-Cs t) (count-at t) count.Post
+count-step-at-requires t c κs = search needs
+
 count-number-requires-4 : (t : ℕ) → count-lts.Need-number-requires-4 (count-Cs t) (count-at t) count.Post
 count-number-requires-4 t c κs = search needs
 
-count-number-requires-5 : (t : ℕ) → count-lts.Need-number-requires-5 (count-Cs t) (count-at t) count.Post
-count-number-requires-5 t c κs = search needs
+count-sub-levels-under : (t : ℕ) → count-lts.Need-sub-levels-under (count-Cs t) (count-at t) count.Post
+count-sub-levels-under t c = omega (arith, knows t (c .before .before .before .before .before .before .before .before .before .before .before .before) .not-empty, c .number4 .ensures)
 
-count-number-requires-6 : (t : ℕ) → count-lts.Need-number-requires-6 (count-Cs t) (count-at t) count.Post
-count-number-requires-6 t c κs = search needs
+count-levels-under-requires : (t : ℕ) → count-lts.Need-levels-under-requires (count-Cs t) (count-at t) count.Post
+count-levels-under-requires t c κs = search needs
 
-count-step-at-requires : (t : ℕ) → count-lts.Need-step-at-requires (count-Cs t) (count-at t) count.Post
-count-step-at-requires t c κs = omega (arith, knows t (c .before .before .before .before .before .before .before .before .before .before .before .before .before .before .before) .not-empty, c .before .before .before .before .before .before .before .before .before .before .number .ensures)
+count-adds-requires : (t : ℕ) → count-lts.Need-adds-requires (count-Cs t) (count-at t) count.Post
+count-adds-requires t c κs = search needs
+
+count-at-gate-requires : (t : ℕ) → count-lts.Need-at-gate-requires (count-Cs t) (count-at t) count.Post
+count-at-gate-requires t c κs = search needs
+
+count-adds-requires-2 : (t : ℕ) → count-lts.Need-adds-requires-2 (count-Cs t) (count-at t) count.Post
+count-adds-requires-2 t c κs = search needs
 
 count-count-requires : (t : ℕ) → count-lts.Need-count-requires (count-Cs t) (count-at t) count.Post
 count-count-requires t c κs =
-    let start = c .before .before .before .before .before .before .before .before .before .before .before .before .before .before .before .before .before in
-    let k = knows t (c .before .before .before .before .before .before .before .before .before .before .before .before .before .before .before .before) in
+    let start = tested t c .before in
+    let k = knows t (tested t c) in
     (omega (arith, k .parts, start .pre .0), ((k .parts .l, k .known-l), omega (arith, k .parts, start .pre .1 .1)))
 
 count-count-requires-2 : (t : ℕ) → count-lts.Need-count-requires-2 (count-Cs t) (count-at t) count.Post
 count-count-requires-2 t c κs =
-    let start = c .before .before .before .before .before .before .before .before .before .before .before .before .before .before .before .before .before .before in
-    let k = knows t (c .before .before .before .before .before .before .before .before .before .before .before .before .before .before .before .before .before) in
+    let start = tested t (c .before) .before in
+    let k = knows t (tested t (c .before)) in
     (omega (arith, k .parts, start .pre .0), ((k .parts .r, k .known-r), omega (arith, k .parts, start .pre .1 .1)))
 
-count-add-t25 : (t : ℕ) → count-lts.Need-add-t25 (count-Cs t) (count-at t) count.Post
-count-add-t25 t c = omega (arith, summed t (c .before .before))
+count-add-t36 : (t : ℕ) → count-lts.Need-add-t36 (count-Cs t) (count-at t) count.Post
+count-add-t36 t c = omega (arith, summed t (c .before .before))
 
-count-add-t44 : (t : ℕ) → count-lts.Need-add-t44 (count-Cs t) (count-at t) count.Post
-count-add-t44 t c = omega (arith, summed t (c .before .before .before))
+count-add-t33 : (t : ℕ) → count-lts.Need-add-t33 (count-Cs t) (count-at t) count.Post
+count-add-t33 t c = omega (arith, summed t (c .before .before))
+
+count-add-t26 : (t : ℕ) → count-lts.Need-add-t26 (count-Cs t) (count-at t) count.Post
+count-add-t26 t c = omega (arith, summed t (c .before .before .before .before))
 
 count-add-t41 : (t : ℕ) → count-lts.Need-add-t41 (count-Cs t) (count-at t) count.Post
-count-add-t41 t c = omega (arith, summed t (c .before .before .before .before .before))
-
-count-add-t38 : (t : ℕ) → count-lts.Need-add-t38 (count-Cs t) (count-at t) count.Post
-count-add-t38 t c = omega (arith, summed t (c .before .before .before .before .before .before))
+count-add-t41 t c = omega (arith, summed t (c .before .before .before .before))
 
 count-returns-2 : (t : ℕ) → count-lts.Need-returns-2 (count-Cs t) (count-at t) count.Post
-count-returns-2 t c =
-    let at-count2 = c .before .before .before .before .before .before in
-    let at-count = at-count2 .before in
-    let at-step-at = at-count .before in
-    let at-if1 = at-step-at .before .before .before .before .before .before .before .before .before .before .before .before .before .before .before .before in
-    let start = at-if1 .before in
-    λ x q.
-    let k = known-parts q (at-if1 .if1 .left) in
-    counted-triangle (start .args .role) (start .args .d) (k .parts .l) (k .parts .r) (at-step-at .step-at .result) (at-count .count .result) (at-count2 .count2 .result)
-    (k .parts .is) (stepped t (c .before .before .before .before .before .before .before .before) _ k) (at-count .count .ensures (k .parts .l) (k .known-l))
-    (at-count2 .count2 .ensures (k .parts .r) (k .known-r))
+count-returns-2 t c = λ x q.
+    let k = known-parts q (tested t (c .before .before .before .before .before .before) .if1 .left) in
+    counted-triangle (adding t (c .before .before .before .before) _ k) (k .parts .is)
 
 pub +count-spec : {M : Type 1} → statement M
-+count-spec = close μ-count λ t. count-lts.spec (count-Cs t) (count-at t) count.Post (count-returns t) (count-mul-c t) (count-element-copy-out-c t) (count-cast-c t) (count-mul-i t) (count-element-copy-out-i t) (count-cast-i t) (count-mul-j t) (count-element-copy-out-j t) (count-cast-j t) (count-number-requires t) (count-number-requires-2 t) (count-number-requires-3 t) (count-number-requires-4 t) (count-number-requires-5 t) (count-number-requires-6 t) (count-step-at-requires t) (count-count-requires t) (count-count-requires-2 t) (count-add-t25 t) (count-add-t44 t) (count-add-t41 t) (count-add-t38 t) (count-returns-2 t)
++count-spec = close μ-count λ t. count-lts.spec (count-Cs t) (count-at t) count.Post (count-returns t) (count-mul-c t) (count-element-copy-out-c t) (count-cast-c t) (count-mul-i t) (count-element-copy-out-i t) (count-cast-i t) (count-mul-j t) (count-element-copy-out-j t) (count-cast-j t) (count-number-requires t) (count-number-requires-2 t) (count-number-requires-3 t) (count-step-at-requires t) (count-number-requires-4 t) (count-sub-levels-under t) (count-levels-under-requires t) (count-adds-requires t) (count-at-gate-requires t) (count-adds-requires-2 t) (count-count-requires t) (count-count-requires-2 t) (count-add-t36 t) (count-add-t33 t) (count-add-t26 t) (count-add-t41 t) (count-returns-2 t)
