@@ -35,8 +35,6 @@ pub fn place_part(keys: &[u32], n: usize, columns: &mut [u32; 4096], rows: &mut 
     let mut right = [0u16; 1022];
     let mut ud = [0u16; 1022];
     let mut handle = [0u16; 1022];
-    let mut fan_a = [0u16; 1022];
-    let mut fan_b = [0u16; 1022];
     let s = fill(
         keys,
         n,
@@ -45,8 +43,6 @@ pub fn place_part(keys: &[u32], n: usize, columns: &mut [u32; 4096], rows: &mut 
         &mut right,
         &mut ud,
         &mut handle,
-        &mut fan_a,
-        &mut fan_b,
     );
     let root = n - 3;
     let v = n - 1;

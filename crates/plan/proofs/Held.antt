@@ -98,7 +98,7 @@ pub fresh-length : length {A = ℕ} (replicate 1022 0) ≡ 1022
 fresh-length = length-replicate {A = ℕ} 1022 0
 
 -- the tables after the recursion for the levels
-pub known-stored : {apex left right : List ℕ} {e u v : ℕ} {t : Tree} {w₀ h₀ a₀ b₀ w h a b : List ℕ} {r : Six} → Shows apex left right e u v t → (length w₀ ≡ 1022) × (length h₀ ≡ 1022) → Stored left right e t w₀ h₀ a₀ b₀ w h a b r → Known apex left right w h e u v t
+pub known-stored : {apex left right : List ℕ} {e u v : ℕ} {t : Tree} {w₀ h₀ w h : List ℕ} {r : Six} → Shows apex left right e u v t → (length w₀ ≡ 1022) × (length h₀ ≡ 1022) → Stored left right e t w₀ h₀ w h r → Known apex left right w h e u v t
 unfolding ud
 known-stored {apex} {left} {right} {w₀ = w₀} {h₀} s n S =
     record {

@@ -1,4 +1,4 @@
--- The six numbers of a piece as the code holds them, and the tables that keep four of them for each edge.
+-- The six numbers of a piece as the code holds them, and the tables that keep two of them for each edge.
 use mathlib.Core.Path.{_≡_}
 use mathlib.Core.List.{List}
 use Prim.Native.Nat.{ℕ, _+_, max, min}
@@ -27,13 +27,11 @@ unfoldable pub stored : (Tree → ℕ) → List ℕ → List ℕ → ℕ → Tre
 stored f left right e leaf xs = xs
 stored f left right e (node l r) xs = set (stored f left right (getD right e 0) r (stored f left right (getD left e 0) l xs)) e (f (node l r))
 
--- the numbers r of the piece t at e, and the four tables before and after
-pub record Stored (left right : List ℕ) (e : ℕ) (t : Tree) (uds handles fan-as fan-bs uds′ handles′ fan-as′ fan-bs′ : List ℕ) (r : Six) : Type 0 where
+-- the numbers r of the piece t at e, and the two tables before and after
+pub record Stored (left right : List ℕ) (e : ℕ) (t : Tree) (uds handles uds′ handles′ : List ℕ) (r : Six) : Type 0 where
   pub numbers : r ≡ six t
   pub ud-stored : uds′ ≡ stored ud left right e t uds
   pub handle-stored : handles′ ≡ stored handle left right e t handles
-  pub fan-a-stored : fan-as′ ≡ stored fanA left right e t fan-as
-  pub fan-b-stored : fan-bs′ ≡ stored fanB left right e t fan-bs
 
 -- each edge of the piece t at e has its number f in the table xs; the entry of a side lies past the table's end
 abbrev pub Holds : (Tree → ℕ) → List ℕ → List ℕ → List ℕ → ℕ → Tree → Type 0

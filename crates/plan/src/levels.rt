@@ -1,5 +1,5 @@
 // The six numbers of each piece (document 004, chapter 6), worked out recursively over the tree: one call for each triangle and each side, and the span v - u falls at each call.
-// The first four numbers of each edge are kept in tables, for the choice of the umbrellas. Definitions: Numbers.antt of the crate umbrella; specs/Numbered.antt says how the code holds them.
+// The first two numbers of each edge are kept in tables, for the walk of the plan drawn. Definitions: Numbers.antt of the crate umbrella; specs/Numbered.antt says how the code holds them.
 ghost use mathlib.Core.Path.{_≡_};
 ghost use Prim.Native.Nat.{_<_, max, min};
 ghost use Rattle.polygon.specs.Tree.{Tree};
@@ -47,22 +47,21 @@ fn join(l: Six, r: Six) -> Six
     }
 }
 
-// The six numbers of the piece at e, on the corners u to v. Four of each triangle's are stored at its entry.
+// The six numbers of the piece at e, on the corners u to v. Two of each triangle's are stored at its entry.
 pub fn levels(
     apex: &[u16; 1022],
     left: &[u16; 1022],
     right: &[u16; 1022],
     ud: &mut [u16; 1022],
     handle: &mut [u16; 1022],
-    fan_a: &mut [u16; 1022],
-    fan_b: &mut [u16; 1022],
     e: usize,
     u: usize,
     v: usize,
 ) -> Six
     requires shown { ⌜ Shown (now apex) (now left) (now right) e u v ⌝ }
     requires corners { ⌜ v < 1024 ⌝ }
-    ensures { λ r. ⌜ ((t : Tree) → Shows (now (apex .entry)) (now (left .entry)) (now (right .entry)) e u v t → Stored (now (left .entry)) (now (right .entry)) e t (now (ud .entry)) (now (handle .entry)) (now («fan_a» .entry)) (now («fan_b» .entry)) (now (ud .exit)) (now (handle .exit)) (now («fan_a» .exit)) (now («fan_b» .exit)) r) ⌝ }
+    ensures { λ r. ⌜ ((t : Tree) → Shows (now (apex .entry)) (now (left .entry)) (now (right .entry)) e u v t
+        → Stored (now (left .entry)) (now (right .entry)) e t (now (ud .entry)) (now (handle .entry)) (now (ud .exit)) (now (handle .exit)) r) ⌝ }
 {
     if e == 65535 {
         return Six {
@@ -77,12 +76,10 @@ pub fn levels(
     let c = apex[e] as usize;
     let i = left[e] as usize;
     let j = right[e] as usize;
-    let l = levels(apex, left, right, ud, handle, fan_a, fan_b, i, u, c);
-    let r = levels(apex, left, right, ud, handle, fan_a, fan_b, j, c, v);
+    let l = levels(apex, left, right, ud, handle, i, u, c);
+    let r = levels(apex, left, right, ud, handle, j, c, v);
     let s = join(l, r);
     ud[e] = s.ud;
     handle[e] = s.handle;
-    fan_a[e] = s.fan_a;
-    fan_b[e] = s.fan_b;
     s
 }

@@ -36,8 +36,6 @@ pub fn plan_part(keys: &[u32], n: usize) -> Planned
     let mut right = [0u16; 1022];
     let mut ud = [0u16; 1022];
     let mut handle = [0u16; 1022];
-    let mut fan_a = [0u16; 1022];
-    let mut fan_b = [0u16; 1022];
     let s = fill(
         keys,
         n,
@@ -46,8 +44,6 @@ pub fn plan_part(keys: &[u32], n: usize) -> Planned
         &mut right,
         &mut ud,
         &mut handle,
-        &mut fan_a,
-        &mut fan_b,
     );
     let root = n - 3;
     let v = n - 1;

@@ -13,9 +13,9 @@ use Rattle.drawing.proofs.place_part.Tie as tie
 
 fill-requires : tie.Need-fill-requires
 fill-requires c κs =
-    let earlier = c .before .before .before .before .before .before .before .before in
+    let earlier = c .before .before .before .before .before .before in
     let start = earlier in
-    (start .pre .0, (start .pre .1 .0, ((fresh-length, fresh-length, fresh-length), (fresh-length, fresh-length, fresh-length, fresh-length))))
+    (start .pre .0, (start .pre .1 .0, ((fresh-length, fresh-length, fresh-length), (fresh-length, fresh-length))))
 
 sub-root : tie.Need-sub-root
 sub-root c = search needs
@@ -27,7 +27,7 @@ draw-piece-requires : tie.Need-draw-piece-requires
 draw-piece-requires c κs =
     let earlier = c .before .before .before .before .before .before in
     let filled = earlier in
-    let start = filled .before .before .before .before .before .before .before .before .before in
+    let start = filled .before .before .before .before .before .before .before in
     ((treeOf (start .args .n) (edgesOf (start .args .keys .now)), filled .fill .ensures .1), omega (arith, start .pre .0 .full, start .pre .1 .0))
 
 element-write-rows : tie.Need-element-write-rows
@@ -35,13 +35,13 @@ element-write-rows c = search needs
 
 mul-rows : tie.Need-mul-rows
 mul-rows c =
-    let earlier = c .before .before .before .before .before .before .before .before .before .before .before .before .before .before .before .before in
+    let earlier = c .before .before .before .before .before .before .before .before .before .before .before .before .before .before in
     let start = earlier in
     omega (arith, start .pre .0 .full, start .pre .1 .0)
 
 element-write-rows-2 : tie.Need-element-write-rows-2
 element-write-rows-2 c =
-    let earlier = c .before .before .before .before .before .before .before .before .before .before .before .before .before .before .before .before in
+    let earlier = c .before .before .before .before .before .before .before .before .before .before .before .before .before .before in
     let start = earlier in
     omega (arith, start .pre .0 .full, start .pre .1 .0)
 
@@ -49,7 +49,7 @@ place-rows-requires : tie.Need-place-rows-requires
 place-rows-requires c κs =
     let earlier = c .before .before .before .before .before .before .before .before .before .before .before .before .before in
     let filled = earlier in
-    let start = filled .before .before .before .before .before .before .before .before .before in
+    let start = filled .before .before .before .before .before .before .before in
     ((treeOf (start .args .n) (edgesOf (start .args .keys .now)), filled .fill .ensures .1), omega (arith, start .pre .0 .full, start .pre .1 .0))
 
 returns : tie.Need-returns
@@ -57,7 +57,7 @@ returns c =
     let earlier = c .before .before .before .before .before .before .before in
     let drawn = earlier in
     let filled = drawn .before .before .before .before .before .before .before in
-    let start = filled .before .before .before .before .before .before .before .before .before in
+    let start = filled .before .before .before .before .before .before .before in
     let n = start .args .n in
     let tree = treeOf n (edgesOf (start .args .keys .now)) in
     let known = filled .fill .ensures .1 in

@@ -10,8 +10,8 @@ use Rattle.plan.proofs.plan_part.Tie as tie
 
 fill-requires : tie.Need-fill-requires
 fill-requires c κs =
-    let start = c .before .before .before .before .before .before .before .before in
-    (start .pre .0, (start .pre .1, ((fresh-length, fresh-length, fresh-length), (fresh-length, fresh-length, fresh-length, fresh-length))))
+    let start = c .before .before .before .before .before .before in
+    (start .pre .0, (start .pre .1, ((fresh-length, fresh-length, fresh-length), (fresh-length, fresh-length))))
 
 sub-root : tie.Need-sub-root
 sub-root c = search needs
@@ -22,13 +22,13 @@ sub-v c = search needs
 count-requires : tie.Need-count-requires
 count-requires c κs =
     let filled = c .before .before .before .before .before in
-    let start = filled .before .before .before .before .before .before .before .before .before in
+    let start = filled .before .before .before .before .before .before .before in
     ((treeOf (start .args .n) (edgesOf (start .args .keys .now)), filled .fill .ensures .1), omega (arith, start .pre .0 .full, start .pre .1))
 
 returns : tie.Need-returns
 returns c =
     let filled = c .before .before .before .before .before .before in
-    let start = filled .before .before .before .before .before .before .before .before .before in
+    let start = filled .before .before .before .before .before .before .before in
     let tree = treeOf (start .args .n) (edgesOf (start .args .keys .now)) in
     part-planned tree 0 (filled .fill .result) (c .count .result) (filled .fill .ensures .0) (c .count .ensures tree (filled .fill .ensures .1))
 

@@ -18,17 +18,17 @@ sub-v c = search needs
 
 levels-requires : tie.Need-levels-requires
 levels-requires c κs =
-    let filled = c .before .before .before .before .before .before .before in
+    let filled = c .before .before .before .before .before in
     let start = filled .before .before .before .before .before in
     (record { tree = treeOf (start .args .n) (edgesOf (start .args .keys .now)); shows = filled .tables .ensures }, omega (arith, start .pre .0 .full, start .pre .1 .0))
 
 returns : tie.Need-returns
 returns c =
-    let filled = c .before .before .before .before .before .before .before .before in
+    let filled = c .before .before .before .before .before .before in
     let start = filled .before .before .before .before .before in
     let shows = filled .tables .ensures in
     let stored = c .levels .ensures (treeOf (start .args .n) (edgesOf (start .args .keys .now))) shows in
-    (stored .numbers, known-stored shows (start .pre .1 .1 .1 .0, start .pre .1 .1 .1 .1) stored)
+    (stored .numbers, known-stored shows (start .pre .1 .1 .1) stored)
 
 pub fill-spec : {M : Type 1} → statement M
 fill-spec = tie.close (tie.spec tables-requires sub-root sub-v levels-requires returns)
