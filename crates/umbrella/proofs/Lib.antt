@@ -17,6 +17,5 @@ pub mod Rim
 pub mod Gates
 pub mod Cut
 pub mod Border
-pub mod Induction
 pub mod Cases
-pub mod Ways
+pub mod Induction

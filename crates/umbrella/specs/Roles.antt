@@ -1,5 +1,5 @@
--- How the drawing of the plan drawn goes on from a triangle to the two pieces beyond its other edges, by the numbers of the pieces: one walk for counting, columns and rows.
--- (`by-recursion` in proofs/Induction.antt and `way` in proofs/Ways.antt: its steps are the choices of Best.antt.)
+-- How the plan drawn goes on from a triangle to the two pieces beyond its other edges, by the numbers of the pieces: one walk for counting, columns and rows.
+-- (`by-recursion` in proofs/Induction.antt: its steps are the choices of Best.antt.)
 use mathlib.Core.Bool.{Bool, true, false, not}
 use Prim.Native.Nat.{ℕ, zero, suc}
 use native.Mathlib.Decide.{decLe}

@@ -48,7 +48,8 @@ abbrev tested : (t : ℕ) → count-lts.After-adds2 (count-Cs t) (count-at t) co
 tested t c = c .before .before .before .before .before .before .before .before .before .before .before .before .before .before .before .before
 
 adding : (t : ℕ) (c : count-lts.After-count2 (count-Cs t) (count-at t) count.Post) (x : Tree) → let at-adds2 = c .before .before in let start = tested t at-adds2 .before in (k : Knows t start x)
-    → Adding (start .args .role) (start .args .d) (k .parts .l) (k .parts .r) (at-adds2 .before .before .before .before .before .before .step-at .result) (at-adds2 .before .before .before .levels-under .result) (at-adds2 .before .before .adds .result) (at-adds2 .adds2 .result) (c .before .count .result) (c .count2 .result)
+    → Adding (start .args .role) (start .args .d) (k .parts .l) (k .parts .r) (at-adds2 .before .before .before .before .before .before .step-at .result)
+    (at-adds2 .before .before .before .levels-under .result) (at-adds2 .before .before .adds .result) (at-adds2 .adds2 .result) (c .before .count .result) (c .count2 .result)
 adding t c x k =
     let at-adds2 = c .before .before in
     let at-adds = at-adds2 .before .before in
