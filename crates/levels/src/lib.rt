@@ -176,7 +176,7 @@ pub fn levels(
 pub fn fill(keys: &[u32], n: usize, tree: &mut [u32; PLACES], depths: &mut [u16; NUMBERS]) -> Piece
     requires part { ⌜ Triangulated n (edgesOf (now keys)) × (n ≤ 1024) ⌝ }
     requires room { ⌜ (length (now tree) ≡ 3072) × (length (now depths) ≡ 12270) ⌝ }
-    requires fresh { ⌜ ((i : ℕ) → getD (now depths) i 0 ≡ 0) ⌝ }
+    requires fresh { ⌜ ((i : ℕ) → getD (now tree) i 0 ≡ 0) × ((i : ℕ) → getD (now depths) i 0 ≡ 0) ⌝ }
     ensures { λ r. ⌜ Filled n (treeOf n (edgesOf (now (keys .entry)))) (now (tree .exit)) (now (depths .exit)) r ⌝ }
 {
     let p = build(keys, n, tree);

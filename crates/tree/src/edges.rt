@@ -1,7 +1,7 @@
 // All edges of a part, ascending, as keys: its sides merged with its chords, the diagonals and the root edge.
 ghost use mathlib.Core.Path.{_≡_};
 ghost use Prim.Native.Nat.{ℕ, _+_, _*_, _-_, _<_, _≤_};
-ghost use lib.ListN.{length, take, getD};
+ghost use lib.ListN.{length, take, drop, getD};
 ghost use Rattle.polygon.specs.Polygon.{Triangulated};
 ghost use Rattle.polygon.specs.Edges.{edges};
 ghost use Rattle.polygon.specs.Tree.{treeOf};
@@ -42,7 +42,8 @@ fn key_at(keys: &[u32], j: usize) -> u32
 fn merge_sides(chords: &[u32], n: usize, listed: &mut [u32])
     requires { ⌜ (1 ≤ n) × (n ≤ 1024) × (n - 1 + length (now chords) ≤ length (now listed)) ⌝ }
     requires { ⌜ ((j : ℕ) → j < length (now chords) → getD (now chords) j 0 < side (n - 1)) ⌝ }
-    ensures { λ _. ⌜ take (n - 1 + length (now (chords .entry))) (now (listed .exit)) ≡ merge (sides (n - 1)) (now (chords .entry)) ⌝ }
+    ensures merged { λ _. ⌜ take (n - 1 + length (now (chords .entry))) (now (listed .exit)) ≡ merge (sides (n - 1)) (now (chords .entry)) ⌝ }
+    ensures rest { λ _. ⌜ drop (n - 1 + length (now (chords .entry))) (now (listed .exit)) ≡ drop (n - 1 + length (now (chords .entry))) (now (listed .entry)) ⌝ }
 {
     let size = n - 1 + chords.len();
     let mut i: usize = 0;
@@ -64,7 +65,8 @@ fn merge_sides(chords: &[u32], n: usize, listed: &mut [u32])
 pub fn list_edges(keys: &[u32], n: usize, listed: &mut [u32])
     requires { ⌜ Triangulated n (edgesOf (now keys)) ⌝ }
     requires { ⌜ (n ≤ 1024) × (2 * n - 3 ≤ length (now listed)) ⌝ }
-    ensures { λ _. ⌜ edgesOf (take (2 * n - 3) (now (listed .exit))) ≡ edges 0 (treeOf n (edgesOf (now (keys .entry)))) ⌝ }
+    ensures edges { λ _. ⌜ edgesOf (take (2 * n - 3) (now (listed .exit))) ≡ edges 0 (treeOf n (edgesOf (now (keys .entry)))) ⌝ }
+    ensures rest { λ _. ⌜ drop (2 * n - 3) (now (listed .exit)) ≡ drop (2 * n - 3) (now (listed .entry)) ⌝ }
 {
     let m = keys.len();
     let root = n - 1;

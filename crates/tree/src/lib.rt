@@ -58,7 +58,7 @@ pub fn open(tree: &[u32; PLACES], p: Piece) -> Two
 // Stores the place of each corner's last edge.
 fn place_lasts(tree: &mut [u32], m: usize)
     requires { ⌜ (m ≤ 2045) × (length (now tree) ≡ 3072) × ((j : ℕ) → j < m → getD (now tree) j 0 < 1048576) ⌝ }
-    ensures edges { λ _. ⌜ take m (now (tree .exit)) ≡ take m (now (tree .entry)) ⌝ }
+    ensures edges { λ _. ⌜ take 2048 (now (tree .exit)) ≡ take 2048 (now (tree .entry)) ⌝ }
     ensures lasts { λ _. ⌜ Lasts m (now (tree .exit)) ⌝ }
 {
     let mut j = 0;
@@ -74,6 +74,7 @@ pub fn build(keys: &[u32], n: usize, tree: &mut [u32]) -> Piece
     requires part { ⌜ Triangulated n (edgesOf (now keys)) × (n ≤ 1024) ⌝ }
     requires room { ⌜ length (now tree) ≡ 3072 ⌝ }
     ensures edges { λ _. ⌜ edgesOf (take (2 * n - 3) (now (tree .exit))) ≡ edges 0 (treeOf n (edgesOf (now (keys .entry)))) ⌝ }
+    ensures rest { λ _. ⌜ ((j : ℕ) → 2 * n - 3 ≤ j → j < 2048 → getD (now (tree .exit)) j 0 ≡ getD (now (tree .entry)) j 0) ⌝ }
     ensures whole { λ r. ⌜ Whole n (treeOf n (edgesOf (now (keys .entry)))) (now (tree .exit)) r ⌝ }
 {
     let m = 2 * n - 3;

@@ -1,8 +1,7 @@
 -- The table of numbers begins with that of every side, 0.
-use mathlib.Core.Path.{refl}
+use mathlib.Core.Path.{refl, _∙_}
 use borrow.Author.Needs.{needs}
 use native.Mathlib.Omega.{arith}
-use lib.ListN.{length-replicate}
 use Rattle.levels.proofs.Storing.{fresh-leaves}
 use Rattle.levels.proofs.fill.Statement.{statement}
 use Rattle.levels.proofs.fill.Tie as tie
@@ -13,13 +12,14 @@ build-requires c κs = search needs
 levels-requires : tie.Need-levels-requires
 levels-requires c κs =
     let start = c .before .before .before .before .before .before in
-    let w = c .before .before .before .build .ensures .1 in
-    (record { tree = _; shows = w .shows }, ((omega (arith, w .lower, w .upper, start .pre .0), start .pre .1 .0 .1, refl), fresh-leaves (start .args .depths .now) (start .pre .1 .1)))
+    let w = c .before .before .before .build .ensures .1 .1 in
+    (record { tree = _; shows = w .shows }, ((omega (arith, w .lower, w .upper, start .pre .0), start .pre .1 .0 .1, refl), fresh-leaves (start .args .depths .now) (start .pre .1 .1 .1)))
 
 returns : tie.Need-returns
 returns c =
     let b = c .before .before .before .before .build .ensures in
-    record { listed = b .0; whole = b .1; deep = c .levels .ensures .1 .1 .0 _ (b .1 .shows) }
+    let start = c .before .before .before .before .before .before .before in
+    record { listed = b .0; rest = λ j h k. b .1 .0 j h k ∙ start .pre .1 .1 .0 j; whole = b .1 .1; deep = c .levels .ensures .1 .1 .0 _ (b .1 .1 .shows) }
 
 pub fill-spec : {M : Type 1} → statement M
 fill-spec = tie.close (tie.spec build-requires levels-requires returns)

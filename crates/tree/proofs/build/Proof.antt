@@ -9,7 +9,7 @@ use Rattle.polygon.specs.Tree.{treeOf}
 use Rattle.keys.specs.Keys.{edgesOf}
 use Rattle.tree.specs.Shows.{Whole}
 use Rattle.tree.proofs.Pieces.{inside}
-use Rattle.tree.proofs.Whole.{keyed, whole}
+use Rattle.tree.proofs.Whole.{keyed, whole, kept-front, kept-rest}
 use Rattle.tree.proofs.build.Statement.{statement}
 use Rattle.tree.proofs.build.Tie as tie
 
@@ -29,7 +29,7 @@ place-lasts-requires : tie.Need-place-lasts-requires
 place-lasts-requires c κs =
     let start = c .before .before .before .before .before .before .before in
     let at-list = c .before .before .before in
-    (omega arith, listed at-list, λ j h. omega (arith, keyed (start .args .n) (start .args .keys .now) (start .pre .0 .0) (start .pre .0 .1) (at-list .list-edges .last .1 .1 .0) (listed at-list) (at-list .list-edges .ensures) j h))
+    (omega arith, listed at-list, λ j h. omega (arith, keyed (start .args .n) (start .args .keys .now) (start .pre .0 .0) (start .pre .0 .1) (at-list .list-edges .last .1 .1 .0) (listed at-list) (at-list .list-edges .ensures .0) j h))
 
 slice-read-t12 : tie.Need-slice-read-t12
 slice-read-t12 c = search needs
@@ -39,7 +39,11 @@ filled : (c : tie.After-place-lasts) → length (c .place-lasts .last .0) ≡ 30
 filled c = c .place-lasts .kept .0 ∙ listed (c .before .before .before .before)
 
 edges-are : (c : tie.After-place-lasts) → let start = c .before .before .before .before .before .before .before .before in edgesOf (take (2 * start .args .n - 3) (c .place-lasts .last .0)) ≡ edges 0 (treeOf (start .args .n) (edgesOf (start .args .keys .now)))
-edges-are c = ap edgesOf (c .place-lasts .ensures .0) ∙ c .before .before .before .before .list-edges .ensures
+edges-are c =
+    let start = c .before .before .before .before .before .before .before .before in
+    let m = 2 * start .args .n - 3 in
+    let at-list = c .before .before .before .before in
+    ap edgesOf (kept-front m (c .place-lasts .last .0) (at-list .list-edges .last .1 .1 .0) (omega (arith, start .pre .0 .1)) (c .place-lasts .ensures .0)) ∙ at-list .list-edges .ensures .0
 
 shown : (c : tie.After-place-lasts) → let start = c .before .before .before .before .before .before .before .before in Whole (start .args .n) (treeOf (start .args .n) (edgesOf (start .args .keys .now))) (c .place-lasts .last .0) (record { e = getD (c .place-lasts .last .0) 2048 0; u = 0; v = start .args .n - 1 })
 shown c =
@@ -59,7 +63,15 @@ same-length : tie.Need-same-length
 same-length c = search needs
 
 returns : tie.Need-returns
-returns c = (edges-are (c .before .before .before), shown (c .before .before .before))
+returns c =
+    let at-list = c .before .before .before .before .before .before .before in
+    let start = at-list .before .before .before .before in (
+      edges-are (c .before .before .before),
+      (
+        λ j h k. kept-rest (2 * start .args .n - 3) j (c .before .before .before .place-lasts .last .0) (at-list .list-edges .last .1 .1 .0) (start .args .tree .now) h k (c .before .before .before .place-lasts .ensures .0) (at-list .list-edges .ensures .1),
+        shown (c .before .before .before),
+      ),
+    )
 
 pub build-spec : {M : Type 1} → statement M
 build-spec = tie.close (tie.spec mul-m sub-m list-edges-requires place-lasts-requires slice-read-t12 cast-t13 sub-t5 cast-t14 same-length returns)

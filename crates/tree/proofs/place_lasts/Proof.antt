@@ -12,7 +12,7 @@ use Rattle.tree.proofs.place_lasts.Statement.{statement}
 use Rattle.tree.proofs.place_lasts.Tie as tie
 
 abbrev Inv-loop : tie.InvT-loop
-Inv-loop tree₀ m j₀ tree j = (j ≤ m) × (length tree ≡ 3072) × (take m tree ≡ take m tree₀) × Lasts j tree
+Inv-loop tree₀ m j₀ tree j = (j ≤ m) × (length tree ≡ 3072) × (take 2048 tree ≡ take 2048 tree₀) × Lasts j tree
 
 abbrev μ-loop : tie.MeasureT-loop
 μ-loop tree₀ m j₀ tree j = m - j
@@ -35,8 +35,7 @@ small c =
     let at-loop = c .before .before .before in
     let start = at-loop .before .before in
     let j = at-loop .loop .j in
-    let m = start .args .m in
-    let e : getD (at-loop .loop .tree) j 0 ≡ getD (start .args .tree .now) j 0 = sym (getD-take m (at-loop .loop .tree) j 0 (omega arith)) ∙ (ap (λ (l : List ℕ). getD l j 0) (at-loop .loop .inv .2) ∙ getD-take m (start .args .tree .now) j 0 (omega arith)) in
+    let e : getD (at-loop .loop .tree) j 0 ≡ getD (start .args .tree .now) j 0 = sym (getD-take 2048 (at-loop .loop .tree) j 0 (omega arith)) ∙ (ap (λ (l : List ℕ). getD l j 0) (at-loop .loop .inv .2) ∙ getD-take 2048 (start .args .tree .now) j 0 (omega arith)) in
     omega (arith, e, start .pre .2 j (omega arith))
 
 cast-tree : tie.Need-cast-tree Inv-loop μ-loop
@@ -63,7 +62,7 @@ loop-again c =
     let start = at-loop .before .before in (
       omega arith,
       simp length-set (at-loop .loop .inv .1),
-      take-set-le (start .args .m) (at-loop .loop .tree) _ _ (omega arith) ∙ at-loop .loop .inv .2,
+      take-set-le 2048 (at-loop .loop .tree) _ _ (omega arith) ∙ at-loop .loop .inv .2,
       lasts-next (at-loop .loop .tree) (at-loop .loop .j) _ (at-loop .loop .inv .1) (omega arith) (omega (arith, small c, c .low .ensures)) (c .low .ensures) (at-loop .loop .inv .3),
     )
 

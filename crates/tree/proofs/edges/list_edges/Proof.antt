@@ -84,7 +84,7 @@ returns c =
     let n = start .args .n in
     let keys = start .args .keys .now in
     let e : n - 1 + length (take (length keys + 1) (at-insert .insert .last .0)) ≡ 2 * n - 3 = omega (arith, count start, length-take-le (length keys + 1) (at-insert .insert .last .0) (omega (arith, count start, inserted at-insert))) in
-    rw (← e) (ap edgesOf (c .before .before .merge-sides .ensures ∙ ap (merge (sides (n - 1))) (chords at-insert)) ∙ edges-listed n keys (start .pre .0) (start .pre .1 .0))
+    (rw (← e) (ap edgesOf (c .before .before .merge-sides .ensures .0 ∙ ap (merge (sides (n - 1))) (chords at-insert)) ∙ edges-listed n keys (start .pre .0) (start .pre .1 .0)), rw (← e) (c .before .before .merge-sides .ensures .1))
 
 pub list-edges-spec : {M : Type 1} → statement M
 list-edges-spec = tie.close (tie.spec sub-root slice-aggregate-copy copy-requires slice-aggregate-insert cast-insert insert-requires add-chords array-share-prefix-chords slice-aggregate-merge-sides merge-sides-requires same-length returns)

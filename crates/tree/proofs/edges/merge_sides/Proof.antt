@@ -4,7 +4,8 @@ use mathlib.Core.Logic.{⊎-elim}
 use Prim.Native.Nat.{ℕ, _+_, _-_, _≤_, _<_}
 use borrow.Author.Needs.{needs}
 use native.Mathlib.Omega.{arith}
-use lib.ListN.{length, getD}
+use lib.ListN.{length, drop, getD}
+use lib.Seq.{drop-set-lt}
 use Rattle.tree.specs.Sides.{side, sides}
 use Rattle.tree.proofs.Merging.{Merging, merged}
 use Rattle.tree.proofs.Sides.{sides-count, Next, chord-next, side-left, side-next}
@@ -12,7 +13,7 @@ use Rattle.tree.proofs.edges.merge_sides.Statement.{statement}
 use Rattle.tree.proofs.edges.merge_sides.Tie as tie
 
 abbrev Inv-loop : tie.InvT-loop
-Inv-loop chords n listed₀ size i₀ k₀ listed i k = (k ≤ size) × (size ≡ n - 1 + length chords) × (i ≤ n - 1) × Merging (sides (n - 1)) chords (length listed₀) listed i k
+Inv-loop chords n listed₀ size i₀ k₀ listed i k = (k ≤ size) × (size ≡ n - 1 + length chords) × (i ≤ n - 1) × Merging (sides (n - 1)) chords (length listed₀) listed i k × (drop size listed ≡ drop size listed₀)
 
 abbrev μ-loop : tie.MeasureT-loop
 μ-loop chords n listed₀ size i₀ k₀ listed i k = size - k
@@ -24,7 +25,7 @@ add-size : tie.Need-add-size Inv-loop μ-loop
 add-size c = omega arith
 
 loop-holds : tie.Need-loop-holds Inv-loop μ-loop
-loop-holds c = (omega arith, refl, omega arith, record { first = omega arith; both = omega arith; second = omega arith; kept = refl; rest = refl })
+loop-holds c = (omega arith, refl, omega arith, record { first = omega arith; both = omega arith; second = omega arith; kept = refl; rest = refl }, refl)
 
 side-requires : tie.Need-side-requires Inv-loop μ-loop
 side-requires c κs = omega arith
@@ -68,12 +69,13 @@ loop-again c =
     let i = at-loop .loop .i in
     let k = at-loop .loop .k in
     let M = at-loop .loop .inv .3 in
+    let size = n - 1 + length chords in
     let room : k < length (start .args .listed .now) = omega (arith, start .pre .0) in
     ⊎-elim
-    (λ w. rw (w .1, w .2) (omega arith, at-loop .loop .inv .1, omega arith, chord-next n chords _ (at-loop .loop .listed) i k _ _ (omega arith) (omega arith) M room (next (c .before)) (w .0 .taken)))
+    (λ w. rw (w .1, w .2) (omega arith, at-loop .loop .inv .1, omega arith, chord-next n chords _ (at-loop .loop .listed) i k _ _ (omega arith) (omega arith) M room (next (c .before)) (w .0 .taken), drop-set-lt size (at-loop .loop .listed) k _ (omega arith) ∙ at-loop .loop .inv .4))
     (λ w.
     let l : i < n - 1 = side-left n chords _ (at-loop .loop .listed) i k _ _ (omega arith) (omega arith) M room (next (c .before)) (start .pre .1) (omega arith) (w .0 .left) in
-    rw (w .1, w .2) (omega arith, at-loop .loop .inv .1, omega (arith, l), side-next n chords _ (at-loop .loop .listed) i k _ _ (omega arith) (omega arith) M room (next (c .before)) l (w .0 .left)))
+    rw (w .1, w .2) (omega arith, at-loop .loop .inv .1, omega (arith, l), side-next n chords _ (at-loop .loop .listed) i k _ _ (omega arith) (omega arith) M room (next (c .before)) l (w .0 .left), drop-set-lt size (at-loop .loop .listed) k _ (omega arith) ∙ at-loop .loop .inv .4))
     (c .if1 .came)
 
 same-length : tie.Need-same-length Inv-loop μ-loop
@@ -84,7 +86,7 @@ returns c =
     let start = c .before .before .before .before in
     let chords = start .args .chords .now in
     let e : c .before .loop .k ≡ start .args .n - 1 + length chords = omega arith in
-    rw (← e) (merged (sides (start .args .n - 1)) chords _ (c .before .loop .listed) (c .before .loop .i) (c .before .loop .k) (c .before .loop .inv .3) (e ∙ omega (arith, sides-count (start .args .n - 1))))
+    (rw (← e) (merged (sides (start .args .n - 1)) chords _ (c .before .loop .listed) (c .before .loop .i) (c .before .loop .k) (c .before .loop .inv .3) (e ∙ omega (arith, sides-count (start .args .n - 1)))), rw (← c .before .loop .inv .1) (c .before .loop .inv .4))
 
 pub merge-sides-spec : {M : Type 1} → statement M
 merge-sides-spec = tie.close (tie.spec Inv-loop μ-loop sub-size add-size loop-holds side-requires sub-key-at key-at-requires mul-listed slice-write-listed mul-listed-2 slice-write-listed-2 add-i add-k loop-less loop-again same-length returns)
