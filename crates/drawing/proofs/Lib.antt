@@ -1,8 +1,10 @@
 pub mod Orders
 pub mod Planned
-pub mod Writing
-pub mod Recording
-pub mod Placing
 pub mod OnLines
 pub mod Ranked
+pub mod Sets
+pub mod Turning
+pub mod Walking
+pub mod Following
+pub mod Rims
 pub mod Whole

@@ -10,7 +10,7 @@ use Rattle.umbrella.specs.Numbers.{ud}
 use Rattle.chart.specs.Places.{up}
 use Rattle.umbrella.specs.declared.roles.Role.{Role}
 use Rattle.umbrella.specs.declared.roles.Role.the-variants.{Hung, LeftRim, RightRim, FromLeft, FromRight}
-use Rattle.drawing.specs.declared.rows.Line.{Line}
+use Rattle.drawing.specs.declared.lines.Line.{Line}
 use Rattle.umbrella.specs.declared.roles.Step.{Step}
 use Rattle.umbrella.specs.Roles.{fromRight, isHung, stepAt, stepOf}
 use Rattle.drawing.specs.Lines.{onLine, rowAt, farLine, nearLine, aside, linesAt, ranks}

@@ -1,7 +1,7 @@
--- The order of the calls gives the order of the columns, reversed or not; and there are fewer columns than twice the sides.
+-- The columns of a rim or a stem in the order in which it is built; and there are fewer columns than twice the sides.
 use mathlib.Core.Path.{_≡_, refl, sym, _∙_}
 use mathlib.Core.Bool.{Bool, true, false, true≢false, false≢true}
-use mathlib.Core.List.{List, [], _∷_, _++_, reverse, reverse-append, reverse-reverse, reverse-cons, append-assoc}
+use mathlib.Core.List.{List, [], _∷_, _++_, reverse, reverse-append, reverse-reverse, reverse-cons}
 use Prim.Native.Nat.{ℕ, suc, _+_, _*_, _-_, _≤_, _<_}
 use native.Mathlib.Omega.{arith}
 use lib.ListN.{length, length-append, length-reverse}
@@ -13,35 +13,40 @@ use Rattle.umbrella.specs.declared.roles.Role.the-variants.{Hung, LeftRim, Righ
 use Rattle.umbrella.specs.declared.roles.Step.{Step}
 use Rattle.umbrella.specs.Roles.{fromRight, isHung, stepAt, stepOf, levelsUnder}
 use Rattle.drawing.specs.Columns.{around, arranged, sideColumn, columns}
-use Rattle.drawing.specs.Tables.{differ, pick, lay, both}
+use Rattle.drawing.specs.Walk.{differ, lay}
 
--- the own column first, or last
-module _ (e : Edge) (xs ys : List Edge) where
-  abbrev Between : (b t x : Bool) → List Edge
-  Between b t x = both (differ t x) (lay (pick b (differ t x) t) xs) (lay (pick b t (differ t x)) ys)
+-- a rim or a stem as it is built: the own column, the piece beside it, reversed if that lies to the right, and the piece that it goes on to
+abbrev pub Built : (left b : Bool) → Edge → List Edge → List Edge → List Edge
+Built true b e xs ys = e ∷ (lay true ys ++ lay b xs)
+Built false b e xs ys = e ∷ (lay false xs ++ lay b ys)
 
-  pub own-first : (b t x : Bool) → differ b t ≡ false → (e ∷ []) ++ Between b t x ≡ lay t (around b x e xs ys)
-  unfolding around
-  own-first false false false h = refl
-  own-first false false true h = refl
-  own-first true true false h = sym (reverse-append xs (ys ++ (e ∷ [])) ∙ rw (reverse-append ys (e ∷ [])))
-  own-first true true true h = sym (reverse-append ys (reverse xs ++ (e ∷ [])) ∙ rw (reverse-append (reverse xs) (e ∷ []), reverse-reverse xs))
-  own-first true false x h = absurd (true≢false h)
-  own-first false true x h = absurd (true≢false h)
+pub built : (e : Edge) (xs ys : List Edge) (b x : Bool) → lay b (around b x e xs ys) ≡ Built (differ b x) b e xs ys
+unfolding around
+built e xs ys false false = refl
+built e xs ys false true = refl
+built e xs ys true false = reverse-append xs (ys ++ (e ∷ [])) ∙ rw (reverse-append ys (e ∷ []))
+built e xs ys true true = reverse-append ys (reverse xs ++ (e ∷ [])) ∙ rw (reverse-append (reverse xs) (e ∷ []), reverse-reverse xs)
 
-  pub own-last : (b t x : Bool) → differ b t ≡ true → Between b t x ++ (e ∷ []) ≡ lay t (around b x e xs ys)
-  unfolding around
-  own-last true false false h = append-assoc xs ys (e ∷ [])
-  own-last true false true h = append-assoc ys (reverse xs) (e ∷ [])
-  own-last false true false h = sym (reverse-cons e (xs ++ ys) ∙ rw (reverse-append xs ys))
-  own-last false true true h = sym (reverse-cons e (reverse ys ++ xs) ∙ rw (reverse-append (reverse ys) xs, reverse-reverse ys))
-  own-last true true x h = absurd (false≢true h)
-  own-last false false x h = absurd (false≢true h)
+-- turned, or not
+pub lay-turned : (b t : Bool) (xs : List Edge) → differ b t ≡ true → reverse (lay b xs) ≡ lay t xs
+lay-turned true false xs h = reverse-reverse xs
+lay-turned false true xs h = refl
+lay-turned true true xs h = absurd (false≢true h)
+lay-turned false false xs h = absurd (false≢true h)
 
--- a hung piece has both rims and no own column
-pub no-own : (t : Bool) (xs ys : List Edge) → both t (lay t xs) (lay t ys) ≡ lay t (xs ++ ys)
-no-own true xs ys = sym (reverse-append xs ys)
-no-own false xs ys = refl
+pub lay-kept : (b t : Bool) (xs : List Edge) → differ b t ≡ false → lay b xs ≡ lay t xs
+lay-kept true true xs h = refl
+lay-kept false false xs h = refl
+lay-kept true false xs h = absurd (true≢false h)
+lay-kept false true xs h = absurd (true≢false h)
+
+pub lay-one : (b : Bool) (e : Edge) → lay b (e ∷ []) ≡ e ∷ []
+lay-one true e = refl
+lay-one false e = refl
+
+pub lay-none : (b : Bool) → lay b [] ≡ []
+lay-none true = refl
+lay-none false = refl
 
 pub only-hung : (p : Role) → isHung p ≡ true → p ≡ Hung
 only-hung Hung h = refl
@@ -79,10 +84,6 @@ rims d l r u v k e = rw e
 pub lay-length : (t : Bool) (xs : List Edge) → length (lay t xs) ≡ length xs
 lay-length true xs = length-reverse xs
 lay-length false xs = refl
-
-pub both-length : (t : Bool) (xs ys : List Edge) → length (both t xs ys) ≡ length xs + length ys
-both-length true xs ys = length-append ys xs ∙ omega arith
-both-length false xs ys = length-append xs ys
 
 around-length : (b x : Bool) (e : Edge) (xs ys : List Edge) → length (around b x e xs ys) ≤ suc (length xs + length ys)
 unfolding around

@@ -12,7 +12,7 @@ use Rattle.umbrella.specs.declared.roles.Role.the-variants.{Hung, LeftRim, Righ
 use Rattle.umbrella.specs.Roles.{stemStep, stepOf}
 use Rattle.umbrella.proofs.Induction.{stem, by-recursion}
 use Rattle.chart.specs.Places.{up, rows, leftRows, rightRows, leftGateRows, rightGateRows, stemRows}
-use Rattle.drawing.specs.declared.rows.Line.{Line}
+use Rattle.drawing.specs.declared.lines.Line.{Line}
 use Rattle.drawing.specs.Lines.{farLine, nearLine, aside, ranks}
 use Rattle.drawing.proofs.OnLines.{OnLine, fewer, at-zero, far-on, near-on, joined, hung-ranks, own-ranks}
 

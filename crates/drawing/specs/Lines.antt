@@ -7,9 +7,8 @@ use Rattle.polygon.specs.Tree.{Tree, leaf, node}
 use Rattle.umbrella.specs.Numbers.{ud}
 use Rattle.umbrella.specs.declared.roles.Role.{Role}
 use Rattle.umbrella.specs.declared.roles.Role.the-variants.{Hung, LeftRim, RightRim, FromLeft, FromRight}
-use Rattle.drawing.specs.declared.rows.Line.{Line}
-use Rattle.drawing.specs.declared.rows.Lines.{Lines}
 use Rattle.umbrella.specs.Roles.{stepOf}
+use Rattle.drawing.specs.declared.lines.Line.{Line}
 
 -- "A hung piece on row 2D goes upwards, on row 1 downwards; its row 0 is that row": the row of the part on which row r of a hung piece lies
 abbrev pub onLine : (down : Bool) (base r : ℕ) → ℕ
@@ -25,6 +24,14 @@ farLine D m = record { base = rowAt m (2 * D); down = not (m .down) }
 
 abbrev pub nearLine : Line → Line
 nearLine m = record { base = rowAt m 1; down = m .down }
+
+-- on from a triangle: the levels under the umbrella, the lines of the left and of the right piece and of the near row, the row of the third corner
+pub record Lines : Type 0 where
+  pub d : ℕ
+  pub left : Line
+  pub right : Line
+  pub near : Line
+  pub middle : ℕ
 
 -- crossed, the rim beyond the gate and the pieces hung beside a stem lie on the near line
 unfoldable pub aside : (right crossed : Bool) → ℕ → Line → Line → Lines

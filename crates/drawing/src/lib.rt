@@ -1,87 +1,65 @@
-// The columns and rows of the drawing of a part.
-// columns.rt writes the upright of each column, rows.rt the row of each corner.
+// The drawing of a part: the place of each column's upright among the edges, the row of each corner, and how many columns and rows there are.
+// lines.rt says how the drawing goes on from a triangle, walk.rt writes the columns and rows.
 // The definitions that the contracts cite are in specs/; Placed.antt says what is drawn of a part.
 ghost use mathlib.Core.Path.{_≡_};
-ghost use Prim.Native.Nat.{_≤_};
-ghost use lib.ListN.{length};
+ghost use Prim.Native.Nat.{ℕ, _≤_};
+ghost use lib.ListN.{length, getD};
 ghost use Rattle.polygon.specs.Polygon.{Triangulated};
 ghost use Rattle.polygon.specs.Tree.{treeOf};
 ghost use Rattle.keys.specs.Keys.{edgesOf};
 ghost use Rattle.drawing.specs.Placed.{Placed};
-use crate::columns::draw_piece;
-use crate::rows::Line;
-use crate::rows::place_rows;
-use plan::filled::fill;
+use crate::lines::Line;
+use crate::lines::Way;
+use crate::walk::COLUMNS;
+use crate::walk::draw_piece;
+use levels::CORNERS;
+use levels::NUMBERS;
+use levels::fill;
+use levels::numbers;
+use tree::PLACES;
 use umbrella::roles::Role;
 
-pub mod columns;
-pub mod rows;
+pub mod lines;
+pub mod walk;
 
-// How many columns and levels a drawing has.
+// How many columns and rows a drawing has.
 pub struct Size {
     pub columns: usize,
-    pub levels: u16,
+    pub rows: usize,
 }
 
-// The drawing of a part of n corners from the keys of its diagonals: the upright of each column, and the row of each corner.
-pub fn place_part(keys: &[u32], n: usize, columns: &mut [u32; 4096], rows: &mut [u16; 1024]) -> Size
-    requires { ⌜ Triangulated n (edgesOf (now keys)) ⌝ }
-    requires { ⌜ n ≤ 1024 ⌝ }
-    requires { ⌜ (length (now columns) ≡ 4096) × (length (now rows) ≡ 1024) ⌝ }
-    ensures { λ s. ⌜ Placed n (treeOf n (edgesOf (now (keys .entry)))) (now (columns .exit)) (now (rows .exit)) s ⌝ }
+// Draws a part of n corners from the keys of its diagonals. "Two rows a level and one more."
+pub fn place_part(
+    keys: &[u32],
+    n: usize,
+    tree: &mut [u32; PLACES],
+    columns: &mut [u16; COLUMNS],
+    rows: &mut [u16; CORNERS],
+) -> Size
+    requires part { ⌜ Triangulated n (edgesOf (now keys)) × (n ≤ 1024) ⌝ }
+    requires room { ⌜ (length (now tree) ≡ 3072) × (length (now columns) ≡ 2048) × (length (now rows) ≡ 1024) ⌝ }
+    requires fresh { ⌜ ((i : ℕ) → getD (now tree) i 0 ≡ 0) ⌝ }
+    ensures { λ s. ⌜ Placed n (treeOf n (edgesOf (now (keys .entry)))) (now (tree .exit)) (now (columns .exit)) (now (rows .exit)) s ⌝ }
 {
-    let mut apex = [0u16; 1022];
-    let mut left = [0u16; 1022];
-    let mut right = [0u16; 1022];
-    let mut ud = [0u16; 1022];
-    let mut handle = [0u16; 1022];
-    let s = fill(
-        keys,
-        n,
-        &mut apex,
-        &mut left,
-        &mut right,
-        &mut ud,
-        &mut handle,
-    );
-    let root = n - 3;
-    let v = n - 1;
-    let w = draw_piece(
-        &apex,
-        &left,
-        &right,
-        &ud,
-        &handle,
-        root,
-        0,
-        v,
-        false,
-        0,
-        columns,
-    );
+    let mut depths = [0u16; NUMBERS];
+    let p = fill(keys, n, tree, &mut depths);
     let top = Line {
         base: 0,
         down: true,
     };
+    let w = Way {
+        role: Role::Hung,
+        turned: false,
+        d: 0,
+        far: top,
+        near: top,
+    };
     rows[0] = 0;
-    rows[v] = 0;
-    place_rows(
-        &apex,
-        &left,
-        &right,
-        &ud,
-        &handle,
-        root,
-        0,
-        v,
-        Role::Hung,
-        0,
-        top,
-        top,
-        rows,
-    );
+    rows[n - 1] = 0;
+    let c = draw_piece(tree, &depths, columns, rows, p, w, 0);
+    let ud = numbers(&depths, p.e as usize).ud as usize;
     Size {
-        columns: w,
-        levels: s.ud,
+        columns: c,
+        rows: 2 * ud + 1,
     }
 }

@@ -1,3 +1,4 @@
 pub mod Storing
+pub mod Knowing
 pub mod Passing
 pub mod Descending

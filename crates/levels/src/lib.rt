@@ -64,7 +64,7 @@ fn join(l: Six, r: Six) -> Six
 }
 
 // The numbers that stand at an edge.
-fn numbers(depths: &[u16; NUMBERS], e: usize) -> Six
+pub fn numbers(depths: &[u16; NUMBERS], e: usize) -> Six
     requires { ⌜ e < 2045 ⌝ }
     ensures { λ r. ⌜ r ≡ sixAt (now (depths .entry)) e ⌝ }
 {

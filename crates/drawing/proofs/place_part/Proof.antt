@@ -1,70 +1,70 @@
--- The tables of the part, then its columns and its rows, by the laws of Whole.antt.
-use mathlib.Core.Path.{ap}
-use borrow.Author.Needs.{needs}
+-- By Whole.antt.
+use mathlib.Core.Path.{refl, _∙_, ap}
+use Prim.Native.Nat.{ℕ}
 use native.Mathlib.Omega.{arith}
-use Rattle.polygon.specs.Tree.{treeOf}
-use Rattle.keys.specs.Keys.{edgesOf}
-use Rattle.plan.specs.declared.levels.Six.{Six}
-use Rattle.plan.proofs.Pieces.{ends}
-use Rattle.plan.proofs.Held.{fresh-length}
+use lib.ListN.{length-set, length-replicate}
+use Rattle.tree.proofs.Pieces.{inside}
+use Rattle.levels.specs.declared.Six.{Six}
+use Rattle.levels.proofs.Storing.{deep-root, blank}
 use Rattle.drawing.proofs.Whole.{part-placed}
+use borrow.Author.Needs.{needs}
 use Rattle.drawing.proofs.place_part.Statement.{statement}
 use Rattle.drawing.proofs.place_part.Tie as tie
 
 fill-requires : tie.Need-fill-requires
-fill-requires c κs =
-    let earlier = c .before .before .before .before .before .before in
-    let start = earlier in
-    (start .pre .0, (start .pre .1 .0, ((fresh-length, fresh-length, fresh-length), (fresh-length, fresh-length))))
-
-sub-root : tie.Need-sub-root
-sub-root c = search needs
-
-sub-v : tie.Need-sub-v
-sub-v c = search needs
-
-draw-piece-requires : tie.Need-draw-piece-requires
-draw-piece-requires c κs =
-    let earlier = c .before .before .before .before .before .before in
-    let filled = earlier in
-    let start = filled .before .before .before .before .before .before .before in
-    ((treeOf (start .args .n) (edgesOf (start .args .keys .now)), filled .fill .ensures .1), omega (arith, start .pre .0 .full, start .pre .1 .0))
+fill-requires c κs = let start = c .before .before .before in (start .pre .0, ((start .pre .1 .0 .0, length-replicate {A = ℕ} 12270 0), (start .pre .1 .1, blank 12270)))
 
 element-write-rows : tie.Need-element-write-rows
 element-write-rows c = search needs
 
+sub-rows : tie.Need-sub-rows
+sub-rows c = search needs
+
 mul-rows : tie.Need-mul-rows
-mul-rows c =
-    let earlier = c .before .before .before .before .before .before .before .before .before .before .before .before .before .before in
-    let start = earlier in
-    omega (arith, start .pre .0 .full, start .pre .1 .0)
+mul-rows c = search needs
 
 element-write-rows-2 : tie.Need-element-write-rows-2
-element-write-rows-2 c =
-    let earlier = c .before .before .before .before .before .before .before .before .before .before .before .before .before .before in
-    let start = earlier in
-    omega (arith, start .pre .0 .full, start .pre .1 .0)
+element-write-rows-2 c = search needs
 
-place-rows-requires : tie.Need-place-rows-requires
-place-rows-requires c κs =
-    let earlier = c .before .before .before .before .before .before .before .before .before .before .before .before .before in
-    let filled = earlier in
-    let start = filled .before .before .before .before .before .before .before in
-    ((treeOf (start .args .n) (edgesOf (start .args .keys .now)), filled .fill .ensures .1), omega (arith, start .pre .0 .full, start .pre .1 .0))
+draw-piece-requires : tie.Need-draw-piece-requires
+draw-piece-requires c κs =
+    let start = c .before .before .before .before .before .before .before .before in
+    let F = c .before .before .before .before .fill .ensures in
+    let w = F .whole in (
+      (_, record { shows = w .shows; deep = F .deep }),
+      (
+        record {
+          fits = omega (arith, w .lower, w .upper, start .pre .0 .1);
+          far-small = omega (arith, w .lower, w .upper, start .pre .0 .1);
+          near-small = omega (arith, w .lower, w .upper, start .pre .0 .1);
+          columns-size = start .pre .1 .0 .1;
+          rows-size = simp length-set (start .pre .1 .0 .2);
+        },
+        refl,
+      ),
+    )
+
+cast-numbers : tie.Need-cast-numbers
+cast-numbers c = search needs
+
+numbers-requires : tie.Need-numbers-requires
+numbers-requires c κs = omega (arith, inside (c .before .before .before .before .before .before .before .fill .ensures .whole .shows))
+
+cast-ud : tie.Need-cast-ud
+cast-ud c = search needs
+
+mul-t18 : tie.Need-mul-t18
+mul-t18 c = search needs
+
+add-t17 : tie.Need-add-t17
+add-t17 c = search needs
 
 returns : tie.Need-returns
 returns c =
-    let earlier = c .before .before .before .before .before .before .before in
-    let drawn = earlier in
-    let filled = drawn .before .before .before .before .before .before .before in
-    let start = filled .before .before .before .before .before .before .before in
-    let n = start .args .n in
-    let tree = treeOf n (edgesOf (start .args .keys .now)) in
-    let known = filled .fill .ensures .1 in
-    part-placed tree n (omega (arith, start .pre .0 .full)) (start .pre .1 .0) (ends (known .shows))
-    (start .pre .1 .1 .0) (drawn .draw-piece .ensures tree 0 known)
-    (start .args .rows .now) _ _ (start .pre .1 .1 .1) (c .place-rows .ensures tree known)
-    (ap (λ (s : Six). s .ud) (filled .fill .ensures .0))
+    let start = c .before .before .before .before .before .before .before .before .before .before .before .before .before in
+    let F = c .before .before .before .before .before .before .before .before .before .fill .ensures in
+    part-placed F (omega (arith, start .pre .0 .0 .full)) (start .pre .0 .1) (start .args .columns .now) (start .args .rows .now) (start .pre .1 .0 .1) (start .pre .1 .0 .2)
+    (c .before .before .before .before .draw-piece .ensures _ (record { shows = F .whole .shows; deep = F .deep })) (ap (λ (x : Six). x .ud) (c .before .numbers .ensures ∙ deep-root (F .deep)))
 
 pub place-part-spec : {M : Type 1} → statement M
-place-part-spec = tie.close (tie.spec fill-requires sub-root sub-v draw-piece-requires element-write-rows mul-rows element-write-rows-2 place-rows-requires returns)
+place-part-spec = tie.close (tie.spec fill-requires element-write-rows sub-rows mul-rows element-write-rows-2 draw-piece-requires cast-numbers numbers-requires cast-ud mul-t18 add-t17 returns)

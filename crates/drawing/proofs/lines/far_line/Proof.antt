@@ -1,7 +1,7 @@
 -- By `row_at`.
 use native.Mathlib.Omega.{arith}
-use Rattle.drawing.proofs.rows.far_line.Statement.{statement}
-use Rattle.drawing.proofs.rows.far_line.Tie as tie
+use Rattle.drawing.proofs.lines.far_line.Statement.{statement}
+use Rattle.drawing.proofs.lines.far_line.Tie as tie
 
 mul-row-at : tie.Need-mul-row-at
 mul-row-at c = omega arith

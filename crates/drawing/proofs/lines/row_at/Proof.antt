@@ -1,7 +1,7 @@
 -- By the tests.
 use native.Mathlib.Omega.{arith}
-use Rattle.drawing.proofs.rows.row_at.Statement.{statement}
-use Rattle.drawing.proofs.rows.row_at.Tie as tie
+use Rattle.drawing.proofs.lines.row_at.Statement.{statement}
+use Rattle.drawing.proofs.lines.row_at.Tie as tie
 
 add-result : tie.Need-add-result
 add-result c = omega arith

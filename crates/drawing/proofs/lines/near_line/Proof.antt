@@ -1,7 +1,7 @@
 -- By `row_at`.
 use native.Mathlib.Omega.{arith}
-use Rattle.drawing.proofs.rows.near_line.Statement.{statement}
-use Rattle.drawing.proofs.rows.near_line.Tie as tie
+use Rattle.drawing.proofs.lines.near_line.Statement.{statement}
+use Rattle.drawing.proofs.lines.near_line.Tie as tie
 
 row-at-requires : tie.Need-row-at-requires
 row-at-requires c κs = omega arith
