@@ -80,16 +80,16 @@ through-right x y z w d i h = go (decLe y d) (decLe x d)
 
 module _ (S : Statements) (N : Steps S) where
   -- what is known of the pieces beyond a triangle
-  abbrev Rims : ℕ → Tree → Type 0
-  Rims d t = (fanA t ≤ d → S .Left d t (bestLeft t)) × ((f : Over (fanA t) d) → partA t ≤ d → S .LeftGated d t (gateLeft d t f))
+  abbrev RimsBelow : ℕ → Tree → Type 0
+  RimsBelow d t = (fanA t ≤ d → S .Left d t (bestLeft t)) × ((f : Over (fanA t) d) → partA t ≤ d → S .LeftGated d t (gateLeft d t f))
 
   abbrev RimsAbove : ℕ → Tree → Type 0
   RimsAbove d t = (fanB t ≤ d → S .Right d t (bestRight t)) × ((f : Over (fanB t) d) → partB t ≤ d → S .RightGated d t (gateRight d t f))
 
-  abbrev Through : Bool → ℕ → Tree → Type 0
-  Through k d t = (n : Node t) → handle t ≤ d → S .Entered k d t (bestStem d t n)
+  abbrev Stems : Bool → ℕ → Tree → Type 0
+  Stems k d t = (n : Node t) → handle t ≤ d → S .Entered k d t (bestStem d t n)
 
-  root-at : (l r : Tree) (h : Dec (fanA l ≤ under l r)) (k : Dec (fanB r ≤ under l r)) → Rims (under l r) l → RimsAbove (under l r) r
+  root-at : (l r : Tree) (h : Dec (fanA l ≤ under l r)) (k : Dec (fanB r ≤ under l r)) → RimsBelow (under l r) l → RimsAbove (under l r) r
       → let p = umbrella (under l r) l r h k (bestLeft l) (bestRight r) (λ f. gateLeft (under l r) l f) (λ f. gateRight (under l r) r f) in levels p ≡ suc (under l r) → S .Hung (node l r) p
   unfolding umbrella ud
   root-at l r (yes h) (yes k) L R e = N .bare (under l r) l r _ _ (refl, e) (L .0 h) (R .0 k)
@@ -97,19 +97,19 @@ module _ (S : Statements) (N : Steps S) where
   root-at l r (yes h) (no k) L R e = N .stem-above (under l r) l r _ _ (refl, e) (L .0 h) (R .1 k (omega (arith, inequalities r)))
   root-at l r (no h) (no k) L R e = absurd (omega arith)
 
-  left-at : (d : ℕ) (a b : Tree) (f : Over (fanA (node a b)) d) (k : Dec (ud b ≤ d)) → partA (node a b) ≤ d → Rims d a → S .Hung b (best b) → Through true d b
+  left-at : (d : ℕ) (a b : Tree) (f : Over (fanA (node a b)) d) (k : Dec (ud b ≤ d)) → partA (node a b) ≤ d → RimsBelow d a → S .Hung b (best b) → Stems true d b
       → S .LeftGated d (node a b) (leftAt d a b f k (bestLeft a) (best b) (λ e. gateLeft d a e) (λ n. bestStem d b n))
   unfolding leftAt ud stepAt
   left-at d a b f (yes k) h L p s = N .left-past d a b _ _ (left-hung d (ud b) k) k (L .1 _ (omega (arith, inequalities a))) p
   left-at d a b f (no k) h L p s = N .left-gate d a b _ _ (left-entered d (ud b) k) (L .0 (omega arith)) (s _ (omega arith))
 
-  right-at : (d : ℕ) (a b : Tree) (f : Over (fanB (node a b)) d) (k : Dec (ud a ≤ d)) → partB (node a b) ≤ d → S .Hung a (best a) → Through false d a → RimsAbove d b
+  right-at : (d : ℕ) (a b : Tree) (f : Over (fanB (node a b)) d) (k : Dec (ud a ≤ d)) → partB (node a b) ≤ d → S .Hung a (best a) → Stems false d a → RimsAbove d b
       → S .RightGated d (node a b) (rightAt d a b f k (best a) (bestRight b) (λ e. gateRight d b e) (λ n. bestStem d a n))
   unfolding rightAt ud stepAt
   right-at d a b f (yes k) h p s R = N .right-past d a b _ _ (right-hung d (ud a) k) k p (R .1 _ (omega (arith, inequalities b)))
   right-at d a b f (no k) h p s R = N .right-gate d a b _ _ (right-entered d (ud a) k) (s _ (omega arith)) (R .0 (omega arith))
 
-  stem-at : (k : Bool) (d : ℕ) (a b : Tree) (i : Dec (ud a ≤ d)) (j : Dec (ud b ≤ d)) (h : Dec (handle a ≤ d)) → handle (node a b) ≤ d → S .Hung a (best a) → S .Hung b (best b) → Through k d a → Through k d b
+  stem-at : (k : Bool) (d : ℕ) (a b : Tree) (i : Dec (ud a ≤ d)) (j : Dec (ud b ≤ d)) (h : Dec (handle a ≤ d)) → handle (node a b) ≤ d → S .Hung a (best a) → S .Hung b (best b) → Stems k d a → Stems k d b
       → S .Entered k d (node a b) (stemAt d a b i j h (best a) (best b) (λ m. bestStem d a m) (λ m. bestStem d b m))
   unfolding stemAt ud
   stem-at k d leaf leaf i j h m p q s r = N .ends k d (goes k d leaf leaf (end-both k d _ 0 0 refl refl))
