@@ -1,10 +1,10 @@
 -- From the numbers and counts of a part, and from what a sheet holds, to what the operation answers.
 -- Rests on Counted.antt and on the theorems of the crate umbrella.
-use mathlib.Core.Path.{_≡_, _∙_}
+use mathlib.Core.Path.{_≡_, refl, _∙_}
 use mathlib.Core.List.{List}
-use Prim.Native.Nat.{ℕ, _+_, _*_, _-_}
+use Prim.Native.Nat.{ℕ, zero, suc, _+_, _*_, _-_}
 use native.Mathlib.Omega.{arith}
-use lib.ListN.{take}
+use lib.ListN.{take, getD, replicate}
 use Rattle.polygon.specs.Tree.{Tree, treeOf}
 use Rattle.keys.specs.Keys.{edgesOf}
 use Rattle.sheet.specs.Sheet.{refused, held, readSheet}
@@ -12,15 +12,21 @@ use Rattle.sheet.specs.Held.{polygonOf}
 use Rattle.sheet.specs.declared.Head.{Head}
 use Rattle.umbrella.specs.Best.{best}
 use Rattle.umbrella.proofs.Theorems.{computed-has}
-use Rattle.plan.specs.declared.levels.Six.{Six}
 use Rattle.umbrella.specs.declared.roles.Role.the-variants.{Hung}
+use Rattle.levels.specs.declared.Six.{Six}
+use Rattle.levels.specs.Numbered.{six}
 use Rattle.plan.specs.declared.counts.Tally.{Tally}
 use Rattle.plan.specs.declared.Planned.{Planned}
 use Rattle.plan.specs.declared.Planned.the-variants.{Counts, Refused}
-use Rattle.plan.specs.Numbered.{six}
 use Rattle.plan.specs.Counts.{counted}
 use Rattle.plan.specs.Answer.{countsOf, plannedOf, answer, planned, packedPlan}
 use Rattle.plan.proofs.Counted.{counted-best}
+
+-- a table as it is made
+pub blank : (n i : ℕ) → _≡_ {A = ℕ} (getD (replicate n 0) i 0) 0
+blank zero i = refl
+blank (suc n) zero = refl
+blank (suc n) (suc i) = blank n i
 
 -- the counts of the plan drawn
 pub part-planned : (t : Tree) (d : ℕ) (s : Six) (x : Tally) → s ≡ six t → x ≡ counted Hung d t → plannedOf (Counts (s .ud) (x .umbrellas) (x .stems)) ≡ countsOf (best t)

@@ -1,11 +1,12 @@
--- The counts by roles are those of the plan drawn, by the one induction over its walk (crate umbrella).
+-- The counts by roles are those of the plan drawn, by the one induction over its walk (crate umbrella); and by the same induction those of an umbrella with one level.
 use mathlib.Core.Path.{_≡_, refl, _∙_}
+use mathlib.Core.Logic.{_⊎_, inl, inr}
 use mathlib.Core.Bool.{Bool, true, false, true≢false}
-use Prim.Native.Nat.{ℕ, suc, _+_, _-_}
+use Prim.Native.Nat.{ℕ, suc, _+_, _-_, _≤_, min, max}
 use native.Mathlib.Omega.{arith}
 use Rattle.polygon.specs.Tree.{Tree, leaf, node}
 use Rattle.umbrella.specs.Plan.{fold, foldLeft, foldRight, foldLeftGate, foldRightGate, foldStem, umbrellas, stems}
-use Rattle.umbrella.specs.Numbers.{ud}
+use Rattle.umbrella.specs.Numbers.{ud, fanA, fanB}
 use Rattle.umbrella.specs.Best.{best}
 use Rattle.umbrella.specs.declared.roles.Role.{Role}
 use Rattle.umbrella.specs.declared.roles.Role.the-variants.{Hung, LeftRim, RightRim, FromLeft, FromRight}
@@ -14,8 +15,8 @@ use Rattle.umbrella.specs.Roles.{isHung, stemStep, stepAt, stepOf}
 use Rattle.umbrella.proofs.Induction.{stem, by-recursion}
 use Rattle.plan.specs.Counts.{adds, atGate, total, counted}
 
--- x for an umbrella and y for a stem, and the steps of the fold that they belong to
-module _ (x y : ℕ) (bare stemmed : ℕ → ℕ) (bare-is : (n : ℕ) → bare n ≡ n + x) (stemmed-is : (n : ℕ) → stemmed n ≡ n + y + x) where
+-- x for an umbrella and y for a stem
+module _ (x y : ℕ) where
   -- the total at a triangle
   hung-total : (d : ℕ) (l r : Tree) (k : ℕ) → ud (node l r) - 1 ≡ k → total x y Hung d (node l r) ≡ total x y LeftRim k l + total x y RightRim k r + x
   unfolding total stepAt
@@ -33,36 +34,89 @@ module _ (x y : ℕ) (bare stemmed : ℕ → ℕ) (bare-is : (n : ℕ) → bare 
   stem-total true d l r s e = own-total FromRight d l r s refl e ∙ omega arith
   stem-total false d l r s e = own-total FromLeft d l r s refl e ∙ omega arith
 
-  -- a stem is counted at its first gate
-  hung-is : (t : Tree) (d : ℕ) → total x y Hung d t ≡ fold _+_ bare stemmed (best t)
-  unfolding total fold stemStep
-  hung-is = by-recursion (record {
-    Hung = λ t p. (d : ℕ) → total x y Hung d t ≡ fold _+_ bare stemmed p;
-    Left = λ d t A. total x y LeftRim d t ≡ foldLeft _+_ bare stemmed A;
-    LeftGated = λ d t G. total x y LeftRim d t ≡ foldLeftGate _+_ bare stemmed G + y;
-    Right = λ d t B. total x y RightRim d t ≡ foldRight _+_ bare stemmed B;
-    RightGated = λ d t G. total x y RightRim d t ≡ foldRightGate _+_ bare stemmed G + y;
-    Entered = λ k d t T. total x y (stem k) d t ≡ foldStem _+_ bare stemmed T;
+  -- a stem is counted at its first gate; the steps of the fold that x and y belong to
+  module _ (bare stemmed : ℕ → ℕ) (bare-is : (n : ℕ) → bare n ≡ n + x) (stemmed-is : (n : ℕ) → stemmed n ≡ n + y + x) where
+    hung-is : (t : Tree) (d : ℕ) → total x y Hung d t ≡ fold _+_ bare stemmed (best t)
+    unfolding total fold stemStep
+    hung-is = by-recursion (record {
+      Hung = λ t p. (d : ℕ) → total x y Hung d t ≡ fold _+_ bare stemmed p;
+      Left = λ d t A. total x y LeftRim d t ≡ foldLeft _+_ bare stemmed A;
+      LeftGated = λ d t G. total x y LeftRim d t ≡ foldLeftGate _+_ bare stemmed G + y;
+      Right = λ d t B. total x y RightRim d t ≡ foldRight _+_ bare stemmed B;
+      RightGated = λ d t G. total x y RightRim d t ≡ foldRightGate _+_ bare stemmed G + y;
+      Entered = λ k d t T. total x y (stem k) d t ≡ foldStem _+_ bare stemmed T;
+    }) (record {
+      empty = λ d. refl;
+      bare = λ k l r A B h L R d. hung-total d l r k (omega (arith, h)) ∙ rw (bare-is, L, R);
+      stem-below = λ k l r G B h L R d. hung-total d l r k (omega (arith, h)) ∙ rw (stemmed-is, L, R) (omega arith);
+      stem-above = λ k l r A G h L R d. hung-total d l r k (omega (arith, h)) ∙ rw (stemmed-is, L, R) (omega arith);
+      left-end = λ d. refl;
+      left-on = λ d a b A p e i L P. own-total LeftRim d a b _ refl e ∙ rw (L, P d) (omega arith);
+      left-past = λ d a b G p e i L P. own-total LeftRim d a b _ refl e ∙ rw (L, P d) (omega arith);
+      left-gate = λ d a b A T e L s. own-total LeftRim d a b _ refl e ∙ rw (L, s);
+      right-end = λ d. refl;
+      right-on = λ d a b p B e i P R. own-total RightRim d a b _ refl e ∙ rw (P d, R) (omega arith);
+      right-past = λ d a b p G e i P R. own-total RightRim d a b _ refl e ∙ rw (P d, R) (omega arith);
+      right-gate = λ d a b T B e s R. own-total RightRim d a b _ refl e ∙ rw (s, R);
+      ends = λ k d e. stem-total k d leaf leaf _ e;
+      ends-left = λ k d v w p e i P. stem-total k d leaf (node v w) _ e ∙ rw (P d) (omega arith);
+      ends-right = λ k d v w p e i P. stem-total k d (node v w) leaf _ e ∙ rw (P d) (omega arith);
+      goes-left = λ k d a b T p e i s P. stem-total k d a b _ e ∙ rw (s, P d);
+      goes-right = λ k d a b p T e i P s. stem-total k d a b _ e ∙ rw (P d, s);
+    })
+
+  -- a hung piece with no levels is a side
+  hung-side : (d : ℕ) (t : Tree) → ud t ≤ 0 → total x y Hung d t ≡ 0
+  unfolding total ud
+  hung-side d leaf h = refl
+  hung-side d (node l r) h = absurd (omega arith)
+
+  -- an umbrella with one level: sides are hung on it and beside its stem, which it has if a piece on its rim is no side
+  abbrev Low : Tree → Type 0
+  Low leaf = Unit {0}
+  Low (node l r) = (d : ℕ) → ud (node l r) ≡ 1 → ((max (fanA l) (fanB r) ≡ 0) × (total x y Hung d (node l r) ≡ x)) ⊎ ((1 ≤ max (fanA l) (fanB r)) × (total x y Hung d (node l r) ≡ x + y))
+
+  low : (t : Tree) → Low t
+  unfolding total ud stemStep
+  low = by-recursion (record {
+    Hung = λ t p. Low t;
+    Left = λ d t A. d ≡ 0 → (fanA t ≡ 0) × (total x y LeftRim d t ≡ 0);
+    LeftGated = λ d t G. d ≡ 0 → (1 ≤ fanA t) × (total x y LeftRim d t ≡ y);
+    Right = λ d t B. d ≡ 0 → (fanB t ≡ 0) × (total x y RightRim d t ≡ 0);
+    RightGated = λ d t G. d ≡ 0 → (1 ≤ fanB t) × (total x y RightRim d t ≡ y);
+    Entered = λ k d t T. d ≡ 0 → (1 ≤ ud t) × (total x y (stem k) d t ≡ 0);
   }) (record {
-    empty = λ d. refl;
-    bare = λ k l r A B h L R d. hung-total d l r k (omega (arith, h)) ∙ rw (bare-is, L, R);
-    stem-below = λ k l r G B h L R d. hung-total d l r k (omega (arith, h)) ∙ rw (stemmed-is, L, R) (omega arith);
-    stem-above = λ k l r A G h L R d. hung-total d l r k (omega (arith, h)) ∙ rw (stemmed-is, L, R) (omega arith);
-    left-end = λ d. refl;
-    left-on = λ d a b A p e i L P. own-total LeftRim d a b _ refl e ∙ rw (L, P d) (omega arith);
-    left-past = λ d a b G p e i L P. own-total LeftRim d a b _ refl e ∙ rw (L, P d) (omega arith);
-    left-gate = λ d a b A T e L s. own-total LeftRim d a b _ refl e ∙ rw (L, s);
-    right-end = λ d. refl;
-    right-on = λ d a b p B e i P R. own-total RightRim d a b _ refl e ∙ rw (P d, R) (omega arith);
-    right-past = λ d a b p G e i P R. own-total RightRim d a b _ refl e ∙ rw (P d, R) (omega arith);
-    right-gate = λ d a b T B e s R. own-total RightRim d a b _ refl e ∙ rw (s, R);
-    ends = λ k d e. stem-total k d leaf leaf _ e;
-    ends-left = λ k d v w p e i P. stem-total k d leaf (node v w) _ e ∙ rw (P d) (omega arith);
-    ends-right = λ k d v w p e i P. stem-total k d (node v w) leaf _ e ∙ rw (P d) (omega arith);
-    goes-left = λ k d a b T p e i s P. stem-total k d a b _ e ∙ rw (s, P d);
-    goes-right = λ k d a b p T e i P s. stem-total k d a b _ e ∙ rw (P d, s);
+    empty = tt;
+    bare = λ k l r A B h L R d e. let (u, m) = L (omega (arith, h)) in let (v, n) = R (omega (arith, h)) in inl (omega (arith, u, v), hung-total d l r k (omega (arith, h)) ∙ rw (m, n) (omega arith));
+    stem-below = λ k l r G B h L R d e. let (u, m) = L (omega (arith, h)) in let (v, n) = R (omega (arith, h)) in inr (omega (arith, u), hung-total d l r k (omega (arith, h)) ∙ rw (m, n) (omega arith));
+    stem-above = λ k l r A G h L R d e. let (u, m) = L (omega (arith, h)) in let (v, n) = R (omega (arith, h)) in inr (omega (arith, v), hung-total d l r k (omega (arith, h)) ∙ rw (m, n) (omega arith));
+    left-end = λ d z. (refl, refl);
+    left-on = λ d a b A p e i L P z. (omega (arith, L z), own-total LeftRim d a b _ refl e ∙ rw (L z .1, hung-side d b (omega arith)) (omega arith));
+    left-past = λ d a b G p e i L P z. (omega (arith, L z), own-total LeftRim d a b _ refl e ∙ rw (L z .1, hung-side d b (omega arith)) (omega arith));
+    left-gate = λ d a b A T e L s z. (omega (arith, s z), own-total LeftRim d a b _ refl e ∙ rw (L z .1, s z .1) (omega arith));
+    right-end = λ d z. (refl, refl);
+    right-on = λ d a b p B e i P R z. (omega (arith, R z), own-total RightRim d a b _ refl e ∙ rw (R z .1, hung-side d a (omega arith)) (omega arith));
+    right-past = λ d a b p G e i P R z. (omega (arith, R z), own-total RightRim d a b _ refl e ∙ rw (R z .1, hung-side d a (omega arith)) (omega arith));
+    right-gate = λ d a b T B e s R z. (omega (arith, s z), own-total RightRim d a b _ refl e ∙ rw (R z .1, s z .1) (omega arith));
+    ends = λ k d e z. (omega arith, stem-total k d leaf leaf _ e);
+    ends-left = λ k d v w p e i P z. absurd (omega arith);
+    ends-right = λ k d v w p e i P z. absurd (omega arith);
+    goes-left = λ k d a b T p e i s P z. (omega arith, stem-total k d a b _ e ∙ rw (s z .1, hung-side d b (omega arith)) (omega arith));
+    goes-right = λ k d a b p T e i P s z. (omega arith, stem-total k d a b _ e ∙ rw (s z .1, hung-side d a (omega arith)) (omega arith));
   })
 
 -- The umbrellas and stems of the plan drawn of a piece; d is not looked at there.
 pub counted-best : (t : Tree) (d : ℕ) → counted Hung d t ≡ record { umbrellas = umbrellas (best t); stems = stems (best t) }
 counted-best t d = rw (hung-is 1 0 suc suc (λ n. omega arith) (λ n. omega arith) t d, hung-is 0 1 (λ n. n) suc (λ n. omega arith) (λ n. omega arith) t d)
+
+-- an umbrella with one level: the code looks at its fans
+pub counted-low : (l r : Tree) (d : ℕ) → ud (node l r) ≡ 1 → counted Hung d (node l r) ≡ record { umbrellas = 1; stems = min (max (fanA l) (fanB r)) 1 }
+counted-low l r d h = rw (umbrella-is (low 1 0 (node l r) d h), stem-is (low 0 1 (node l r) d h))
+  where
+    umbrella-is : {f n : ℕ} → ((f ≡ 0) × (n ≡ 1)) ⊎ ((1 ≤ f) × (n ≡ 1 + 0)) → n ≡ 1
+    umbrella-is (inl p) = omega arith
+    umbrella-is (inr p) = omega arith
+
+    stem-is : {f n : ℕ} → ((f ≡ 0) × (n ≡ 0)) ⊎ ((1 ≤ f) × (n ≡ 0 + 1)) → n ≡ min f 1
+    stem-is (inl p) = omega arith
+    stem-is (inr p) = omega arith

@@ -1,29 +1,29 @@
--- Laws of the counts as the recursion over the tree meets them: how the counts of a triangle's two pieces add up, and that they stay small.
-use mathlib.Core.Path.{_≡_, refl, ap}
-use mathlib.Core.Bool.{Bool, true, false}
-use Prim.Native.Nat.{ℕ, _+_, _-_, _≤_, _<_}
+-- Laws of the counts as the code meets them: that they are small, what a triangle adds, and one turn of the loop.
+-- Rests on Counted.antt, and on what the crates tree and levels show of their tables.
+use mathlib.Core.Path.{_≡_, refl, _∙_, ap, ap₂}
+use mathlib.Core.Logic.{_⊎_, inl, inr}
+use mathlib.Core.Bool.{Bool, true, false, false≢true}
+use mathlib.Core.List.{List}
+use Prim.Native.Nat.{ℕ, _+_, _-_, _≤_, _<_, min, max}
 use native.Mathlib.Omega.{arith}
 use Rattle.polygon.specs.Tree.{Tree, leaf, node, span}
 use Rattle.umbrella.specs.Numbers.{ud}
 use Rattle.umbrella.specs.declared.roles.Role.{Role}
 use Rattle.umbrella.specs.declared.roles.Role.the-variants.{Hung, LeftRim, RightRim, FromLeft, FromRight}
 use Rattle.umbrella.specs.declared.roles.Step.{Step}
-use Rattle.umbrella.specs.Roles.{stepOf, levelsUnder}
+use Rattle.umbrella.specs.Roles.{isHung, stepAt, stepOf, levelsUnder}
+use Rattle.tree.specs.declared.Piece.{Piece}
+use Rattle.tree.specs.declared.Two.{Two}
+use Rattle.tree.specs.Shows.{apexAt, rightAt, beyond}
+use Rattle.tree.proofs.Pieces.{Parts, opened, closed, corners, ends, one-piece}
+use Rattle.levels.specs.declared.Six.{Six}
+use Rattle.levels.specs.Numbered.{six, sixAt, Deep, deep, Known}
+use Rattle.levels.proofs.Storing.{deep-root}
 use Rattle.plan.specs.declared.counts.Tally.{Tally}
-use Rattle.plan.specs.Counts.{adds, atGate, total, counted}
-
-pub counted-side : (p : Role) (d : ℕ) {t : Tree} → t ≡ leaf → _≡_ {A = Tally} (record { umbrellas = 0; stems = 0 }) (counted p d t)
-unfolding total
-counted-side p d e = rw e
-
--- the counts of the two pieces beyond a triangle, k levels being under the umbrella, and what the triangle adds
-pub record Adding (p : Role) (d : ℕ) (l r : Tree) (s : Step) (k m n : ℕ) (x y : Tally) : Type 0 where
-  pub step-is : s ≡ stepOf p d l r
-  pub under-is : k ≡ levelsUnder p d (ud (node l r) - 1)
-  pub umbrellas-add : m ≡ adds p 1 0
-  pub stems-add : n ≡ adds p 0 (atGate 1 (s .crossed))
-  pub left-is : x ≡ counted (s .left) k l
-  pub right-is : y ≡ counted (s .right) k r
+use Rattle.plan.specs.declared.counts.Spot.{Spot}
+use Rattle.plan.specs.declared.counts.Turn.{Turn}
+use Rattle.plan.specs.Counts.{adds, atGate, total, counted, spot, turned, lowest, Left, Turned}
+use Rattle.plan.proofs.Counted.{counted-low}
 
 no-gate : (k : Bool) → atGate 0 k ≡ 0
 no-gate true = refl
@@ -48,18 +48,162 @@ few x y h (node l r) p d =
     let k : ℕ = levelsUnder p d (ud (node l r) - 1) in
     omega (arith, adds-few x y p (s .crossed), few x y h l (s .left) k, few x y h r (s .right) k)
 
-abbrev pub Fits : Tally → Tally → ℕ → ℕ → Type 0
-Fits x y m n = (x .umbrellas + y .umbrellas + m < 1024) × (x .stems + y .stems + n < 1024)
+is-hung : (p : Role) → isHung p ≡ true → p ≡ Hung
+is-hung Hung h = refl
+is-hung LeftRim h = absurd (false≢true h)
+is-hung RightRim h = absurd (false≢true h)
+is-hung FromLeft h = absurd (false≢true h)
+is-hung FromRight h = absurd (false≢true h)
 
-module _ {p : Role} {d : ℕ} {l r : Tree} {s : Step} {k m n : ℕ} {x y : Tally} (A : Adding p d l r s k m n x y) where
-  pub counted-triangle : {t : Tree} → t ≡ node l r → _≡_ {A = Tally} (record { umbrellas = x .umbrellas + y .umbrellas + m; stems = x .stems + y .stems + n }) (counted p d t)
+-- what the tables hold of a piece that is no side
+pub record KnownParts (tr ds : List ℕ) (p : Piece) (t : Tree) : Type 0 where
+  pub parts : Parts tr (p .e) (p .u) (p .v) t
+  pub known-l : Known tr ds (p .e - 1) (p .u) (apexAt tr (p .e)) (parts .l)
+  pub known-r : Known tr ds (rightAt tr (p .e)) (apexAt tr (p .e)) (p .v) (parts .r)
+  pub numbers-are : sixAt ds (p .e) ≡ six (node (parts .l) (parts .r))
+  pub not-empty : 1 ≤ sixAt ds (p .e) .ud
+
+pub known-parts : {tr ds : List ℕ} {p : Piece} {t : Tree} → Known tr ds (p .e) (p .u) (p .v) t → p .u + 1 < p .v → KnownParts tr ds p t
+unfolding ud
+known-parts {tr} {ds} {p} {t} K a = go (rw (d .is) at (K .deep))
+  where
+    d : Parts tr (p .e) (p .u) (p .v) t
+    d = opened (K .shows) a
+
+    go : Deep tr ds (p .e) (node (d .l) (d .r)) → KnownParts tr ds p t
+    go (deep h x y) = record { parts = d; known-l = record { shows = d .shows-l; deep = x }; known-r = record { shows = d .shows-r; deep = y }; numbers-are = h; not-empty = omega (arith, ap (λ (s : Six). s .ud) h) }
+
+-- what a triangle adds, as it is worked out
+pub turned-is : (p : Role) (s : Step) (x y : Spot) {m n g : ℕ} → m ≡ adds p 1 0 → g ≡ atGate 1 (s .crossed) → n ≡ adds p 0 g → _≡_ {A = Turn} (record { adds = record { umbrellas = m; stems = n }; small = x; large = y }) (turned p s x y)
+turned-is p s x y e f g = rw (e, g, f)
+
+-- a piece beyond a triangle is left to be counted
+left-known : {tr ds : List ℕ} {p : Piece} {t : Tree} (k : ℕ) (r : Role) → Known tr ds (p .e) (p .u) (p .v) t → Left tr ds (spot k p r) t
+left-known k r K = record { known = λ h. K; none = λ h. closed (K .shows) h; low = omega (arith, corners (K .shows)) }
+
+-- or nothing is
+pub left-none : {tr ds : List ℕ} {x : Spot} {t : Tree} → Left tr ds x t → x .piece .v ≤ x .piece .u + 1 → (y z : ℕ) → total y z (x .role) (x .d) t ≡ 0
+unfolding total
+left-none L h y z = rw (L .none h)
+
+-- the numbers that the code reads at the triangle of x
+pub record Numbers (tr ds : List ℕ) (x : Spot) (b : Two) (l r own : Six) : Type 0 where
+  pub two-is : b ≡ beyond tr (x .piece)
+  pub left-is : l ≡ sixAt ds (b .left .e)
+  pub right-is : r ≡ sixAt ds (b .right .e)
+  pub own-is : own ≡ sixAt ds (x .piece .e)
+
+module _ {tr ds : List ℕ} {x : Spot} {b : Two} {l r own : Six} {t : Tree} (N : Numbers tr ds x b l r own) (K : KnownParts tr ds (x .piece) t) where
+  abbrev a : Tree
+  a = K .parts .l
+
+  abbrev c : Tree
+  c = K .parts .r
+
+  l-is : l ≡ six a
+  l-is = N .left-is ∙ (ap (λ (z : Two). sixAt ds (z .left .e)) (N .two-is) ∙ deep-root (K .known-l .deep))
+
+  r-is : r ≡ six c
+  r-is = N .right-is ∙ (ap (λ (z : Two). sixAt ds (z .right .e)) (N .two-is) ∙ deep-root (K .known-r .deep))
+
+  own-levels : own .ud ≡ ud (node a c)
+  own-levels = ap (λ (z : Six). z .ud) (N .own-is ∙ K .numbers-are)
+
+  -- the counts are those of a triangle's piece
+  of-node : (y z : ℕ) → total y z (x .role) (x .d) t ≡ total y z (x .role) (x .d) (node a c)
+  of-node y z = ap (total y z (x .role) (x .d)) (K .parts .is)
+
+  -- an umbrella with one level is counted at once
+  pub turned-low : {w : Turn} → own .ud - 1 ≡ 0 → isHung (x .role) ≡ true → w ≡ lowest (min (max (l .«fan_a») (r .«fan_b»)) 1) → Turned tr ds x t w
+  unfolding total ud
+  turned-low z h e =
+      let q = counted-low a c (x .d) (omega (arith, own-levels)) in
+      rw (e, l-is, r-is) (record {
+        small = leaf;
+        large = leaf;
+        left-small = nothing;
+        left-large = nothing;
+        less-small = omega (arith, K .parts);
+        less-large = omega (arith, K .parts);
+        umbrellas-are = of-node 1 0 ∙ rw (is-hung (x .role) h) (ap (λ (z : Tally). z .umbrellas) q ∙ omega arith);
+        stems-are = of-node 0 1 ∙ rw (is-hung (x .role) h) (ap (λ (z : Tally). z .stems) q ∙ omega arith);
+      })
+    where
+      nothing : Left tr ds (lowest 0 .small) leaf
+      nothing = record { known = λ h. absurd (omega arith); none = λ h. refl; low = omega arith }
+
+  -- else the two pieces beyond are left
+  module _ {s : Step} {k : ℕ} (s-is : s ≡ stepAt (x .role) (x .d) (l .ud) (r .ud) (l .handle)) (k-is : k ≡ levelsUnder (x .role) (x .d) (own .ud - 1)) where
+    split : (y z : ℕ) → total y z (x .role) (x .d) t ≡ total y z (s .left) k a + total y z (s .right) k c + adds (x .role) y (atGate z (s .crossed))
+    unfolding total
+    split y z = of-node y z ∙ rw (s-is, k-is, l-is, r-is, own-levels)
+
+    umbrellas-split : total 1 0 (x .role) (x .d) t ≡ total 1 0 (s .left) k a + total 1 0 (s .right) k c + adds (x .role) 1 0
+    umbrellas-split = split 1 0 ∙ rw (no-gate (s .crossed))
+
+    pub turned-both : {w : Turn} → (w ≡ turned (x .role) s (spot k (b .left) (s .left)) (spot k (b .right) (s .right))) ⊎ (w ≡ turned (x .role) s (spot k (b .right) (s .right)) (spot k (b .left) (s .left))) → Turned tr ds x t w
+    turned-both (inl e) = rw (e, N .two-is) (record {
+      small = a;
+      large = c;
+      left-small = left-known k (s .left) (K .known-l);
+      left-large = left-known k (s .right) (K .known-r);
+      less-small = omega (arith, K .parts);
+      less-large = omega (arith, K .parts);
+      umbrellas-are = omega (arith, umbrellas-split);
+      stems-are = omega (arith, split 0 1);
+    })
+    turned-both (inr e) = rw (e, N .two-is) (record {
+      small = c;
+      large = a;
+      left-small = left-known k (s .right) (K .known-r);
+      left-large = left-known k (s .left) (K .known-l);
+      less-small = omega (arith, K .parts);
+      less-large = omega (arith, K .parts);
+      umbrellas-are = omega (arith, umbrellas-split);
+      stems-are = omega (arith, split 0 1);
+    })
+
+-- m umbrellas and n stems are counted of the piece begun with, at x₀, and the piece at x is left
+pub record Counting (tr ds : List ℕ) (x₀ x : Spot) (m n : ℕ) : Type 0 where
+  pub t₀ : Tree
+  pub t : Tree
+  pub whole : Known tr ds (x₀ .piece .e) (x₀ .piece .u) (x₀ .piece .v) t₀
+  pub left : Left tr ds x t
+  pub umbrellas-are : m + total 1 0 (x .role) (x .d) t ≡ total 1 0 (x₀ .role) (x₀ .d) t₀
+  pub stems-are : n + total 0 1 (x .role) (x .d) t ≡ total 0 1 (x₀ .role) (x₀ .d) t₀
+  pub few-umbrellas : total 1 0 (x₀ .role) (x₀ .d) t₀ < 1024
+  pub few-stems : total 0 1 (x₀ .role) (x₀ .d) t₀ < 1024
+  pub narrower : x .piece .v - x .piece .u ≤ x₀ .piece .v - x₀ .piece .u
+
+pub counting-begins : {tr ds : List ℕ} (x : Spot) {t : Tree} → Known tr ds (x .piece .e) (x .piece .u) (x .piece .v) t → Counting tr ds x x 0 0
+counting-begins x {t} K = record {
+  t₀ = t;
+  t = t;
+  whole = K;
+  left = left-known (x .d) (x .role) K;
+  umbrellas-are = omega arith;
+  stems-are = omega arith;
+  few-umbrellas = omega (arith, few 1 0 (omega arith) t (x .role) (x .d), ends (K .shows), corners (K .shows));
+  few-stems = omega (arith, few 0 1 (omega arith) t (x .role) (x .d), ends (K .shows), corners (K .shows));
+  narrower = omega arith;
+}
+
+module _ {tr ds : List ℕ} {x₀ x : Spot} {m n : ℕ} (C : Counting tr ds x₀ x m n) where
+  pub counting-on : {w : Turn} (T : Turned tr ds x (C .t) w) {m′ n′ : ℕ}
+      → (m′ ≡ m + w .adds .umbrellas + total 1 0 (w .small .role) (w .small .d) (T .small)) × (n′ ≡ n + w .adds .stems + total 0 1 (w .small .role) (w .small .d) (T .small)) → Counting tr ds x₀ (w .large) m′ n′
+  counting-on T p = record {
+    t₀ = C .t₀;
+    t = T .large;
+    whole = C .whole;
+    left = T .left-large;
+    umbrellas-are = omega (arith, C .umbrellas-are, T .umbrellas-are);
+    stems-are = omega (arith, C .stems-are, T .stems-are);
+    few-umbrellas = C .few-umbrellas;
+    few-stems = C .few-stems;
+    narrower = omega (arith, C .narrower, T .less-large);
+  }
+
+  -- at the end nothing is left
+  pub counting-ends : {t : Tree} → Known tr ds (x₀ .piece .e) (x₀ .piece .u) (x₀ .piece .v) t → x .piece .v ≤ x .piece .u + 1 → _≡_ {A = Tally} (record { umbrellas = m; stems = n }) (counted (x₀ .role) (x₀ .d) t)
   unfolding total
-  counted-triangle e = rw (e, A .left-is, A .right-is, A .umbrellas-add, A .stems-add, A .under-is, A .step-is, no-gate (stepOf p d l r .crossed))
-
-  pub sums-fit : span l + span r < 1024 → Fits x y m n
-  unfolding span
-  sums-fit h =
-      let c = counted-triangle refl in
-      let a : x .umbrellas + y .umbrellas + m ≡ total 1 0 p d (node l r) = ap (λ (z : Tally). z .umbrellas) c in
-      let b : x .stems + y .stems + n ≡ total 0 1 p d (node l r) = ap (λ (z : Tally). z .stems) c in
-      (omega (arith, few 1 0 (omega arith) (node l r) p d), omega (arith, few 0 1 (omega arith) (node l r) p d))
+  counting-ends K h = rw (one-piece (K .shows) (C .whole .shows), ← C .umbrellas-are, ← C .stems-are, C .left .none h) (ap₂ (λ (y z : ℕ). record { umbrellas = y; stems = z }) (omega arith) (omega arith))

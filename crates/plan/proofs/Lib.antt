@@ -1,10 +1,4 @@
--- The tables (Places, Entries, ShowsTree), what they show (Pieces), the numbers (Storing, Held), the counts (Counted, Counting) and the operation's answer (Answers).
-pub mod Places
-pub mod Entries
-pub mod ShowsTree
-pub mod Pieces
-pub mod Storing
-pub mod Held
+-- The counts (Counted, Counting) and the operation's answer (Answers, ReadBack).
 pub mod Counted
 pub mod Counting
 pub mod Answers

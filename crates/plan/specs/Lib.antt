@@ -1,4 +1,2 @@
-pub mod Shows
-pub mod Numbered
 pub mod Counts
 pub mod Answer

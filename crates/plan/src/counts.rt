@@ -1,12 +1,20 @@
-// The umbrellas and stems of the plan drawn, counted in one recursion over the tree that takes each triangle once.
+// The umbrellas and stems of the plan drawn, counted over the tree: a piece's larger part is gone into, a call is made for the smaller one, and the span v - u falls at each.
 // The roles of the pieces say how the plan goes on from a triangle to the two pieces beyond (roles.rt of the crate umbrella); specs/Counts.antt has the same in definitions.
 ghost use mathlib.Core.Path.{_≡_};
-ghost use Prim.Native.Nat.{_<_};
-ghost use lib.ListN.{getD};
+ghost use mathlib.Core.Logic.{_⊎_};
+ghost use Prim.Native.Nat.{_+_, _<_, _≤_, max, min};
 ghost use Rattle.polygon.specs.Tree.{Tree};
-ghost use Rattle.plan.specs.Numbered.{Known};
-ghost use Rattle.plan.specs.Counts.{atGate, adds, counted};
+ghost use Rattle.levels.specs.Numbered.{Known};
+ghost use Rattle.plan.specs.Counts.{atGate, adds, counted, spot, turned, lowest, Turned};
+use levels::NUMBERS;
+use levels::numbers;
+use tree::PLACES;
+use tree::Piece;
+use tree::Two;
+use tree::open;
 use umbrella::roles::Role;
+use umbrella::roles::Step;
+use umbrella::roles::is_hung;
 use umbrella::roles::levels_under;
 use umbrella::roles::step_at;
 
@@ -14,6 +22,20 @@ use umbrella::roles::step_at;
 pub struct Tally {
     pub umbrellas: u16,
     pub stems: u16,
+}
+
+// A piece, its role, and the levels under its umbrella; for a hung piece d is not looked at.
+pub struct Spot {
+    pub piece: Piece,
+    pub role: Role,
+    pub d: u16,
+}
+
+// What a triangle adds, and what is left to be counted.
+pub struct Turn {
+    pub adds: Tally,
+    pub small: Spot,
+    pub large: Spot,
 }
 
 // The stem whose first gate is at a triangle.
@@ -36,50 +58,117 @@ fn adds(role: Role, x: u16, y: u16) -> u16
     }
 }
 
-// The number of an edge in a table: 0 for a side, whose entry lies past its end.
-pub fn number(table: &[u16], e: usize) -> u16
-    ensures { λ r. ⌜ r ≡ getD (now (table .entry)) e 0 ⌝ }
+// The larger of the two pieces beyond a triangle is left for last; k levels are under their umbrella.
+fn by_size(role: Role, k: u16, t: Two, s: Step) -> Turn
+    requires { ⌜ (t .left .u ≤ t .left .v) × (t .right .u ≤ t .right .v) ⌝ }
+    ensures { λ r. ⌜ (r ≡ turned role s (spot k (t .left) (s .left)) (spot k (t .right) (s .right)))
+        ⊎ (r ≡ turned role s (spot k (t .right) (s .right)) (spot k (t .left) (s .left))) ⌝ }
 {
-    if e < table.len() { table[e] } else { 0 }
-}
-
-// Counts in the piece at e, on the corners u to v, by its role with d levels under the umbrella; for a hung piece d is not looked at.
-pub fn count(
-    apex: &[u16; 1022],
-    left: &[u16; 1022],
-    right: &[u16; 1022],
-    ud: &[u16; 1022],
-    handle: &[u16; 1022],
-    e: usize,
-    u: usize,
-    v: usize,
-    role: Role,
-    d: u16,
-) -> Tally
-    requires known { ⌜ ((t : Tree) × Known (now apex) (now left) (now right) (now ud) (now handle) e u v t) ⌝ }
-    requires corners { ⌜ v < 1024 ⌝ }
-    ensures { λ r. ⌜ ((t : Tree) → Known (now (apex .entry)) (now (left .entry)) (now (right .entry)) (now (ud .entry)) (now (handle .entry)) e u v t
-        → r ≡ counted role d t) ⌝ }
-{
-    if e == 65535 {
-        return Tally {
-            umbrellas: 0,
-            stems: 0,
-        };
-    }
-    let c = apex[e] as usize;
-    let i = left[e] as usize;
-    let j = right[e] as usize;
-    let s = step_at(role, d, number(ud, i), number(ud, j), number(handle, i));
-    let k = levels_under(role, d, number(ud, e) - 1);
-    let x = adds(role, 1, 0);
-    let y = adds(role, 0, at_gate(s.crossed));
+    let adds = Tally {
+        umbrellas: adds(role, 1, 0),
+        stems: adds(role, 0, at_gate(s.crossed)),
+    };
+    let l = t.left;
+    let r = t.right;
     let a = s.left;
     let b = s.right;
-    let l = count(apex, left, right, ud, handle, i, u, c, a, k);
-    let r = count(apex, left, right, ud, handle, j, c, v, b, k);
-    Tally {
-        umbrellas: l.umbrellas + r.umbrellas + x,
-        stems: l.stems + r.stems + y,
+    let left = Spot {
+        piece: l,
+        role: a,
+        d: k,
+    };
+    let right = Spot {
+        piece: r,
+        role: b,
+        d: k,
+    };
+    if r.v - r.u < l.v - l.u {
+        return Turn {
+            adds,
+            small: right,
+            large: left,
+        };
     }
+    Turn {
+        adds,
+        small: left,
+        large: right,
+    }
+}
+
+// The stems of an umbrella with one level: only sides are hung on it, so it has one if a piece on its rim is no side; a and b are the levels of its fans.
+fn one_stem(a: u16, b: u16) -> u16
+    ensures { λ r. ⌜ r ≡ min (max a b) 1 ⌝ }
+{
+    if a > 0 {
+        return 1;
+    }
+    if b > 0 { 1 } else { 0 }
+}
+
+// An umbrella with one level: nothing is left to be counted.
+fn one_level(a: u16, b: u16) -> Turn
+    ensures { λ r. ⌜ r ≡ lowest (min (max a b) 1) ⌝ }
+{
+    let none = Spot {
+        piece: Piece { e: 0, u: 0, v: 0 },
+        role: Role::Hung,
+        d: 0,
+    };
+    let adds = Tally {
+        umbrellas: 1,
+        stems: one_stem(a, b),
+    };
+    Turn {
+        adds,
+        small: none,
+        large: none,
+    }
+}
+
+// Counts at the triangle of a piece that is no side.
+fn triangle(tree: &[u32; PLACES], depths: &[u16; NUMBERS], x: Spot) -> Turn
+    requires known { ⌜ ((t : Tree) × Known (now tree) (now depths) (x .piece .e) (x .piece .u) (x .piece .v) t) ⌝ }
+    requires apart { ⌜ x .piece .u + 1 < x .piece .v ⌝ }
+    ensures { λ r. ⌜ ((t : Tree) → Known (now (tree .entry)) (now (depths .entry)) (x .piece .e) (x .piece .u) (x .piece .v) t
+        → Turned (now (tree .entry)) (now (depths .entry)) x t r) ⌝ }
+{
+    let p = x.piece;
+    let role = x.role;
+    let t = open(tree, p);
+    let l = numbers(depths, t.left.e as usize);
+    let r = numbers(depths, t.right.e as usize);
+    let own = numbers(depths, p.e as usize).ud - 1;
+    if own == 0 {
+        if is_hung(role) {
+            return one_level(l.fan_a, r.fan_b);
+        }
+    }
+    let s = step_at(role, x.d, l.ud, r.ud, l.handle);
+    by_size(role, levels_under(role, x.d, own), t, s)
+}
+
+// Counts in the piece p, by its role with d levels under the umbrella; for a hung piece d is not looked at.
+pub fn count(tree: &[u32; PLACES], depths: &[u16; NUMBERS], p: Piece, role: Role, d: u16) -> Tally
+    requires { ⌜ ((t : Tree) × Known (now tree) (now depths) (p .e) (p .u) (p .v) t) ⌝ }
+    ensures { λ r. ⌜ ((t : Tree) → Known (now (tree .entry)) (now (depths .entry)) (p .e) (p .u) (p .v) t → r ≡ counted role d t) ⌝ }
+{
+    let mut x = Spot { piece: p, role, d };
+    let mut umbrellas: u16 = 0;
+    let mut stems: u16 = 0;
+    while x.piece.u + 1 < x.piece.v {
+        let w = triangle(tree, depths, x);
+        umbrellas += w.adds.umbrellas;
+        stems += w.adds.stems;
+        let y = w.small;
+        let q = y.piece;
+        let g = y.role;
+        if q.u + 1 < q.v {
+            let c = count(tree, depths, q, g, y.d);
+            umbrellas += c.umbrellas;
+            stems += c.stems;
+        }
+        x = w.large;
+    }
+    Tally { umbrellas, stems }
 }

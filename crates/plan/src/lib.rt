@@ -1,5 +1,5 @@
 // The operation Plan: levels, umbrellas and stems of the plan drawn of a sheet's part.
-// tables.rt holds the part's tree in tables, levels.rt works out the numbers of its pieces, filled.rt does both, counts.rt counts the umbrellas and stems of the plan drawn.
+// The crates tree and levels hold the part's tree and the numbers of its pieces; counts.rt counts the umbrellas and stems of the plan drawn.
 // The definitions that the contracts cite are in specs/; Answer.antt says what the operation answers.
 ghost use mathlib.Core.Path.{_≡_};
 ghost use Prim.Native.Nat.{_≤_};
@@ -9,15 +9,15 @@ ghost use Rattle.keys.specs.Keys.{edgesOf};
 ghost use Rattle.umbrella.specs.Best.{best};
 ghost use Rattle.plan.specs.Answer.{plannedOf, countsOf, planned};
 use crate::counts::count;
-use crate::filled::fill;
+use levels::NUMBERS;
+use levels::fill;
+use levels::numbers;
 use sheet::Read;
 use sheet::reader::read_sheet;
+use tree::PLACES;
 use umbrella::roles::Role;
 
 pub mod counts;
-pub mod filled;
-pub mod levels;
-pub mod tables;
 
 // The answer: levels, umbrellas and stems, or the number of the refusal.
 pub enum Planned {
@@ -31,34 +31,11 @@ pub fn plan_part(keys: &[u32], n: usize) -> Planned
     requires { ⌜ n ≤ 1024 ⌝ }
     ensures { λ r. ⌜ plannedOf r ≡ countsOf (best (treeOf n (edgesOf (now (keys .entry))))) ⌝ }
 {
-    let mut apex = [0u16; 1022];
-    let mut left = [0u16; 1022];
-    let mut right = [0u16; 1022];
-    let mut ud = [0u16; 1022];
-    let mut handle = [0u16; 1022];
-    let s = fill(
-        keys,
-        n,
-        &mut apex,
-        &mut left,
-        &mut right,
-        &mut ud,
-        &mut handle,
-    );
-    let root = n - 3;
-    let v = n - 1;
-    let t = count(
-        &apex,
-        &left,
-        &right,
-        &ud,
-        &handle,
-        root,
-        0,
-        v,
-        Role::Hung,
-        0,
-    );
+    let mut tree = [0u32; PLACES];
+    let mut depths = [0u16; NUMBERS];
+    let p = fill(keys, n, &mut tree, &mut depths);
+    let s = numbers(&depths, p.e as usize);
+    let t = count(&tree, &depths, p, Role::Hung, 0);
     Planned::Counts(s.ud, t.umbrellas, t.stems)
 }
 
