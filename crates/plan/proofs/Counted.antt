@@ -72,14 +72,14 @@ module _ (x y : ℕ) where
   hung-side d (node l r) h = absurd (omega arith)
 
   -- an umbrella with one level: sides are hung on it and beside its stem, which it has if a piece on its rim is no side
-  abbrev Low : Tree → Type 0
-  Low leaf = Unit {0}
-  Low (node l r) = (d : ℕ) → ud (node l r) ≡ 1 → ((max (fanA l) (fanB r) ≡ 0) × (total x y Hung d (node l r) ≡ x)) ⊎ ((1 ≤ max (fanA l) (fanB r)) × (total x y Hung d (node l r) ≡ x + y))
+  abbrev OneLevel : Tree → Type 0
+  OneLevel leaf = Unit {0}
+  OneLevel (node l r) = (d : ℕ) → ud (node l r) ≡ 1 → ((max (fanA l) (fanB r) ≡ 0) × (total x y Hung d (node l r) ≡ x)) ⊎ ((1 ≤ max (fanA l) (fanB r)) × (total x y Hung d (node l r) ≡ x + y))
 
-  low : (t : Tree) → Low t
+  one-level : (t : Tree) → OneLevel t
   unfolding total ud stemStep
-  low = by-recursion (record {
-    Hung = λ t p. Low t;
+  one-level = by-recursion (record {
+    Hung = λ t p. OneLevel t;
     Left = λ d t A. d ≡ 0 → (fanA t ≡ 0) × (total x y LeftRim d t ≡ 0);
     LeftGated = λ d t G. d ≡ 0 → (1 ≤ fanA t) × (total x y LeftRim d t ≡ y);
     Right = λ d t B. d ≡ 0 → (fanB t ≡ 0) × (total x y RightRim d t ≡ 0);
@@ -110,8 +110,8 @@ pub counted-best : (t : Tree) (d : ℕ) → counted Hung d t ≡ record { umbrel
 counted-best t d = rw (hung-is 1 0 suc suc (λ n. omega arith) (λ n. omega arith) t d, hung-is 0 1 (λ n. n) suc (λ n. omega arith) (λ n. omega arith) t d)
 
 -- an umbrella with one level: the code looks at its fans
-pub counted-low : (l r : Tree) (d : ℕ) → ud (node l r) ≡ 1 → counted Hung d (node l r) ≡ record { umbrellas = 1; stems = min (max (fanA l) (fanB r)) 1 }
-counted-low l r d h = rw (umbrella-is (low 1 0 (node l r) d h), stem-is (low 0 1 (node l r) d h))
+pub counted-one-level : (l r : Tree) (d : ℕ) → ud (node l r) ≡ 1 → counted Hung d (node l r) ≡ record { umbrellas = 1; stems = min (max (fanA l) (fanB r)) 1 }
+counted-one-level l r d h = rw (umbrella-is (one-level 1 0 (node l r) d h), stem-is (one-level 0 1 (node l r) d h))
   where
     umbrella-is : {f n : ℕ} → ((f ≡ 0) × (n ≡ 1)) ⊎ ((1 ≤ f) × (n ≡ 1 + 0)) → n ≡ 1
     umbrella-is (inl p) = omega arith

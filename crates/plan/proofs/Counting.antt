@@ -21,9 +21,9 @@ use Rattle.levels.specs.Numbered.{six, sixAt, Deep, deep, Known}
 use Rattle.levels.proofs.Storing.{deep-root}
 use Rattle.plan.specs.declared.counts.Tally.{Tally}
 use Rattle.plan.specs.declared.counts.Spot.{Spot}
-use Rattle.plan.specs.declared.counts.Turn.{Turn}
-use Rattle.plan.specs.Counts.{adds, atGate, total, counted, spot, turned, lowest, Left, Turned}
-use Rattle.plan.proofs.Counted.{counted-low}
+use Rattle.plan.specs.declared.counts.Fork.{Fork}
+use Rattle.plan.specs.Counts.{adds, atGate, total, counted, spot, forkOf, lowFork, ToCount, Forked}
+use Rattle.plan.proofs.Counted.{counted-one-level}
 
 no-gate : (k : Bool) → atGate 0 k ≡ 0
 no-gate true = refl
@@ -48,12 +48,12 @@ few x y h (node l r) p d =
     let k : ℕ = levelsUnder p d (ud (node l r) - 1) in
     omega (arith, adds-few x y p (s .crossed), few x y h l (s .left) k, few x y h r (s .right) k)
 
-is-hung : (p : Role) → isHung p ≡ true → p ≡ Hung
-is-hung Hung h = refl
-is-hung LeftRim h = absurd (false≢true h)
-is-hung RightRim h = absurd (false≢true h)
-is-hung FromLeft h = absurd (false≢true h)
-is-hung FromRight h = absurd (false≢true h)
+pub only-hung : (p : Role) → isHung p ≡ true → p ≡ Hung
+only-hung Hung h = refl
+only-hung LeftRim h = absurd (false≢true h)
+only-hung RightRim h = absurd (false≢true h)
+only-hung FromLeft h = absurd (false≢true h)
+only-hung FromRight h = absurd (false≢true h)
 
 -- what the tables hold of a piece that is no side
 pub record KnownParts (tr ds : List ℕ) (p : Piece) (t : Tree) : Type 0 where
@@ -74,26 +74,26 @@ known-parts {tr} {ds} {p} {t} K a = go (rw (d .is) at (K .deep))
     go (deep h x y) = record { parts = d; known-l = record { shows = d .shows-l; deep = x }; known-r = record { shows = d .shows-r; deep = y }; numbers-are = h; not-empty = omega (arith, ap (λ (s : Six). s .ud) h) }
 
 -- what a triangle adds, as it is worked out
-pub turned-is : (p : Role) (s : Step) (x y : Spot) {m n g : ℕ} → m ≡ adds p 1 0 → g ≡ atGate 1 (s .crossed) → n ≡ adds p 0 g → _≡_ {A = Turn} (record { adds = record { umbrellas = m; stems = n }; small = x; large = y }) (turned p s x y)
-turned-is p s x y e f g = rw (e, g, f)
+pub fork-is : (p : Role) (s : Step) (x y : Spot) {m n g : ℕ} → m ≡ adds p 1 0 → g ≡ atGate 1 (s .crossed) → n ≡ adds p 0 g → _≡_ {A = Fork} (record { adds = record { umbrellas = m; stems = n }; small = x; large = y }) (forkOf p s x y)
+fork-is p s x y e f g = rw (e, g, f)
 
 -- a piece beyond a triangle is left to be counted
-left-known : {tr ds : List ℕ} {p : Piece} {t : Tree} (k : ℕ) (r : Role) → Known tr ds (p .e) (p .u) (p .v) t → Left tr ds (spot k p r) t
-left-known k r K = record { known = λ h. K; none = λ h. closed (K .shows) h; low = omega (arith, corners (K .shows)) }
+to-count : {tr ds : List ℕ} {p : Piece} {t : Tree} (k : ℕ) (r : Role) → Known tr ds (p .e) (p .u) (p .v) t → ToCount tr ds (spot k p r) t
+to-count k r K = record { known = λ h. K; none = λ h. closed (K .shows) h; low = omega (arith, corners (K .shows)) }
 
 -- or nothing is
-pub left-none : {tr ds : List ℕ} {x : Spot} {t : Tree} → Left tr ds x t → x .piece .v ≤ x .piece .u + 1 → (y z : ℕ) → total y z (x .role) (x .d) t ≡ 0
+pub none-to-count : {tr ds : List ℕ} {x : Spot} {t : Tree} → ToCount tr ds x t → x .piece .v ≤ x .piece .u + 1 → (y z : ℕ) → total y z (x .role) (x .d) t ≡ 0
 unfolding total
-left-none L h y z = rw (L .none h)
+none-to-count L h y z = rw (L .none h)
 
 -- the numbers that the code reads at the triangle of x
-pub record Numbers (tr ds : List ℕ) (x : Spot) (b : Two) (l r own : Six) : Type 0 where
+pub record NumbersRead (tr ds : List ℕ) (x : Spot) (b : Two) (l r own : Six) : Type 0 where
   pub two-is : b ≡ beyond tr (x .piece)
   pub left-is : l ≡ sixAt ds (b .left .e)
   pub right-is : r ≡ sixAt ds (b .right .e)
   pub own-is : own ≡ sixAt ds (x .piece .e)
 
-module _ {tr ds : List ℕ} {x : Spot} {b : Two} {l r own : Six} {t : Tree} (N : Numbers tr ds x b l r own) (K : KnownParts tr ds (x .piece) t) where
+module _ {tr ds : List ℕ} {x : Spot} {b : Two} {l r own : Six} {t : Tree} (N : NumbersRead tr ds x b l r own) (K : KnownParts tr ds (x .piece) t) where
   abbrev a : Tree
   a = K .parts .l
 
@@ -114,10 +114,10 @@ module _ {tr ds : List ℕ} {x : Spot} {b : Two} {l r own : Six} {t : Tree} (N :
   of-node y z = ap (total y z (x .role) (x .d)) (K .parts .is)
 
   -- an umbrella with one level is counted at once
-  pub turned-low : {w : Turn} → own .ud - 1 ≡ 0 → isHung (x .role) ≡ true → w ≡ lowest (min (max (l .«fan_a») (r .«fan_b»)) 1) → Turned tr ds x t w
+  pub fork-low : {w : Fork} → own .ud - 1 ≡ 0 → isHung (x .role) ≡ true → w ≡ lowFork (min (max (l .«fan_a») (r .«fan_b»)) 1) → Forked tr ds x t w
   unfolding total ud
-  turned-low z h e =
-      let q = counted-low a c (x .d) (omega (arith, own-levels)) in
+  fork-low z h e =
+      let q = counted-one-level a c (x .d) (omega (arith, own-levels)) in
       rw (e, l-is, r-is) (record {
         small = leaf;
         large = leaf;
@@ -125,11 +125,11 @@ module _ {tr ds : List ℕ} {x : Spot} {b : Two} {l r own : Six} {t : Tree} (N :
         left-large = nothing;
         less-small = omega (arith, K .parts);
         less-large = omega (arith, K .parts);
-        umbrellas-are = of-node 1 0 ∙ rw (is-hung (x .role) h) (ap (λ (z : Tally). z .umbrellas) q ∙ omega arith);
-        stems-are = of-node 0 1 ∙ rw (is-hung (x .role) h) (ap (λ (z : Tally). z .stems) q ∙ omega arith);
+        umbrellas-are = of-node 1 0 ∙ rw (only-hung (x .role) h) (ap (λ (z : Tally). z .umbrellas) q ∙ omega arith);
+        stems-are = of-node 0 1 ∙ rw (only-hung (x .role) h) (ap (λ (z : Tally). z .stems) q ∙ omega arith);
       })
     where
-      nothing : Left tr ds (lowest 0 .small) leaf
+      nothing : ToCount tr ds (lowFork 0 .small) leaf
       nothing = record { known = λ h. absurd (omega arith); none = λ h. refl; low = omega arith }
 
   -- else the two pieces beyond are left
@@ -141,22 +141,22 @@ module _ {tr ds : List ℕ} {x : Spot} {b : Two} {l r own : Six} {t : Tree} (N :
     umbrellas-split : total 1 0 (x .role) (x .d) t ≡ total 1 0 (s .left) k a + total 1 0 (s .right) k c + adds (x .role) 1 0
     umbrellas-split = split 1 0 ∙ rw (no-gate (s .crossed))
 
-    pub turned-both : {w : Turn} → (w ≡ turned (x .role) s (spot k (b .left) (s .left)) (spot k (b .right) (s .right))) ⊎ (w ≡ turned (x .role) s (spot k (b .right) (s .right)) (spot k (b .left) (s .left))) → Turned tr ds x t w
-    turned-both (inl e) = rw (e, N .two-is) (record {
+    pub fork-both : {w : Fork} → (w ≡ forkOf (x .role) s (spot k (b .left) (s .left)) (spot k (b .right) (s .right))) ⊎ (w ≡ forkOf (x .role) s (spot k (b .right) (s .right)) (spot k (b .left) (s .left))) → Forked tr ds x t w
+    fork-both (inl e) = rw (e, N .two-is) (record {
       small = a;
       large = c;
-      left-small = left-known k (s .left) (K .known-l);
-      left-large = left-known k (s .right) (K .known-r);
+      left-small = to-count k (s .left) (K .known-l);
+      left-large = to-count k (s .right) (K .known-r);
       less-small = omega (arith, K .parts);
       less-large = omega (arith, K .parts);
       umbrellas-are = omega (arith, umbrellas-split);
       stems-are = omega (arith, split 0 1);
     })
-    turned-both (inr e) = rw (e, N .two-is) (record {
+    fork-both (inr e) = rw (e, N .two-is) (record {
       small = c;
       large = a;
-      left-small = left-known k (s .right) (K .known-r);
-      left-large = left-known k (s .left) (K .known-l);
+      left-small = to-count k (s .right) (K .known-r);
+      left-large = to-count k (s .left) (K .known-l);
       less-small = omega (arith, K .parts);
       less-large = omega (arith, K .parts);
       umbrellas-are = omega (arith, umbrellas-split);
@@ -168,7 +168,7 @@ pub record Counting (tr ds : List ℕ) (x₀ x : Spot) (m n : ℕ) : Type 0 wher
   pub t₀ : Tree
   pub t : Tree
   pub whole : Known tr ds (x₀ .piece .e) (x₀ .piece .u) (x₀ .piece .v) t₀
-  pub left : Left tr ds x t
+  pub left : ToCount tr ds x t
   pub umbrellas-are : m + total 1 0 (x .role) (x .d) t ≡ total 1 0 (x₀ .role) (x₀ .d) t₀
   pub stems-are : n + total 0 1 (x .role) (x .d) t ≡ total 0 1 (x₀ .role) (x₀ .d) t₀
   pub few-umbrellas : total 1 0 (x₀ .role) (x₀ .d) t₀ < 1024
@@ -180,7 +180,7 @@ counting-begins x {t} K = record {
   t₀ = t;
   t = t;
   whole = K;
-  left = left-known (x .d) (x .role) K;
+  left = to-count (x .d) (x .role) K;
   umbrellas-are = omega arith;
   stems-are = omega arith;
   few-umbrellas = omega (arith, few 1 0 (omega arith) t (x .role) (x .d), ends (K .shows), corners (K .shows));
@@ -189,7 +189,7 @@ counting-begins x {t} K = record {
 }
 
 module _ {tr ds : List ℕ} {x₀ x : Spot} {m n : ℕ} (C : Counting tr ds x₀ x m n) where
-  pub counting-on : {w : Turn} (T : Turned tr ds x (C .t) w) {m′ n′ : ℕ}
+  pub counting-on : {w : Fork} (T : Forked tr ds x (C .t) w) {m′ n′ : ℕ}
       → (m′ ≡ m + w .adds .umbrellas + total 1 0 (w .small .role) (w .small .d) (T .small)) × (n′ ≡ n + w .adds .stems + total 0 1 (w .small .role) (w .small .d) (T .small)) → Counting tr ds x₀ (w .large) m′ n′
   counting-on T p = record {
     t₀ = C .t₀;

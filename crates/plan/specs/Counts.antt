@@ -14,7 +14,7 @@ use Rattle.tree.specs.declared.Piece.{Piece}
 use Rattle.levels.specs.Numbered.{Known}
 use Rattle.plan.specs.declared.counts.Tally.{Tally}
 use Rattle.plan.specs.declared.counts.Spot.{Spot}
-use Rattle.plan.specs.declared.counts.Turn.{Turn}
+use Rattle.plan.specs.declared.counts.Fork.{Fork}
 
 -- a number of the triangle of a piece: x if the piece is hung, y if it lies on a rim
 abbrev pub adds : Role → ℕ → ℕ → ℕ
@@ -44,27 +44,27 @@ abbrev pub spot : ℕ → Piece → Role → Spot
 spot k p r = record { piece = p; role = r; d = k }
 
 -- at a triangle whose piece has the role p: what it adds, and the two pieces beyond
-abbrev pub turned : Role → Step → Spot → Spot → Turn
-turned p s x y = record { adds = record { umbrellas = adds p 1 0; stems = adds p 0 (atGate 1 (s .crossed)) }; small = x; large = y }
+abbrev pub forkOf : Role → Step → Spot → Spot → Fork
+forkOf p s x y = record { adds = record { umbrellas = adds p 1 0; stems = adds p 0 (atGate 1 (s .crossed)) }; small = x; large = y }
 
 -- at an umbrella with one level and so many stems
-abbrev pub lowest : ℕ → Turn
-lowest n =
+abbrev pub lowFork : ℕ → Fork
+lowFork n =
     let none = spot 0 (record { e = 0; u = 0; v = 0 }) Hung in
     record { adds = record { umbrellas = 1; stems = n }; small = none; large = none }
 
 -- the tree t is to be counted at x, and nothing where x has no triangle
-pub record Left (tr ds : List ℕ) (x : Spot) (t : Tree) : Type 0 where
+pub record ToCount (tr ds : List ℕ) (x : Spot) (t : Tree) : Type 0 where
   pub known : x .piece .u + 1 < x .piece .v → Known tr ds (x .piece .e) (x .piece .u) (x .piece .v) t
   pub none : x .piece .v ≤ x .piece .u + 1 → t ≡ leaf
   pub low : x .piece .u < 1024
 
 -- what the triangle at x adds, and what is left, are the counts of its piece t
-pub record Turned (tr ds : List ℕ) (x : Spot) (t : Tree) (w : Turn) : Type 0 where
+pub record Forked (tr ds : List ℕ) (x : Spot) (t : Tree) (w : Fork) : Type 0 where
   pub small : Tree
   pub large : Tree
-  pub left-small : Left tr ds (w .small) small
-  pub left-large : Left tr ds (w .large) large
+  pub left-small : ToCount tr ds (w .small) small
+  pub left-large : ToCount tr ds (w .large) large
   pub less-small : w .small .piece .v - w .small .piece .u < x .piece .v - x .piece .u
   pub less-large : w .large .piece .v - w .large .piece .u < x .piece .v - x .piece .u
   pub umbrellas-are : total 1 0 (x .role) (x .d) t ≡ w .adds .umbrellas + total 1 0 (w .small .role) (w .small .d) small + total 1 0 (w .large .role) (w .large .d) large

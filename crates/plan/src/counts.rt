@@ -5,7 +5,7 @@ ghost use mathlib.Core.Logic.{_⊎_};
 ghost use Prim.Native.Nat.{_+_, _<_, _≤_, max, min};
 ghost use Rattle.polygon.specs.Tree.{Tree};
 ghost use Rattle.levels.specs.Numbered.{Known};
-ghost use Rattle.plan.specs.Counts.{atGate, adds, counted, spot, turned, lowest, Turned};
+ghost use Rattle.plan.specs.Counts.{atGate, adds, counted, spot, forkOf, lowFork, Forked};
 use levels::NUMBERS;
 use levels::numbers;
 use tree::PLACES;
@@ -32,7 +32,7 @@ pub struct Spot {
 }
 
 // What a triangle adds, and what is left to be counted.
-pub struct Turn {
+pub struct Fork {
     pub adds: Tally,
     pub small: Spot,
     pub large: Spot,
@@ -59,10 +59,10 @@ fn adds(role: Role, x: u16, y: u16) -> u16
 }
 
 // The larger of the two pieces beyond a triangle is left for last; k levels are under their umbrella.
-fn by_size(role: Role, k: u16, t: Two, s: Step) -> Turn
+fn by_size(role: Role, k: u16, t: Two, s: Step) -> Fork
     requires { ⌜ (t .left .u ≤ t .left .v) × (t .right .u ≤ t .right .v) ⌝ }
-    ensures { λ r. ⌜ (r ≡ turned role s (spot k (t .left) (s .left)) (spot k (t .right) (s .right)))
-        ⊎ (r ≡ turned role s (spot k (t .right) (s .right)) (spot k (t .left) (s .left))) ⌝ }
+    ensures { λ r. ⌜ (r ≡ forkOf role s (spot k (t .left) (s .left)) (spot k (t .right) (s .right)))
+        ⊎ (r ≡ forkOf role s (spot k (t .right) (s .right)) (spot k (t .left) (s .left))) ⌝ }
 {
     let adds = Tally {
         umbrellas: adds(role, 1, 0),
@@ -83,13 +83,13 @@ fn by_size(role: Role, k: u16, t: Two, s: Step) -> Turn
         d: k,
     };
     if r.v - r.u < l.v - l.u {
-        return Turn {
+        return Fork {
             adds,
             small: right,
             large: left,
         };
     }
-    Turn {
+    Fork {
         adds,
         small: left,
         large: right,
@@ -107,8 +107,8 @@ fn one_stem(a: u16, b: u16) -> u16
 }
 
 // An umbrella with one level: nothing is left to be counted.
-fn one_level(a: u16, b: u16) -> Turn
-    ensures { λ r. ⌜ r ≡ lowest (min (max a b) 1) ⌝ }
+fn one_level(a: u16, b: u16) -> Fork
+    ensures { λ r. ⌜ r ≡ lowFork (min (max a b) 1) ⌝ }
 {
     let none = Spot {
         piece: Piece { e: 0, u: 0, v: 0 },
@@ -119,7 +119,7 @@ fn one_level(a: u16, b: u16) -> Turn
         umbrellas: 1,
         stems: one_stem(a, b),
     };
-    Turn {
+    Fork {
         adds,
         small: none,
         large: none,
@@ -127,11 +127,11 @@ fn one_level(a: u16, b: u16) -> Turn
 }
 
 // Counts at the triangle of a piece that is no side.
-fn triangle(tree: &[u32; PLACES], depths: &[u16; NUMBERS], x: Spot) -> Turn
+fn triangle(tree: &[u32; PLACES], depths: &[u16; NUMBERS], x: Spot) -> Fork
     requires known { ⌜ ((t : Tree) × Known (now tree) (now depths) (x .piece .e) (x .piece .u) (x .piece .v) t) ⌝ }
     requires apart { ⌜ x .piece .u + 1 < x .piece .v ⌝ }
     ensures { λ r. ⌜ ((t : Tree) → Known (now (tree .entry)) (now (depths .entry)) (x .piece .e) (x .piece .u) (x .piece .v) t
-        → Turned (now (tree .entry)) (now (depths .entry)) x t r) ⌝ }
+        → Forked (now (tree .entry)) (now (depths .entry)) x t r) ⌝ }
 {
     let p = x.piece;
     let role = x.role;

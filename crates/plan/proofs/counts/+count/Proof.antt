@@ -3,9 +3,9 @@ use mathlib.Core.Path.{_≡_, ap}
 use mathlib.Core.Logic.{⊎-elim}
 use Prim.Native.Nat.{ℕ, _-_, _<_}
 use native.Mathlib.Omega.{arith}
-use Rattle.plan.specs.Counts.{counted, Turned}
+use Rattle.plan.specs.Counts.{counted, Forked}
 use Rattle.plan.specs.declared.counts.Tally.{Tally}
-use Rattle.plan.proofs.Counting.{Counting, left-none, counting-begins, counting-on, counting-ends}
+use Rattle.plan.proofs.Counting.{Counting, none-to-count, counting-begins, counting-on, counting-ends}
 use borrow.Fn.Kinds.{In}
 use borrow.Fn.PlainCycle.{Measures, is, falls, and}
 use Rattle.plan.proofs.counts.count.Reads as count
@@ -43,23 +43,23 @@ count-triangle-requires : (t : ℕ) → count-lts.Need-triangle-requires (count-
 count-triangle-requires t c κs = let D = c .before .before .before .loop .inv in ((D .t, D .left .known (c .if1 .taken)), c .if1 .taken)
 
 -- what the triangle adds
-turn : (t : ℕ) (c : count-lts.After-triangle (count-Cs t) (count-at t) count.Post count-Inv-loop count-μ-loop) → let at-loop = c .before .before .before .before in let start = at-loop .before in
-    Turned (start .args .tree .now) (start .args .depths .now) (at-loop .loop .x) (at-loop .loop .inv .t) (c .triangle .result)
-turn t c = let D = c .before .before .before .before .loop .inv in c .triangle .ensures (D .t) (D .left .known (c .before .if1 .taken))
+forked : (t : ℕ) (c : count-lts.After-triangle (count-Cs t) (count-at t) count.Post count-Inv-loop count-μ-loop) → let at-loop = c .before .before .before .before in let start = at-loop .before in
+    Forked (start .args .tree .now) (start .args .depths .now) (at-loop .loop .x) (at-loop .loop .inv .t) (c .triangle .result)
+forked t c = let D = c .before .before .before .before .loop .inv in c .triangle .ensures (D .t) (D .left .known (c .before .if1 .taken))
 
 count-add-umbrellas : (t : ℕ) → count-lts.Need-add-umbrellas (count-Cs t) (count-at t) count.Post count-Inv-loop count-μ-loop
-count-add-umbrellas t c = omega (arith, turn t (c .before), c .before .before .before .before .before .loop .inv)
+count-add-umbrellas t c = omega (arith, forked t (c .before), c .before .before .before .before .before .loop .inv)
 
 count-add-stems : (t : ℕ) → count-lts.Need-add-stems (count-Cs t) (count-at t) count.Post count-Inv-loop count-μ-loop
-count-add-stems t c = omega (arith, turn t (c .before .before), c .before .before .before .before .before .before .loop .inv)
+count-add-stems t c = omega (arith, forked t (c .before .before), c .before .before .before .before .before .before .loop .inv)
 
 count-add-if2 : (t : ℕ) → count-lts.Need-add-if2 (count-Cs t) (count-at t) count.Post count-Inv-loop count-μ-loop
-count-add-if2 t c = omega (arith, turn t (c .before .before .before .before .before) .left-small .low)
+count-add-if2 t c = omega (arith, forked t (c .before .before .before .before .before) .left-small .low)
 
 count-count-requires : (t : ℕ) → count-lts.Need-count-requires (count-Cs t) (count-at t) count.Post count-Inv-loop count-μ-loop
 count-count-requires t c κs =
     let w = c .before .before .before .before .before .before .before in
-    let T = turn t w in
+    let T = forked t w in
     let at-loop = w .before .before .before .before in
     (omega (arith, T, at-loop .loop .inv, at-loop .before .pre .0), (T .small, T .left-small .known (c .if2 .taken)))
 
@@ -67,29 +67,29 @@ count-count-requires t c κs =
 abbrev called : (t : ℕ) → count-lts.After-count (count-Cs t) (count-at t) count.Post count-Inv-loop count-μ-loop → count-lts.After-triangle (count-Cs t) (count-at t) count.Post count-Inv-loop count-μ-loop
 called t c = c .before .before .before .before .before .before .before .before
 
-small : (t : ℕ) (c : count-lts.After-count (count-Cs t) (count-at t) count.Post count-Inv-loop count-μ-loop) → let w = called t c .triangle .result in c .count .result ≡ counted (w .small .role) (w .small .d) (turn t (called t c) .small)
-small t c = let T = turn t (called t c) in c .count .ensures (T .small) (T .left-small .known (c .before .if2 .taken))
+small : (t : ℕ) (c : count-lts.After-count (count-Cs t) (count-at t) count.Post count-Inv-loop count-μ-loop) → let w = called t c .triangle .result in c .count .result ≡ counted (w .small .role) (w .small .d) (forked t (called t c) .small)
+small t c = let T = forked t (called t c) in c .count .ensures (T .small) (T .left-small .known (c .before .if2 .taken))
 
 count-add-umbrellas-2 : (t : ℕ) → count-lts.Need-add-umbrellas-2 (count-Cs t) (count-at t) count.Post count-Inv-loop count-μ-loop
 count-add-umbrellas-2 t c =
     let w = called t (c .before) in
-    omega (arith, turn t w, w .before .before .before .before .loop .inv, ap (λ (z : Tally). z .umbrellas) (small t (c .before)))
+    omega (arith, forked t w, w .before .before .before .before .loop .inv, ap (λ (z : Tally). z .umbrellas) (small t (c .before)))
 
 count-add-stems-2 : (t : ℕ) → count-lts.Need-add-stems-2 (count-Cs t) (count-at t) count.Post count-Inv-loop count-μ-loop
 count-add-stems-2 t c =
     let w = called t (c .before .before) in
-    omega (arith, turn t w, w .before .before .before .before .loop .inv, ap (λ (z : Tally). z .stems) (small t (c .before .before)))
+    omega (arith, forked t w, w .before .before .before .before .loop .inv, ap (λ (z : Tally). z .stems) (small t (c .before .before)))
 
 count-loop-less : (t : ℕ) → count-lts.Need-loop-less (count-Cs t) (count-at t) count.Post count-Inv-loop count-μ-loop
-count-loop-less t c = omega (arith, turn t (c .before .before .before .before .before .before .before .before) .less-large)
+count-loop-less t c = omega (arith, forked t (c .before .before .before .before .before .before .before .before) .less-large)
 
 count-loop-again : (t : ℕ) → count-lts.Need-loop-again (count-Cs t) (count-at t) count.Post count-Inv-loop count-μ-loop
 count-loop-again t c =
     let w = c .before .before .before .before .before .before .before .before in
-    let T = turn t w in
+    let T = forked t w in
     counting-on (w .before .before .before .before .loop .inv) T (⊎-elim
     (λ w. let k = w .1 .ensures (T .small) (T .left-small .known (w .0 .taken)) in (omega (arith, w .4, ap (λ (z : Tally). z .umbrellas) k), omega (arith, w .5, ap (λ (z : Tally). z .stems) k)))
-    (λ w. let z = left-none (T .left-small) (w .0 .left) in (omega (arith, w .1, z 1 0), omega (arith, w .2, z 0 1)))
+    (λ w. let z = none-to-count (T .left-small) (w .0 .left) in (omega (arith, w .1, z 1 0), omega (arith, w .2, z 0 1)))
     (c .before .if2 .came))
 
 count-returns : (t : ℕ) → count-lts.Need-returns (count-Cs t) (count-at t) count.Post count-Inv-loop count-μ-loop

@@ -1,7 +1,7 @@
 -- In either order.
 use mathlib.Core.Logic.{inl, inr}
 use borrow.Author.Needs.{needs}
-use Rattle.plan.proofs.Counting.{turned-is}
+use Rattle.plan.proofs.Counting.{fork-is}
 use Rattle.plan.proofs.counts.by_size.Statement.{statement}
 use Rattle.plan.proofs.counts.by_size.Tie as tie
 
@@ -24,13 +24,13 @@ returns : tie.Need-returns
 returns c =
     let at-adds2 = c .before .before .before .before .before in
     let start = at-adds2 .before .before .before in
-    inr (turned-is (start .args .role) (start .args .s) _ _ (at-adds2 .before .before .adds .ensures) (at-adds2 .before .at-gate .ensures) (at-adds2 .adds2 .ensures))
+    inr (fork-is (start .args .role) (start .args .s) _ _ (at-adds2 .before .before .adds .ensures) (at-adds2 .before .at-gate .ensures) (at-adds2 .adds2 .ensures))
 
 returns-2 : tie.Need-returns-2
 returns-2 c =
     let at-adds2 = c .before .before .before .before .before in
     let start = at-adds2 .before .before .before in
-    inl (turned-is (start .args .role) (start .args .s) _ _ (at-adds2 .before .before .adds .ensures) (at-adds2 .before .at-gate .ensures) (at-adds2 .adds2 .ensures))
+    inl (fork-is (start .args .role) (start .args .s) _ _ (at-adds2 .before .before .adds .ensures) (at-adds2 .before .at-gate .ensures) (at-adds2 .adds2 .ensures))
 
 pub by-size-spec : {M : Type 1} → statement M
 by-size-spec = tie.close (tie.spec adds-requires at-gate-requires adds-requires-2 sub-if1 sub-if1-2 returns returns-2)

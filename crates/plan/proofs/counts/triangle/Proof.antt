@@ -3,7 +3,7 @@ use mathlib.Core.Path.{sym, _∙_, ap}
 use borrow.Author.Needs.{needs}
 use native.Mathlib.Omega.{arith}
 use Rattle.levels.specs.declared.Six.{Six}
-use Rattle.plan.proofs.Counting.{KnownParts, known-parts, Numbers, turned-low, turned-both}
+use Rattle.plan.proofs.Counting.{KnownParts, known-parts, NumbersRead, fork-low, fork-both}
 use Rattle.plan.proofs.counts.triangle.Statement.{statement}
 use Rattle.plan.proofs.counts.triangle.Tie as tie
 
@@ -40,7 +40,7 @@ abbrev opens : tie.After-struct-known4 → tie.After-open
 opens c = c .before .before .before .before .before .before .before
 
 read : (c : tie.After-struct-known4) → let start = opens c .before .before in
-    Numbers (start .args .tree .now) (start .args .depths .now) (start .args .x) (opens c .«open» .result) (c .before .before .before .before .before .numbers .result) (c .before .before .before .numbers2 .result) (c .before .numbers3 .result)
+    NumbersRead (start .args .tree .now) (start .args .depths .now) (start .args .x) (opens c .«open» .result) (c .before .before .before .before .before .numbers .result) (c .before .before .before .numbers2 .result) (c .before .numbers3 .result)
 read c = record { two-is = opens c .«open» .ensures; left-is = c .before .before .before .before .before .numbers .ensures; right-is = c .before .before .before .numbers2 .ensures; own-is = c .before .numbers3 .ensures }
 
 is-hung-requires : tie.Need-is-hung-requires
@@ -52,7 +52,7 @@ one-level-requires c κs = search needs
 returns : tie.Need-returns
 returns c =
     let r = c .before .before .before .before in
-    λ t K. turned-low (read r) (known-parts K (opens r .before .before .pre .1)) (c .before .before .before .if1 .taken) (sym (c .before .before .is-hung .ensures) ∙ c .before .if2 .taken) (c .one-level .ensures)
+    λ t K. fork-low (read r) (known-parts K (opens r .before .before .pre .1)) (c .before .before .before .if1 .taken) (sym (c .before .before .is-hung .ensures) ∙ c .before .if2 .taken) (c .one-level .ensures)
 
 step-at-requires : tie.Need-step-at-requires
 step-at-requires c κs = search needs
@@ -69,7 +69,7 @@ by-size-requires c κs =
 returns-2 : tie.Need-returns-2
 returns-2 c =
     let r = c .before .before .before .before in
-    λ t K. turned-both (read r) (known-parts K (opens r .before .before .pre .1)) (c .before .before .step-at .ensures) (c .before .levels-under .ensures) (c .by-size .ensures)
+    λ t K. fork-both (read r) (known-parts K (opens r .before .before .pre .1)) (c .before .before .step-at .ensures) (c .before .levels-under .ensures) (c .by-size .ensures)
 
 pub triangle-spec : {M : Type 1} → statement M
 triangle-spec = tie.close (tie.spec open-requires cast-numbers numbers-requires cast-numbers-2 numbers-requires-2 cast-numbers-3 numbers-requires-3 sub-own is-hung-requires one-level-requires returns step-at-requires levels-under-requires by-size-requires returns-2)
