@@ -1,10 +1,9 @@
 -- The numbers below n in order, and lists that are given by their places.
 use mathlib.Core.Path.{_≡_, refl, _∙_, ap, ap₂}
-use mathlib.Core.List.{List, [], _∷_, _++_, map, map-append}
+use mathlib.Core.List.{List, [], _∷_, _++_, map}
 use Prim.Native.Nat.{ℕ, zero, suc, _+_, _<_, _≤_}
 use native.Mathlib.Omega.{arith}
-use lib.ListN.{length, take, getD}
-use lib.Seq.{take-suc}
+use lib.ListN.{length, getD}
 use Rattle.polygon.specs.Lists.{All, all-nil, all-cons, numbers, below}
 use Rattle.polygon.proofs.Lists.{numbers-in}
 
@@ -19,18 +18,6 @@ numbers-next (suc k) u =
 pub below-next : (i : ℕ) → below (suc i) ≡ below i ++ (i ∷ [])
 unfolding below
 below-next i = numbers-next i 0 ∙ ap (λ (x : ℕ). numbers i 0 ++ (x ∷ [])) (omega arith)
-
-below-none : below 0 ≡ []
-unfolding below numbers
-below-none = refl
-
--- the start of a list by its places
-pub take-below : (f : ℕ → ℕ) (l : List ℕ) (k : ℕ) → k ≤ length l → ((i : ℕ) → i < k → getD l i 0 ≡ f i) → take k l ≡ map f (below k)
-take-below f l zero h g = rw below-none
-take-below f l (suc k) h g =
-    take-suc l k 0 h
-    ∙ (ap₂ (λ (xs : List ℕ) (x : ℕ). xs ++ (x ∷ [])) (take-below f l k (omega arith) (λ i p. g i (omega arith))) (g k (omega arith))
-    ∙ rw (below-next k, map-append f (below k) (k ∷ [])))
 
 -- a list by a function of each place, and two functions that agree on each
 pub map-places : {A B : Type 0} (g : A → B) (h : ℕ → B) (d : A) (l : List A) (u : ℕ) → ((i : ℕ) → i < length l → h (u + i) ≡ g (getD l i d)) → map h (numbers (length l) u) ≡ map g l

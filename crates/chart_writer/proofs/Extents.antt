@@ -1,7 +1,7 @@
 -- The first and the last column of each corner, one column at a time.
 use mathlib.Core.Path.{_≡_, sym, _∙_}
 use mathlib.Core.Logic.{inl, inr}
-use mathlib.Core.List.{List, [], _∷_, _++_, map-append, reverse, reverse-append}
+use mathlib.Core.List.{List, [], _∷_, _++_, map, map-append, reverse, reverse-append}
 use Prim.Native.Nat.{ℕ, suc, _+_, _-_, _/_, _%_, _<_, _≤_}
 use native.Mathlib.Decide.{ℕ-discrete}
 use native.Mathlib.Numerals.{add-one}
@@ -11,10 +11,11 @@ use lib.Seq.{drop-cons, take-suc, length-take-le}
 use Rattle.polygon.specs.Lists.{choose}
 use Rattle.polygon.specs.Polygon.{Edge}
 use Rattle.polygon.proofs.Lists.{choose-yes, choose-no}
-use Rattle.keys.specs.Keys.{edgeOf, edgesOf}
+use Rattle.keys.specs.Keys.{edgeOf}
+use Rattle.tree.specs.Shows.{edgeAt}
 use Rattle.chart.specs.Chart.{Meets, meets?, first, last}
-use Rattle.chart_writer.specs.Tables.{Keyed, Spans}
-use Rattle.chart_writer.proofs.Search.{stored}
+use Rattle.chart_writer.specs.Tables.{Uprights, Filled, Spans}
+use Rattle.chart_writer.proofs.Placing.{stored}
 
 -- one column more, before the others or behind them
 first-met : (x : ℕ) (e : Edge) (us : List Edge) → Meets x e → first x (e ∷ us) ≡ 0
@@ -42,46 +43,55 @@ both-stored P table k j x size h f g =
     stored P (set table (k / 1024) j) (k % 1024) j x (rw (length-set table (k / 1024) j) (omega arith)) (λ p. f (inr (sym p)))
     (λ p. stored P table (k / 1024) j x (omega arith) (λ q. f (inl (sym q))) (λ q. g (λ m. elim m [ inl a ↦ q (sym a) | inr a ↦ p (sym a) ])))
 
-module _ (cols : List ℕ) where
+module _ (tr columns : List ℕ) where
+  abbrev us : List Edge
+  us = map (edgeAt tr) columns
+
+  -- the upright of column j
+  abbrev up : ℕ → Edge
+  up j = edgeAt tr (getD columns j 0)
+
   -- the columns from j on are stored
   abbrev pub Lefts : List ℕ → ℕ → Type 0
-  Lefts left j = (x : ℕ) → x < 1024 → getD left x 0 ≡ j + first x (edgesOf (drop j cols))
+  Lefts left j = (x : ℕ) → x < 1024 → getD left x 0 ≡ j + first x (map (edgeAt tr) (drop j columns))
 
-  pub lefts-begin : (left : List ℕ) → ((x : ℕ) → x < 1024 → getD left x 0 ≡ length cols) → Lefts left (length cols)
+  pub lefts-begin : (left : List ℕ) → Filled 1024 (length columns) left → Lefts left (length columns)
   unfolding first
-  lefts-begin left z x h = rw (drop-of-length-le cols {i = length cols} (omega arith)) (omega (arith, z x h))
+  lefts-begin left (e, z) x h = rw (drop-of-length-le columns {i = length columns} (omega arith)) (omega (arith, z x h))
 
-  pub lefts-next : (left : List ℕ) (j : ℕ) → Keyed cols → length left ≡ 1024 → j < length cols → Lefts left (suc j) → Lefts (both left (getD cols j 0) j) j
+  pub lefts-next : (left : List ℕ) (j : ℕ) → Uprights tr columns → length left ≡ 1024 → j < length columns → Lefts left (suc j) → Lefts (both left (getD tr (getD columns j 0) 0) j) j
   lefts-next left j K size h L x k =
-      rw (drop-cons cols j 0 h)
-      (both-stored (λ v. v ≡ j + first x (edgeOf (getD cols j 0) ∷ edgesOf (drop (suc j) cols))) left (getD cols j 0) j x size (K j h)
-      (λ m. omega (arith, first-met x (edgeOf (getD cols j 0)) (edgesOf (drop (suc j) cols)) m))
-      (λ f. omega (arith, L x k, first-past x (edgeOf (getD cols j 0)) (edgesOf (drop (suc j) cols)) f)))
+      let rest : List Edge = map (edgeAt tr) (drop (suc j) columns) in
+      rw (drop-cons columns j 0 h)
+      (both-stored (λ v. v ≡ j + first x (up j ∷ rest)) left (getD tr (getD columns j 0) 0) j x size (K j h .keyed)
+      (λ m. omega (arith, first-met x (up j) rest m))
+      (λ f. omega (arith, L x k, first-past x (up j) rest f)))
 
   -- the first j columns are stored
   abbrev pub Rights : List ℕ → ℕ → Type 0
-  Rights right j = (x : ℕ) → x < 1024 → getD right x 0 ≡ last x (edgesOf (take j cols))
+  Rights right j = (x : ℕ) → x < 1024 → getD right x 0 ≡ last x (map (edgeAt tr) (take j columns))
 
-  pub rights-begin : (right : List ℕ) → ((x : ℕ) → x < 1024 → getD right x 0 ≡ 0) → Rights right 0
+  pub rights-begin : (right : List ℕ) → Filled 1024 0 right → Rights right 0
   unfolding last first
-  rights-begin right z x h = z x h
+  rights-begin right (e, z) x h = z x h
 
-  pub rights-next : (right : List ℕ) (j : ℕ) → Keyed cols → length right ≡ 1024 → j < length cols → Rights right j → Rights (both right (getD cols j 0) j) (j + 1)
+  pub rights-next : (right : List ℕ) (j : ℕ) → Uprights tr columns → length right ≡ 1024 → j < length columns → Rights right j → Rights (both right (getD tr (getD columns j 0) 0) j) (j + 1)
   rights-next right j K size h L x k =
-      let n : length (edgesOf (take j cols)) ≡ j = length-map (take j cols) edgeOf ∙ length-take-le j cols (omega arith) in
-      rw (add-one j, take-suc cols j 0 h, map-append edgeOf (take j cols) (getD cols j 0 ∷ []))
-      (both-stored (λ v. v ≡ last x (edgesOf (take j cols) ++ (edgeOf (getD cols j 0) ∷ []))) right (getD cols j 0) j x size (K j h)
-      (λ m. omega (arith, n, last-met x (edgeOf (getD cols j 0)) (edgesOf (take j cols)) m))
-      (λ f. omega (arith, L x k, last-past x (edgeOf (getD cols j 0)) (edgesOf (take j cols)) f)))
+      let front : List Edge = map (edgeAt tr) (take j columns) in
+      let n : length (map (edgeAt tr) (take j columns)) ≡ j = length-map (take j columns) (edgeAt tr) ∙ length-take-le j columns (omega arith) in
+      rw (add-one j, take-suc columns j 0 h, map-append (edgeAt tr) (take j columns) (getD columns j 0 ∷ []))
+      (both-stored (λ v. v ≡ last x (front ++ (up j ∷ []))) right (getD tr (getD columns j 0) 0) j x size (K j h .keyed)
+      (λ m. omega (arith, n, last-met x (up j) front m))
+      (λ f. omega (arith, L x k, last-past x (up j) front f)))
 
   -- the bars of the root corners
   pub spans-end : (n : ℕ) (left right : List ℕ) → 1 ≤ n → n ≤ 1024 → length left ≡ 1024 → length right ≡ 1024
-      → ((x : ℕ) → x < 1024 → getD left x 0 ≡ first x (edgesOf cols)) → ((x : ℕ) → x < 1024 → getD right x 0 ≡ last x (edgesOf cols))
-      → Spans n (edgesOf cols) (set left 0 0) (set right (n - 1) (length cols - 1))
+      → ((x : ℕ) → x < 1024 → getD left x 0 ≡ first x us) → ((x : ℕ) → x < 1024 → getD right x 0 ≡ last x us)
+      → Spans n us (set left 0 0) (set right (n - 1) (length columns - 1))
   spans-end n left right h k p q L R = record {
-    lefts = λ x i. stored (λ v. v ≡ choose (ℕ-discrete x 0) 0 (first x (edgesOf cols))) left 0 0 x (omega arith) (λ e. sym (choose-yes (ℕ-discrete x 0) _ e)) (λ e. L x (omega arith) ∙ sym (choose-no (ℕ-discrete x 0) _ e));
+    lefts = λ x i. stored (λ v. v ≡ choose (ℕ-discrete x 0) 0 (first x us)) left 0 0 x (omega arith) (λ e. sym (choose-yes (ℕ-discrete x 0) _ e)) (λ e. L x (omega arith) ∙ sym (choose-no (ℕ-discrete x 0) _ e));
     rights = λ x i.
-        stored (λ v. v ≡ choose (ℕ-discrete x (n - 1)) (length (edgesOf cols) - 1) (last x (edgesOf cols))) right (n - 1) (length cols - 1) x (omega arith)
-        (λ e. omega (arith, length-map cols edgeOf, choose-yes (ℕ-discrete x (n - 1)) {x = length (edgesOf cols) - 1} (last x (edgesOf cols)) e))
+        stored (λ v. v ≡ choose (ℕ-discrete x (n - 1)) (length us - 1) (last x us)) right (n - 1) (length columns - 1) x (omega arith)
+        (λ e. omega (arith, length-map columns (edgeAt tr), choose-yes (ℕ-discrete x (n - 1)) {x = length us - 1} (last x us) e))
         (λ e. R x (omega arith) ∙ sym (choose-no (ℕ-discrete x (n - 1)) _ e));
   }

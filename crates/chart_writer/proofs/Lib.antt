@@ -1,9 +1,5 @@
 pub mod Below
-pub mod Merging
-pub mod Listing
-pub mod Search
 pub mod Placing
 pub mod Extents
-pub mod Listed
 pub mod Runs
 pub mod Writing

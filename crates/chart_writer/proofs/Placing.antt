@@ -1,40 +1,46 @@
 -- The column of each edge: one column at a time, from the last to the first, is stored at its upright's place; and the stroke of an edge by that column.
 use mathlib.Core.Path.{_≡_, refl, sym, _∙_, ap}
-use mathlib.Core.List.{List, [], _∷_}
-use Prim.Native.Nat.{ℕ, suc, _+_, _<_, _≤_}
+use mathlib.Core.List.{List, [], _∷_, map}
+use Prim.Native.Nat.{ℕ, zero, suc, _+_, _<_, _≤_}
 use native.Mathlib.Decide.{ℕ-discrete}
 use native.Mathlib.Omega.{arith}
-use lib.ListN.{length, drop, getD, set, drop-of-length-le}
-use lib.Seq.{drop-cons}
-use Rattle.polygon.specs.Lists.{choose}
-use Rattle.polygon.specs.Order.{same?}
+use lib.ListN.{length, take, drop, getD, set, length-map, drop-of-length-le, List·getD-map}
+use lib.Seq.{drop-cons, length-take-le, getD-take, getD-set-same, getD-set-other}
+use Rattle.polygon.specs.Lists.{choose, All, all-nil, all-cons, sorted-nil, sorted-cons}
+use Rattle.polygon.specs.Polygon.{Edge}
+use Rattle.polygon.specs.Order.{same?, Distinct}
 use Rattle.polygon.proofs.Lists.{choose-yes, choose-no}
-use Rattle.polygon.proofs.Order.{low-of, high-of}
+use Rattle.polygon.proofs.Sort.{distinct-of}
 use Rattle.keys.specs.Keys.{edgeOf, edgesOf}
+use Rattle.keys.proofs.Crosses.{all-at, at-all}
+use Rattle.tree.specs.Shows.{edgeAt}
 use Rattle.chart.specs.Chart.{upright, level, stroke}
-use Rattle.chart_writer.specs.Tables.{Rising, column, strokeOf}
-use Rattle.chart_writer.proofs.Search.{stored, place-same}
+use Rattle.chart_writer.specs.Tables.{Edges, Among, column, strokeOf}
+
+-- what holds of the value stored and of the values at the other places
+pub stored : (P : ℕ → Type 0) (l : List ℕ) (i v j : ℕ) → i < length l → (j ≡ i → P v) → ((j ≡ i → ⊥) → P (getD l j 0)) → P (getD (set l i v) j 0)
+stored P l i v j h f g = go (ℕ-discrete j i)
+  where
+    go : Dec (j ≡ i) → P (getD (set l i v) j 0)
+    go (yes e) = rw (e, getD-set-same l i v 0 h) (f e)
+    go (no e) = rw (getD-set-other l i j v 0 e) (g e)
 
 -- the columns from j on are stored
-abbrev pub Placed : List ℕ → List ℕ → List ℕ → ℕ → Type 0
-Placed es cols columns j = (i : ℕ) → i < length es → getD columns i 0 ≡ column j (drop j cols) (getD es i 0)
+abbrev pub Placed : List ℕ → List ℕ → ℕ → Type 0
+Placed columns stands j = (i : ℕ) → i < 2045 → getD stands i 0 ≡ column j (drop j columns) i
 
-module _ (es cols columns : List ℕ) (fits : length es ≤ length columns) where
-  pub placed-begin : ((i : ℕ) → i < length columns → getD columns i 0 ≡ 65535) → Placed es cols columns (length cols)
+module _ (columns stands : List ℕ) where
+  pub placed-begin : ((i : ℕ) → i < 2045 → getD stands i 0 ≡ 65535) → Placed columns stands (length columns)
   unfolding column
-  placed-begin z i h = rw (drop-of-length-le cols {i = length cols} (omega arith)) (z i (omega arith))
+  placed-begin z i h = rw (drop-of-length-le columns {i = length columns} (omega arith)) (z i h)
 
-  pub placed-next : Rising es → (j r : ℕ) → j < length cols → r < length es → getD es r 0 ≡ getD cols j 0 → Placed es cols columns (suc j) → Placed es cols (set columns r j) j
+  pub placed-next : (j : ℕ) → j < length columns → getD columns j 0 < length stands → Placed columns stands (suc j) → Placed columns (set stands (getD columns j 0) j) j
   unfolding column
-  placed-next R j r h k e P i q =
-      rw (drop-cons cols j 0 h)
-      (stored (λ v. v ≡ choose (ℕ-discrete (getD es i 0) (getD cols j 0)) j (column (suc j) (drop (suc j) cols) (getD es i 0))) columns r j i (omega arith)
-      (λ p. sym (choose-yes (ℕ-discrete (getD es i 0) (getD cols j 0)) _ (rw p e)))
-      (λ p. P i q ∙ sym (choose-no (ℕ-discrete (getD es i 0) (getD cols j 0)) _ (λ f. p (place-same es R i r q k (f ∙ sym e))))))
-
--- a key's edge says which key it is
-pub same-key : (k x : ℕ) → edgeOf k ≡ edgeOf x → k ≡ x
-same-key k x e = omega (arith, low-of e, high-of e)
+  placed-next j h k P i q =
+      rw (drop-cons columns j 0 h)
+      (stored (λ v. v ≡ choose (ℕ-discrete i (getD columns j 0)) j (column (suc j) (drop (suc j) columns) i)) stands (getD columns j 0) j i k
+      (λ p. sym (choose-yes (ℕ-discrete i (getD columns j 0)) _ p))
+      (λ p. P i q ∙ sym (choose-no (ℕ-discrete i (getD columns j 0)) _ p)))
 
 -- the stroke by the column, and the chart's
 pub level-stroke : (k c : ℕ) → c ≡ 65535 → strokeOf k c ≡ level (edgeOf k)
@@ -45,12 +51,35 @@ pub upright-stroke : (k c : ℕ) → (c ≡ 65535 → ⊥) → strokeOf k c ≡ 
 unfolding strokeOf
 upright-stroke k c f = choose-no (ℕ-discrete c 65535) _ f
 
-pub stroke-is : (k j : ℕ) (cols : List ℕ) → j + length cols ≤ 65535 → strokeOf k (column j cols k) ≡ stroke j (edgesOf cols) (edgeOf k)
+-- the places ps hold other edges than the place i, but for i itself
+stroke-among : (tr : List ℕ) (i j : ℕ) {ps : List ℕ} → All (λ p. edgeAt tr i ≡ edgeAt tr p → i ≡ p) ps → j + length ps ≤ 65535
+    → strokeOf (getD tr i 0) (column j ps i) ≡ stroke j (map (edgeAt tr) ps) (edgeAt tr i)
 unfolding column stroke
-stroke-is k j [] h = level-stroke k 65535 refl
-stroke-is k j (x ∷ cols) h = go (ℕ-discrete k x) (same? (edgeOf k) (edgeOf x)) (stroke-is k (suc j) cols (omega arith))
+stroke-among tr i j all-nil h = level-stroke (getD tr i 0) 65535 refl
+stroke-among tr i j {ps = p ∷ ps} (all-cons f a) h = go (ℕ-discrete i p) (same? (edgeAt tr i) (edgeAt tr p)) (stroke-among tr i (suc j) a (omega arith))
   where
-    go : (d : Dec (k ≡ x)) (s : Dec (edgeOf k ≡ edgeOf x)) → strokeOf k (column (suc j) cols k) ≡ stroke (suc j) (edgesOf cols) (edgeOf k)
-        → strokeOf k (choose d j (column (suc j) cols k)) ≡ choose s (upright (edgeOf k) j) (stroke (suc j) (edgesOf cols) (edgeOf k))
-    go (yes d) s e = rw (choose-yes (yes d) (column (suc j) cols k) d, choose-yes s (stroke (suc j) (edgesOf cols) (edgeOf k)) (ap edgeOf d)) (upright-stroke k j (λ q. omega arith))
-    go (no d) s e = rw (choose-no (no d) j d, choose-no s (upright (edgeOf k) j) (λ q. d (same-key k x q))) e
+    go : (d : Dec (i ≡ p)) (s : Dec (edgeAt tr i ≡ edgeAt tr p)) → strokeOf (getD tr i 0) (column (suc j) ps i) ≡ stroke (suc j) (map (edgeAt tr) ps) (edgeAt tr i)
+        → strokeOf (getD tr i 0) (choose d j (column (suc j) ps i)) ≡ choose s (upright (edgeAt tr i) j) (stroke (suc j) (map (edgeAt tr) ps) (edgeAt tr i))
+    go (yes d) s e = rw (choose-yes (yes d) (column (suc j) ps i) d, choose-yes s (stroke (suc j) (map (edgeAt tr) ps) (edgeAt tr i)) (ap (edgeAt tr) d)) (upright-stroke (getD tr i 0) j (λ q. omega arith))
+    go (no d) s e = rw (choose-no (no d) j d, choose-no s (upright (edgeAt tr i) j) (λ q. d (f q))) e
+
+-- different edges stand at different places
+place-same : (d : Edge) {l : List Edge} → Distinct l → (i j : ℕ) → i < length l → j < length l → getD l i d ≡ getD l j d → i ≡ j
+place-same d sorted-nil i j h k e = absurd (omega arith)
+place-same d (sorted-cons a s) zero zero h k e = refl
+place-same d (sorted-cons a s) zero (suc j) h k e = absurd (at-all d a j (omega arith) (sym e))
+place-same d (sorted-cons a s) (suc i) zero h k e = absurd (at-all d a i (omega arith) e)
+place-same d (sorted-cons a s) (suc i) (suc j) h k e = ap suc (place-same d s i j (omega arith) (omega arith) e)
+
+module _ (m : ℕ) (tr columns : List ℕ) (fits : m ≤ length tr) (E : Edges m tr) (A : Among m columns) where
+  pub edge-listed : (i : ℕ) → i < m → getD (edgesOf (take m tr)) i (edgeOf 0) ≡ edgeAt tr i
+  edge-listed i h = List·getD-map edgeOf (take m tr) i 0 ∙ ap edgeOf (getD-take m tr i 0 h)
+
+  pub edges-count : length (edgesOf (take m tr)) ≡ m
+  edges-count = length-map (take m tr) edgeOf ∙ length-take-le m tr fits
+
+  pub stroke-is : length columns ≤ 65535 → (i : ℕ) → i < m → strokeOf (getD tr i 0) (column 0 columns i) ≡ stroke 0 (map (edgeAt tr) columns) (edgeAt tr i)
+  stroke-is w i h =
+      stroke-among tr i 0
+      (all-at 0 columns (λ j k e. place-same (edgeOf 0) (distinct-of (E .ascending)) i (getD columns j 0) (omega (arith, edges-count)) (omega (arith, edges-count, A j k)) (edge-listed i h ∙ (e ∙ sym (edge-listed (getD columns j 0) (A j k))))))
+      (omega arith)

@@ -90,24 +90,24 @@ module _ (out : List ℕ) (at k c : ℕ) where
       rw (p, add-one at, upright-stroke k c f) (sym (sets-append (bytes16 (k / 1024) ++ bytes16 (k % 1024)) (bytes16 c) (set out at 1) (suc at)))
 
 -- the bytes that one more stroke takes
-module _ (es columns : List ℕ) (i : ℕ) where
-  pub level-more : getD columns i 0 ≡ 65535 → length (strokeRun es columns (i + 1)) ≡ length (strokeRun es columns i) + 5
-  level-more e = rw (add-one i) (run-size strokeBytes (strokeAt es columns) i ∙ rw (level-size (getD es i 0) (getD columns i 0) e))
+module _ (tr stands : List ℕ) (i : ℕ) where
+  pub level-more : getD stands i 0 ≡ 65535 → length (strokeRun tr stands (i + 1)) ≡ length (strokeRun tr stands i) + 5
+  level-more e = rw (add-one i) (run-size strokeBytes (strokeAt tr stands) i ∙ rw (level-size (getD tr i 0) (getD stands i 0) e))
 
-  pub upright-more : (getD columns i 0 ≡ 65535 → ⊥) → length (strokeRun es columns (i + 1)) ≡ length (strokeRun es columns i) + 7
-  upright-more f = rw (add-one i) (run-size strokeBytes (strokeAt es columns) i ∙ rw (upright-size (getD es i 0) (getD columns i 0) f))
+  pub upright-more : (getD stands i 0 ≡ 65535 → ⊥) → length (strokeRun tr stands (i + 1)) ≡ length (strokeRun tr stands i) + 7
+  upright-more f = rw (add-one i) (run-size strokeBytes (strokeAt tr stands) i ∙ rw (upright-size (getD tr i 0) (getD stands i 0) f))
 
-pub strokes-none : (es columns : List ℕ) → 0 ≡ length (strokeRun es columns 0)
-strokes-none es columns = rw (run-none strokeBytes (strokeAt es columns))
+pub strokes-none : (tr stands : List ℕ) → 0 ≡ length (strokeRun tr stands 0)
+strokes-none tr stands = rw (run-none strokeBytes (strokeAt tr stands))
 
 -- the strokes stored from a byte on, as far as a place
-module _ (es columns : List ℕ) where
-  pub strokes-begin : (from : ℕ) (out : List ℕ) → (from ≡ from + length (strokeRun es columns 0)) × (out ≡ sets out from (strokeRun es columns 0))
-  strokes-begin from out = rw (run-none strokeBytes (strokeAt es columns)) (omega arith, refl)
+module _ (tr stands : List ℕ) where
+  pub strokes-begin : (from : ℕ) (out : List ℕ) → (from ≡ from + length (strokeRun tr stands 0)) × (out ≡ sets out from (strokeRun tr stands 0))
+  strokes-begin from out = rw (run-none strokeBytes (strokeAt tr stands)) (omega arith, refl)
 
   pub stroke-stored : (out : List ℕ) (from i : ℕ) (before after : List ℕ) (at next : ℕ)
-      → at ≡ from + length (strokeRun es columns i) → before ≡ sets out from (strokeRun es columns i)
-      → after ≡ sets before at (strokeBytes (strokeAt es columns i)) → next ≡ at + length (strokeBytes (strokeAt es columns i))
-      → (next ≡ from + length (strokeRun es columns (i + 1))) × (after ≡ sets out from (strokeRun es columns (i + 1)))
+      → at ≡ from + length (strokeRun tr stands i) → before ≡ sets out from (strokeRun tr stands i)
+      → after ≡ sets before at (strokeBytes (strokeAt tr stands i)) → next ≡ at + length (strokeBytes (strokeAt tr stands i))
+      → (next ≡ from + length (strokeRun tr stands (i + 1))) × (after ≡ sets out from (strokeRun tr stands (i + 1)))
   stroke-stored out from i before after at next p e f q =
-      (rw (add-one i) (omega (arith, run-size strokeBytes (strokeAt es columns) i)), f ∙ rw (e, p, add-one i) (run-stored strokeBytes (strokeAt es columns) out from i))
+      (rw (add-one i) (omega (arith, run-size strokeBytes (strokeAt tr stands) i)), f ∙ rw (e, p, add-one i) (run-stored strokeBytes (strokeAt tr stands) out from i))

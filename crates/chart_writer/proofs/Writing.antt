@@ -3,7 +3,7 @@ use mathlib.Core.Path.{_≡_, ap, sym, _∙_}
 use mathlib.Core.List.{List, _++_, map, flatMap}
 use Prim.Native.Nat.{ℕ, suc, _+_, _*_, _-_, _≤_, _<_}
 use native.Mathlib.Omega.{arith}
-use lib.ListN.{length, getD, length-map, length-append, List·getD-map}
+use lib.ListN.{length, take, getD, length-map, length-append}
 use lib.Seq.{sets}
 use Rattle.polygon.specs.Lists.{below}
 use Rattle.polygon.specs.Polygon.{Edge}
@@ -12,22 +12,13 @@ use Rattle.codec.specs.Answer.{Answer, refusal, written, write}
 use Rattle.codec.proofs.Stores.{sets-append, sets-front}
 use Rattle.codec.proofs.Answers.{written-short, written-fits}
 use Rattle.keys.specs.Keys.{edgeOf, edgesOf}
+use Rattle.tree.specs.Shows.{edgeAt}
 use Rattle.chart.specs.Chart.{stroke, Chart, layout, barsOf}
 use Rattle.chart.specs.Bytes.{barBytes, strokeBytes, bytesOf}
 use Rattle.chart.proofs.Sizes.{bars-count, bars-size}
-use Rattle.chart_writer.specs.Tables.{Columns, Spans, RowsAre, barAt, strokeAt, barRun, strokeRun}
+use Rattle.chart_writer.specs.Tables.{Uprights, Sizes, Edges, Among, Laid, Columns, Spans, RowsAre, barAt, strokeAt, barRun, strokeRun}
 use Rattle.chart_writer.proofs.Below.{map-places, map-below}
-use Rattle.chart_writer.proofs.Placing.{stroke-is}
-
--- the strokes
-strokes-are : (es cols columns : List ℕ) → length cols ≤ 65535 → Columns es cols columns → strokeRun es columns (length es) ≡ flatMap strokeBytes (map (stroke 0 (edgesOf cols)) (edgesOf es))
-unfolding below
-strokes-are es cols columns h C =
-    let n : length es ≡ length (edgesOf es) = sym (length-map es edgeOf) in
-    ap (flatMap strokeBytes)
-    (rw n
-    (map-places (stroke 0 (edgesOf cols)) (strokeAt es columns) (edgeOf 0) (edgesOf es) 0
-    (λ i k. let j : i < length es = omega arith in let e : 0 + i ≡ i = omega arith in rw (e, List·getD-map edgeOf es i 0, C i j) (stroke-is (getD es i 0) 0 cols (omega arith)))))
+use Rattle.chart_writer.proofs.Placing.{edge-listed, edges-count, stroke-is}
 
 module _ (n D : ℕ) (rs : List ℕ) (us es : List Edge) (pos : 1 ≤ n) where
   abbrev C : Chart
@@ -72,18 +63,38 @@ module _ (n D : ℕ) (rs : List ℕ) (us es : List Edge) (pos : 1 ≤ n) where
         rw (written-fits (bytesOf C) out k, ← fields-size, q, b, ← fields-are, sets-front (bytesOf C) out k)
 
 -- the same by the tables that the code holds
-module _ (n D : ℕ) (rs es cols columns out : List ℕ) (pos : 1 ≤ n) (small : length cols ≤ 65535) (K : Columns es cols columns) (z : ℕ) (size : z ≡ length (strokeRun es columns (length es))) where
-  strokes-of : strokeRun es columns (length es) ≡ flatMap strokeBytes (C n D rs (edgesOf cols) (edgesOf es) pos .strokes)
-  unfolding layout
-  strokes-of = strokes-are es cols columns small K
+module _ (n height : ℕ) (tr columns rows : List ℕ) (Z : Sizes n height tr columns rows) (E : Edges (2 * n - 3) tr) (A : Among (2 * n - 3) columns) where
+  abbrev m : ℕ
+  m = 2 * n - 3
 
-  pub chart-short : length out < 6 + 6 * n + z → refusal 8 out ≡ written (write (bytesOf (layout (n - 1) D rs (edgesOf cols) (edgesOf es)))) out
-  chart-short k = too-short n D rs (edgesOf cols) (edgesOf es) pos (strokeRun es columns (length es)) out strokes-of (omega arith)
+  abbrev run : List ℕ → List ℕ
+  run stands = strokeRun tr stands m
 
-  pub chart-written : (rows left right o : List ℕ) → RowsAre n rs rows → Spans n (edgesOf cols) left right → 6 + 6 * n + z ≤ length out
-      → o ≡ sets (sets (sets (sets (sets out 0 (bytes16 (2 * D + 1))) 2 (bytes16 (length cols))) 4 (bytes16 n)) 6 (barRun rows left right n)) (6 + 6 * n) (strokeRun es columns (length es))
-      → _≡_ {A = Answer} (record { number = 0; size = 6 + 6 * n + z; bytes = o }) (written (write (bytesOf (layout (n - 1) D rs (edgesOf cols) (edgesOf es)))) out)
-  chart-written rows left right o R S fits e =
-      rw size
-      (finished n D rs (edgesOf cols) (edgesOf es) pos (strokeRun es columns (length es)) out strokes-of (barRun rows left right n) o (bars-are n D rs (edgesOf cols) (edgesOf es) pos rows left right R S) (omega arith)
-      (rw (length-map cols edgeOf) e))
+  pub uprights-keyed : Uprights tr columns
+  uprights-keyed j h = record { listed = omega (arith, A j h, Z .edges); early = omega (arith, A j h, Z .most); keyed = E .keyed (getD columns j 0) (A j h) }
+
+  strokes-are : (stands : List ℕ) → Columns columns stands → run stands ≡ flatMap strokeBytes (map (stroke 0 (map (edgeAt tr) columns)) (edgesOf (take m tr)))
+  unfolding below
+  strokes-are stands K =
+      let e : m ≡ length (edgesOf (take m tr)) = sym (edges-count m tr columns (Z .edges) E A) in
+      ap (flatMap strokeBytes)
+      (ap (λ (k : ℕ). map (strokeAt tr stands) (below k)) e
+      ∙ map-places (stroke 0 (map (edgeAt tr) columns)) (strokeAt tr stands) (edgeOf 0) (edgesOf (take m tr)) 0
+      (λ i k. let h : i < m = omega arith in let q : 0 + i ≡ i = omega arith in rw (q, edge-listed m tr columns (Z .edges) E A i h, K i (omega (arith, Z .most))) (stroke-is m tr columns (Z .edges) E A (omega (arith, Z .few)) i h)))
+
+  module _ (stands out : List ℕ) (K : Columns columns stands) (z : ℕ) (size : z ≡ length (run stands)) {D : ℕ} {rs : List ℕ} {us es : List Edge} (L : Laid n height tr columns rows D rs us es) where
+    strokes-of : run stands ≡ flatMap strokeBytes (layout (n - 1) D rs us es .strokes)
+    unfolding layout
+    strokes-of = rw (L .uprights, L .edges) (strokes-are stands K)
+
+    pub chart-short : length out < 6 + 6 * n + z → refusal 8 out ≡ written (write (bytesOf (layout (n - 1) D rs us es))) out
+    chart-short k = too-short n D rs us es (omega (arith, Z .least)) (run stands) out strokes-of (omega arith)
+
+    pub chart-written : (left right o : List ℕ) → Spans n (map (edgeAt tr) columns) left right → 6 + 6 * n + z ≤ length out
+        → o ≡ sets (sets (sets (sets (sets out 0 (bytes16 height)) 2 (bytes16 (length columns))) 4 (bytes16 n)) 6 (barRun rows left right n)) (6 + 6 * n) (run stands)
+        → _≡_ {A = Answer} (record { number = 0; size = 6 + 6 * n + z; bytes = o }) (written (write (bytesOf (layout (n - 1) D rs us es))) out)
+    chart-written left right o S fits e =
+        let w : length us ≡ length columns = ap length (L .uprights) ∙ length-map columns (edgeAt tr) in
+        rw size
+        (finished n D rs us es (omega (arith, Z .least)) (run stands) out strokes-of (barRun rows left right n) o (bars-are n D rs us es (omega (arith, Z .least)) rows left right (L .corners) (rw (L .uprights) S)) (omega arith)
+        (rw (w, ← L .levels) e))

@@ -1,45 +1,60 @@
 -- How the code holds a chart: tables over its edges, its columns and its corners. For the contracts.
 use mathlib.Core.Path.{_≡_}
 use mathlib.Core.List.{List, [], _∷_, _++_, map, flatMap}
-use Prim.Native.Nat.{ℕ, suc, _+_, _-_, _/_, _≤_, _<_}
+use Prim.Native.Nat.{ℕ, suc, _+_, _*_, _-_, _≤_, _<_}
 use native.Mathlib.Decide.{ℕ-discrete}
-use lib.ListN.{length, getD}
+use lib.ListN.{length, take, getD}
 use Rattle.polygon.specs.Lists.{choose, below}
-use Rattle.polygon.specs.Polygon.{Edge}
-use Rattle.keys.specs.Keys.{edgeOf}
+use Rattle.polygon.specs.Polygon.{Edge, Ascending}
+use Rattle.keys.specs.Keys.{edgeOf, edgesOf}
+use Rattle.tree.specs.Shows.{edgeAt}
 use Rattle.chart.specs.Chart.{Bar, Stroke, upright, level, first, last}
 use Rattle.chart.specs.Bytes.{barBytes, strokeBytes}
 
--- the numbers of a table ascend
-abbrev pub Rising : List ℕ → Type 0
-Rising es = (i j : ℕ) → i < j → j < length es → getD es i 0 < getD es j 0
+-- the first m numbers of a table are keys of edges of at most 1,024 corners
+abbrev pub Keyed : ℕ → List ℕ → Type 0
+Keyed m tr = (i : ℕ) → i < m → getD tr i 0 < 1047552
 
--- they are keys of edges of at most 1,024 corners
-abbrev pub Keyed : List ℕ → Type 0
-Keyed ks = (i : ℕ) → i < length ks → getD ks i 0 < 1047552
+-- each column's upright stands at a place of the table, as such a key
+pub record Upright (tr columns : List ℕ) (j : ℕ) : Type 0 where
+  pub listed : getD columns j 0 < length tr
+  pub early : getD columns j 0 < 2045
+  pub keyed : getD tr (getD columns j 0) 0 < 1047552
 
--- k stands in the table from lo on, before hi
-abbrev pub Stands : List ℕ → ℕ → ℕ → ℕ → Type 0
-Stands es lo hi k = (p : ℕ) × (lo ≤ p) × (p < hi) × (getD es p 0 ≡ k)
+abbrev pub Uprights : List ℕ → List ℕ → Type 0
+Uprights tr columns = (j : ℕ) → j < length columns → Upright tr columns j
 
--- each of the columns' uprights is one of the edges
-abbrev pub Drawn : List ℕ → List ℕ → Type 0
-Drawn es cols = (j : ℕ) → j < length cols → Stands es 0 (length es) (getD cols j 0)
+-- the sizes of a chart of n corners and of the tables of it
+pub record Sizes (n height : ℕ) (tr columns rows : List ℕ) : Type 0 where
+  pub least : 3 ≤ n
+  pub most : n ≤ 1024
+  pub tall : height < 65536
+  pub edges : 2 * n - 3 ≤ length tr
+  pub corners : n ≤ length rows
+  pub some : 1 ≤ length columns
+  pub few : length columns < 65535
 
--- the edges whose lower corner is a stand from start a on, before start (a + 1)
-pub record Starts (es start : List ℕ) : Type 0 where
-  pub from : (i : ℕ) → i < length es → getD start (getD es i 0 / 1024) 0 ≤ i
-  pub upto : (i : ℕ) → i < length es → i < getD start (getD es i 0 / 1024 + 1) 0
-  pub within : (a : ℕ) → a < 1024 → getD start a 0 ≤ length es
+-- the first m numbers are keys of different edges, ascending
+pub record Edges (m : ℕ) (tr : List ℕ) : Type 0 where
+  pub keyed : Keyed m tr
+  pub ascending : Ascending (edgesOf (take m tr))
 
--- the first of the columns ks whose upright has the key k, the first of them being column j; 65,535 for none
+-- the upright of each column stands at one of the first m places
+abbrev pub Among : ℕ → List ℕ → Type 0
+Among m columns = (j : ℕ) → j < length columns → getD columns j 0 < m
+
+-- a table of k places that all hold v
+abbrev pub Filled : ℕ → ℕ → List ℕ → Type 0
+Filled k v table = (length table ≡ k) × ((x : ℕ) → x < k → getD table x 0 ≡ v)
+
+-- the first of the columns ps whose upright stands at the place i, the first of them being column j; 65,535 for none
 unfoldable pub column : ℕ → List ℕ → ℕ → ℕ
-column j [] k = 65535
-column j (x ∷ ks) k = choose (ℕ-discrete k x) j (column (suc j) ks k)
+column j [] i = 65535
+column j (p ∷ ps) i = choose (ℕ-discrete i p) j (column (suc j) ps i)
 
--- a table that has it for each edge
-abbrev pub Columns : List ℕ → List ℕ → List ℕ → Type 0
-Columns es cols columns = (i : ℕ) → i < length es → getD columns i 0 ≡ column 0 cols (getD es i 0)
+-- a table that has it for each place of an edge
+abbrev pub Columns : List ℕ → List ℕ → Type 0
+Columns columns stands = (i : ℕ) → i < 2045 → getD stands i 0 ≡ column 0 columns i
 
 -- the stroke of the edge with the key k, by that column
 unfoldable pub strokeOf : ℕ → ℕ → Stroke
@@ -50,14 +65,14 @@ abbrev pub barAt : List ℕ → List ℕ → List ℕ → ℕ → Bar
 barAt rows left right x = record { row = getD rows x 0; left = getD left x 0; right = getD right x 0 }
 
 abbrev pub strokeAt : List ℕ → List ℕ → ℕ → Stroke
-strokeAt es columns i = strokeOf (getD es i 0) (getD columns i 0)
+strokeAt tr stands i = strokeOf (getD tr i 0) (getD stands i 0)
 
 -- the bytes of the first n of them
 abbrev pub barRun : List ℕ → List ℕ → List ℕ → ℕ → List ℕ
 barRun rows left right n = flatMap barBytes (map (barAt rows left right) (below n))
 
 abbrev pub strokeRun : List ℕ → List ℕ → ℕ → List ℕ
-strokeRun es columns m = flatMap strokeBytes (map (strokeAt es columns) (below m))
+strokeRun tr stands m = flatMap strokeBytes (map (strokeAt tr stands) (below m))
 
 -- left and right have the first and the last column of the bar of each of n corners, whose uprights are us
 pub record Spans (n : ℕ) (us : List Edge) (left right : List ℕ) : Type 0 where
@@ -67,3 +82,10 @@ pub record Spans (n : ℕ) (us : List Edge) (left right : List ℕ) : Type 0 whe
 -- rows has the row of each of n corners: 0, then rs, then 0
 abbrev pub RowsAre : ℕ → List ℕ → List ℕ → Type 0
 RowsAre n rs rows = (x : ℕ) → x < n → getD rows x 0 ≡ getD (0 ∷ (rs ++ (0 ∷ []))) x 0
+
+-- the tables are those of a chart of D levels with the rows rs of its inner corners, the columns us and the edges es
+pub record Laid (n height : ℕ) (tr columns rows : List ℕ) (D : ℕ) (rs : List ℕ) (us es : List Edge) : Type 0 where
+  pub levels : height ≡ 2 * D + 1
+  pub corners : RowsAre n rs rows
+  pub uprights : us ≡ map (edgeAt tr) columns
+  pub edges : es ≡ edgesOf (take (2 * n - 3) tr)

@@ -1,37 +1,42 @@
-// The first and the last column of each corner.
+// The first and the last column of each corner, and the column of each edge.
 ghost use mathlib.Core.Path.{_≡_};
+ghost use mathlib.Core.List.{map};
 ghost use Prim.Native.Nat.{ℕ, _<_, _≤_};
 ghost use lib.ListN.{length, getD};
-ghost use Rattle.keys.specs.Keys.{edgesOf};
+ghost use Rattle.tree.specs.Shows.{edgeAt};
 ghost use Rattle.chart.specs.Chart.{first, last};
-ghost use Rattle.chart_writer.specs.Tables.{Keyed, Spans};
+ghost use Rattle.chart_writer.specs.Tables.{Uprights, Filled, Columns, Spans};
 use keys::high;
 use keys::low;
 
-// From the last column to the first, so that a corner's first column is stored last.
-fn lefts(cols: &[u32], left: &mut [u16])
-    requires { ⌜ Keyed (now cols) ⌝ }
-    requires { ⌜ (length (now cols) < 65536) × (length (now left) ≡ 1024) × ((x : ℕ) → x < 1024 → getD (now left) x 0 ≡ length (now cols)) ⌝ }
-    ensures { λ _. ⌜ ((x : ℕ) → x < 1024 → getD (now (left .exit)) x 0 ≡ first x (edgesOf (now (cols .entry)))) ⌝ }
+// From the last column to the first, so that the first column of a corner, and that of an edge, is stored last. An edge that is not upright keeps 65,535.
+fn lefts(tree: &[u32], columns: &[u16], left: &mut [u16], stands: &mut [u16])
+    requires uprights { ⌜ Uprights (now tree) (now columns) × (length (now columns) < 65536) ⌝ }
+    requires left { ⌜ Filled 1024 (length (now columns)) (now left) ⌝ }
+    requires none { ⌜ Filled 2045 65535 (now stands) ⌝ }
+    ensures lefts { λ _. ⌜ ((x : ℕ) → x < 1024 → getD (now (left .exit)) x 0 ≡ first x (map (edgeAt (now (tree .entry))) (now (columns .entry)))) ⌝ }
+    ensures columns { λ _. ⌜ Columns (now (columns .entry)) (now (stands .exit)) ⌝ }
 {
-    let mut j = cols.len();
+    let mut j = columns.len();
     while j > 0 {
         j -= 1;
-        let k = cols[j];
+        let e = columns[j] as usize;
+        let k = tree[e];
+        stands[e] = j as u16;
         left[low(k)] = j as u16;
         left[high(k)] = j as u16;
     }
 }
 
 // From the first column to the last.
-fn rights(cols: &[u32], right: &mut [u16])
-    requires { ⌜ Keyed (now cols) ⌝ }
-    requires { ⌜ (length (now cols) < 65536) × (length (now right) ≡ 1024) × ((x : ℕ) → x < 1024 → getD (now right) x 0 ≡ 0) ⌝ }
-    ensures { λ _. ⌜ ((x : ℕ) → x < 1024 → getD (now (right .exit)) x 0 ≡ last x (edgesOf (now (cols .entry)))) ⌝ }
+fn rights(tree: &[u32], columns: &[u16], right: &mut [u16])
+    requires uprights { ⌜ Uprights (now tree) (now columns) × (length (now columns) < 65536) ⌝ }
+    requires none { ⌜ Filled 1024 0 (now right) ⌝ }
+    ensures { λ _. ⌜ ((x : ℕ) → x < 1024 → getD (now (right .exit)) x 0 ≡ last x (map (edgeAt (now (tree .entry))) (now (columns .entry)))) ⌝ }
 {
-    let mut j = 0;
-    while j < cols.len() {
-        let k = cols[j];
+    let mut j: usize = 0;
+    while j < columns.len() {
+        let k = tree[columns[j] as usize];
         right[low(k)] = j as u16;
         right[high(k)] = j as u16;
         j += 1;
@@ -39,15 +44,24 @@ fn rights(cols: &[u32], right: &mut [u16])
 }
 
 // "u's bar starts in the piece's first column and v's ends in its last": those of corners 0 and n - 1.
-pub fn spans(cols: &[u32], n: usize, left: &mut [u16], right: &mut [u16])
-    requires { ⌜ Keyed (now cols) ⌝ }
-    requires { ⌜ (1 ≤ n) × (n ≤ 1024) × (1 ≤ length (now cols)) × (length (now cols) < 65536) ⌝ }
-    requires { ⌜ (length (now left) ≡ 1024) × ((x : ℕ) → x < 1024 → getD (now left) x 0 ≡ length (now cols)) ⌝ }
-    requires { ⌜ (length (now right) ≡ 1024) × ((x : ℕ) → x < 1024 → getD (now right) x 0 ≡ 0) ⌝ }
-    ensures { λ _. ⌜ Spans n (edgesOf (now (cols .entry))) (now (left .exit)) (now (right .exit)) ⌝ }
+pub fn spans(
+    tree: &[u32],
+    columns: &[u16],
+    n: usize,
+    left: &mut [u16],
+    right: &mut [u16],
+    stands: &mut [u16],
+)
+    requires uprights { ⌜ Uprights (now tree) (now columns) × (1 ≤ length (now columns)) × (length (now columns) < 65536) ⌝ }
+    requires corners { ⌜ (1 ≤ n) × (n ≤ 1024) ⌝ }
+    requires left { ⌜ Filled 1024 (length (now columns)) (now left) ⌝ }
+    requires right { ⌜ Filled 1024 0 (now right) ⌝ }
+    requires none { ⌜ Filled 2045 65535 (now stands) ⌝ }
+    ensures spans { λ _. ⌜ Spans n (map (edgeAt (now (tree .entry))) (now (columns .entry))) (now (left .exit)) (now (right .exit)) ⌝ }
+    ensures columns { λ _. ⌜ Columns (now (columns .entry)) (now (stands .exit)) ⌝ }
 {
-    lefts(cols, left);
-    rights(cols, right);
+    lefts(tree, columns, left, stands);
+    rights(tree, columns, right);
     left[0] = 0;
-    right[n - 1] = (cols.len() - 1) as u16;
+    right[n - 1] = (columns.len() - 1) as u16;
 }

@@ -51,15 +51,15 @@ fn put_stroke(out: &mut [u8], at: usize, k: u32, c: u16) -> usize
 }
 
 // How many bytes the strokes of m edges take.
-pub fn strokes_size(columns: &[u16], m: usize) -> usize
-    requires { ⌜ (m ≤ length (now columns)) × (m ≤ 2045) ⌝ }
-    ensures { λ r. ⌜ ((es : List ℕ) → r ≡ length (strokeRun es (now (columns .entry)) m)) ⌝ }
+pub fn strokes_size(stands: &[u16], m: usize) -> usize
+    requires { ⌜ (m ≤ length (now stands)) × (m ≤ 2045) ⌝ }
+    ensures { λ r. ⌜ ((tr : List ℕ) → r ≡ length (strokeRun tr (now (stands .entry)) m)) ⌝ }
     ensures { λ r. ⌜ r ≤ 7 * m ⌝ }
 {
     let mut size = 0;
     let mut i = 0;
     while i < m {
-        if columns[i] == 65535 {
+        if stands[i] == 65535 {
             size += 5;
         } else {
             size += 7;
@@ -69,16 +69,16 @@ pub fn strokes_size(columns: &[u16], m: usize) -> usize
     size
 }
 
-// The stroke of each edge, from a byte on.
-pub fn put_strokes(out: &mut [u8], from: usize, edges: &[u32], columns: &[u16])
-    requires { ⌜ Keyed (now edges) ⌝ }
-    requires { ⌜ (length (now edges) ≤ length (now columns)) × (from + length (strokeRun (now edges) (now columns) (length (now edges))) ≤ length (now out)) ⌝ }
-    ensures { λ _. ⌜ now (out .exit) ≡ sets (now (out .entry)) from (strokeRun (now (edges .entry)) (now (columns .entry)) (length (now (edges .entry)))) ⌝ }
+// The strokes of m edges, from a byte on.
+pub fn put_strokes(out: &mut [u8], from: usize, m: usize, tree: &[u32], stands: &[u16])
+    requires keyed { ⌜ Keyed m (now tree) ⌝ }
+    requires room { ⌜ (m ≤ length (now tree)) × (m ≤ length (now stands)) × (from + length (strokeRun (now tree) (now stands) m) ≤ length (now out)) ⌝ }
+    ensures { λ _. ⌜ now (out .exit) ≡ sets (now (out .entry)) from (strokeRun (now (tree .entry)) (now (stands .entry)) m) ⌝ }
 {
     let mut at = from;
     let mut i = 0;
-    while i < edges.len() {
-        at = put_stroke(out, at, edges[i], columns[i]);
+    while i < m {
+        at = put_stroke(out, at, tree[i], stands[i]);
         i += 1;
     }
 }

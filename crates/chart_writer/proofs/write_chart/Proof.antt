@@ -1,59 +1,125 @@
--- The edges are listed, then written.
-use mathlib.Core.Path.{_∙_, ap, sym}
-use mathlib.Core.List.{List}
-use Prim.Native.Nat.{ℕ, _*_, _-_}
+-- The columns are found and the length is known before the first byte is written; then field by field, by the laws of Writing.antt.
+use mathlib.Core.Path.{_∙_}
+use Prim.Native.Nat.{ℕ}
 use borrow.Author.Needs.{needs}
 use native.Mathlib.Omega.{arith}
-use lib.ListN.{replicate}
-use lib.Seq.{length-take-le}
-use Rattle.polygon.specs.Polygon.{Edge}
-use Rattle.codec.specs.Answer.{written, write}
-use Rattle.keys.specs.Keys.{edgesOf}
-use Rattle.chart.specs.Chart.{layout}
-use Rattle.chart.specs.Bytes.{bytesOf}
-use Rattle.chart_writer.proofs.Listed.{front, front-fits, front-count, listed-rising, listed-keyed, listed-drawn}
+use lib.ListN.{length, length-replicate, getD-replicate}
+use Rattle.chart_writer.proofs.Writing.{uprights-keyed, chart-short, chart-written}
 use Rattle.chart_writer.proofs.write_chart.Statement.{statement}
 use Rattle.chart_writer.proofs.write_chart.Tie as tie
+
+cast-left : tie.Need-cast-left
+cast-left c = search needs
+
+slice-aggregate-spans : tie.Need-slice-aggregate-spans
+slice-aggregate-spans c = search needs
+
+slice-aggregate-spans-2 : tie.Need-slice-aggregate-spans-2
+slice-aggregate-spans-2 c = search needs
+
+slice-aggregate-spans-3 : tie.Need-slice-aggregate-spans-3
+slice-aggregate-spans-3 c = search needs
+
+spans-requires : tie.Need-spans-requires
+spans-requires c κs =
+    let start = c .before .before .before .before .before .before .before in
+    let w : ℕ = length (start .args .columns .now) in
+    let Z = start .pre .0 in (
+      (uprights-keyed (start .args .n) (start .args .height) (start .args .tree .now) (start .args .columns .now) (start .args .rows .now) Z (start .pre .1 .0) (start .pre .1 .1), Z .some, omega (arith, Z .few)),
+      (
+        (omega (arith, Z .least), Z .most),
+        (
+          (length-replicate 1024 w, λ x h. getD-replicate 1024 x w 0 h),
+          ((length-replicate {A = ℕ} 1024 0, λ x h. getD-replicate 1024 x 0 0 h), (length-replicate {A = ℕ} 2045 65535, λ i h. getD-replicate 2045 i 65535 0 h)),
+        ),
+      ),
+    )
 
 mul-m : tie.Need-mul-m
 mul-m c = search needs
 
 sub-m : tie.Need-sub-m
-sub-m c = omega (arith, c .before .before .before .before .pre .0 .full, c .before .before .before .before .pre .1 .1 .0)
+sub-m c = search needs
 
-array-borrow-prefix-listed : tie.Need-array-borrow-prefix-listed
-array-borrow-prefix-listed c = omega (arith, c .before .before .before .before .pre .0 .full, c .before .before .before .before .pre .1 .1 .0)
+mul-from : tie.Need-mul-from
+mul-from c = search needs
 
-slice-aggregate-list-edges : tie.Need-slice-aggregate-list-edges
-slice-aggregate-list-edges c = sym (length-take-le {A = ℕ} (2 * c .before .before .before .before .before .args .n - 3) (replicate 2045 0) (omega (arith, c .before .before .before .before .before .pre .0 .full, c .before .before .before .before .before .pre .1 .1 .0)))
+add-from : tie.Need-add-from
+add-from c = search needs
 
-list-edges-requires : tie.Need-list-edges-requires
-list-edges-requires c κs = (c .before .before .before .before .before .pre .0, (c .before .before .before .before .before .pre .1 .1 .0, omega (arith, length-take-le {A = ℕ} (2 * c .before .before .before .before .before .args .n - 3) (replicate 2045 0) (omega (arith, c .before .before .before .before .before .pre .0 .full, c .before .before .before .before .before .pre .1 .1 .0)), c .before .before .before .before .before .pre .0 .full)))
+slice-aggregate-strokes-size : tie.Need-slice-aggregate-strokes-size
+slice-aggregate-strokes-size c = search needs
 
-array-share-prefix-listed : tie.Need-array-share-prefix-listed
-array-share-prefix-listed c = front-fits (2 * c .before .before .before .before .before .before .before .args .n - 3) (c .before .list-edges .last .1 .1 .0) (replicate 2045 0) (c .before .list-edges .kept .1 .1 .0) (omega (arith, c .before .before .before .before .before .before .before .pre .0 .full, c .before .before .before .before .before .before .before .pre .1 .1 .0))
+strokes-size-requires : tie.Need-strokes-size-requires
+strokes-size-requires c κs = search needs
 
-slice-aggregate-write-layout : tie.Need-slice-aggregate-write-layout
-slice-aggregate-write-layout c = front-count (2 * c .before .before .before .before .before .before .before .before .args .n - 3) (c .before .before .list-edges .last .1 .1 .0) (replicate 2045 0) (c .before .before .list-edges .kept .1 .1 .0) (omega (arith, c .before .before .before .before .before .before .before .before .pre .0 .full, c .before .before .before .before .before .before .before .before .pre .1 .1 .0))
+add-size : tie.Need-add-size
+add-size c = search needs
 
-write-layout-requires : tie.Need-write-layout-requires
-write-layout-requires c κs =
-    let at-list-edges = c .before .before .before in
-    let start = at-list-edges .before .before .before .before .before .before in
-    rw
-    (front (2 * start .args .n - 3) (at-list-edges .list-edges .last .1 .1 .0) (replicate 2045 0) (at-list-edges .list-edges .kept .1 .1 .0) (omega (arith, start .pre .0 .full, start .pre .1 .1 .0)))
-    (listed-rising (start .args .n) (start .args .keys .now) (start .pre .0) (start .pre .1 .1 .0) (at-list-edges .list-edges .last .1 .1 .0) (at-list-edges .list-edges .ensures), (listed-keyed (start .args .n) (start .args .keys .now) (start .pre .0) (start .pre .1 .1 .0) (at-list-edges .list-edges .last .1 .1 .0) (at-list-edges .list-edges .ensures), (listed-drawn (start .args .n) (start .args .keys .now) (start .pre .0) (start .pre .1 .1 .0) (at-list-edges .list-edges .last .1 .1 .0) (at-list-edges .list-edges .ensures) (start .args .cols .now) (start .pre .1 .0), (omega (arith, start .pre .0 .full), start .pre .1 .1 .0, omega (arith, at-list-edges .list-edges .kept .1 .1 .0, length-take-le {A = ℕ} (2 * start .args .n - 3) (replicate 2045 0) (omega (arith, start .pre .0 .full, start .pre .1 .1 .0))), start .pre .1 .1 .1, start .pre .1 .1 .2, start .pre .1 .1 .3, start .pre .1 .1 .4))))
+returns : tie.Need-returns
+returns c =
+    let at-size = c .before in
+    let at-spans = at-size .before .before .before .before .before in
+    let start = at-spans .before .before .before .before .before .before .before .before in
+    λ D rs us es L. chart-short (start .args .n) (start .args .height) (start .args .tree .now) (start .args .columns .now) (start .args .rows .now) (start .pre .0) (start .pre .1 .0) (start .pre .1 .1)
+    (at-spans .spans .last .1 .1 .1 .1 .1 .0) (start .args .out .now) (at-spans .spans .ensures .1) (at-size .strokes-size .result) (at-size .strokes-size .ensures .0 (start .args .tree .now)) L (c .if1 .taken)
+
+put16-requires : tie.Need-put16-requires
+put16-requires c κs = search needs
+
+put16-requires-2 : tie.Need-put16-requires-2
+put16-requires-2 c κs = search needs
+
+put16-requires-3 : tie.Need-put16-requires-3
+put16-requires-3 c κs = search needs
+
+slice-aggregate-put-bars : tie.Need-slice-aggregate-put-bars
+slice-aggregate-put-bars c = search needs
+
+slice-aggregate-put-bars-2 : tie.Need-slice-aggregate-put-bars-2
+slice-aggregate-put-bars-2 c = search needs
+
+put-bars-requires : tie.Need-put-bars-requires
+put-bars-requires c κs = search needs
+
+slice-aggregate-put-strokes : tie.Need-slice-aggregate-put-strokes
+slice-aggregate-put-strokes c = search needs
+
+put-strokes-requires : tie.Need-put-strokes-requires
+put-strokes-requires c κs =
+    let at-put-bars = c .before .before .before .before in
+    let at-put163 = at-put-bars .before .before .before .before .before .before in
+    let at-put162 = at-put163 .before .before .before .before in
+    let at-put16 = at-put162 .before .before .before .before in
+    let at-if1 = at-put16 .before .before in
+    let at-size = at-if1 .before in
+    let at-spans = at-size .before .before .before .before .before in
+    let start = at-spans .before .before .before .before .before .before .before .before in (
+      start .pre .1 .0 .keyed,
+      (
+        start .pre .0 .edges,
+        omega (arith, at-spans .spans .kept .1 .1 .1 .1 .1 .0, start .pre .0 .most),
+        omega (arith, at-put16 .put16 .kept .0, at-put162 .put162 .kept .0, at-put163 .put163 .kept .0, at-put-bars .put-bars .kept .0, at-if1 .if1 .left, at-size .strokes-size .ensures .0 (start .args .tree .now)),
+      ),
+    )
 
 same-length : tie.Need-same-length
 same-length c = search needs
 
-returns : tie.Need-returns
-returns c =
-    let at-list-edges = c .before .before .before .before .before .before in
-    let start = at-list-edges .before .before .before .before .before .before in
-    λ rs R. c .before .before .write-layout .ensures rs R ∙ ap
-    (λ (es : List Edge). written (write (bytesOf (layout (start .args .n - 1) (start .args .levels) rs (edgesOf (start .args .cols .now)) es))) (start .args .out .now))
-    (ap edgesOf (front (2 * start .args .n - 3) (at-list-edges .list-edges .last .1 .1 .0) (replicate 2045 0) (at-list-edges .list-edges .kept .1 .1 .0) (omega (arith, start .pre .0 .full, start .pre .1 .1 .0))) ∙ at-list-edges .list-edges .ensures)
+returns-2 : tie.Need-returns-2
+returns-2 c =
+    let at-put-bars = c .before .before .before .before .before .before .before in
+    let at-put163 = at-put-bars .before .before .before .before .before .before in
+    let at-put162 = at-put163 .before .before .before .before in
+    let at-put16 = at-put162 .before .before .before .before in
+    let at-if1 = at-put16 .before .before in
+    let at-size = at-if1 .before in
+    let at-spans = at-size .before .before .before .before .before in
+    let start = at-spans .before .before .before .before .before .before .before .before in
+    λ D rs us es L. chart-written (start .args .n) (start .args .height) (start .args .tree .now) (start .args .columns .now) (start .args .rows .now) (start .pre .0) (start .pre .1 .0) (start .pre .1 .1)
+    (at-spans .spans .last .1 .1 .1 .1 .1 .0) (start .args .out .now) (at-spans .spans .ensures .1) (at-size .strokes-size .result) (at-size .strokes-size .ensures .0 (start .args .tree .now)) L
+    (at-spans .spans .last .1 .1 .1 .0) (at-spans .spans .last .1 .1 .1 .1 .0) _ (at-spans .spans .ensures .0) (at-if1 .if1 .left)
+    (c .before .before .put-strokes .ensures ∙ rw (at-put-bars .put-bars .ensures, at-put163 .put163 .ensures, at-put162 .put162 .ensures, at-put16 .put16 .ensures))
 
 pub write-chart-spec : {M : Type 1} → statement M
-write-chart-spec = tie.close (tie.spec mul-m sub-m array-borrow-prefix-listed slice-aggregate-list-edges list-edges-requires array-share-prefix-listed slice-aggregate-write-layout write-layout-requires same-length returns)
+write-chart-spec = tie.close (tie.spec cast-left slice-aggregate-spans slice-aggregate-spans-2 slice-aggregate-spans-3 spans-requires mul-m sub-m mul-from add-from slice-aggregate-strokes-size strokes-size-requires add-size returns put16-requires put16-requires-2 put16-requires-3 slice-aggregate-put-bars slice-aggregate-put-bars-2 put-bars-requires slice-aggregate-put-strokes put-strokes-requires same-length returns-2)

@@ -35,14 +35,18 @@ same-length c = search needs
 same-length-2 : tie.Need-same-length-2
 same-length-2 c = search needs
 
+same-length-3 : tie.Need-same-length-3
+same-length-3 c = search needs
+
 returns : tie.Need-returns
 returns c =
     let at-rights = c .before .before in
-    let at-lefts = at-rights .before .before .before .before in
-    let start = at-lefts .before .before .before .before .before in
-    spans-end (start .args .cols .now) (start .args .n) (at-lefts .lefts .last .1 .0) (at-rights .rights .last .1 .0) (start .pre .1 .0 .0) (start .pre .1 .0 .1)
-    (at-lefts .lefts .kept .1 .0 ∙ start .pre .1 .1 .0 .0) (at-rights .rights .kept .1 .0 ∙ start .pre .1 .1 .1 .0) (at-lefts .lefts .ensures)
-    (at-rights .rights .ensures)
+    let at-lefts = at-rights .before .before .before .before .before .before in
+    let start = at-lefts .before .before .before .before .before .before .before .before in (
+      spans-end (start .args .tree .now) (start .args .columns .now) (start .args .n) (at-lefts .lefts .last .1 .1 .0) (at-rights .rights .last .1 .1 .0) (start .pre .1 .0 .0) (start .pre .1 .0 .1)
+          (at-lefts .lefts .kept .1 .1 .0 ∙ start .pre .1 .1 .0 .0) (at-rights .rights .kept .1 .1 .0 ∙ start .pre .1 .1 .1 .0 .0) (at-lefts .lefts .ensures .0) (at-rights .rights .ensures),
+      at-lefts .lefts .ensures .1,
+    )
 
 pub spans-spec : {M : Type 1} → statement M
-spans-spec = tie.close (tie.spec lefts-requires rights-requires slice-write-left sub-right cast-right sub-right-2 mul-right slice-write-right same-length same-length-2 returns)
+spans-spec = tie.close (tie.spec lefts-requires rights-requires slice-write-left sub-right cast-right sub-right-2 mul-right slice-write-right same-length same-length-2 same-length-3 returns)

@@ -11,13 +11,13 @@ use Rattle.chart_writer.proofs.bytes.strokes_size.Statement.{statement}
 use Rattle.chart_writer.proofs.bytes.strokes_size.Tie as tie
 
 abbrev Inv-loop : tie.InvT-loop
-Inv-loop columns m size₀ i₀ size i = (i ≤ m) × (size ≤ 7 * i) × ((es : List ℕ) → size ≡ length (strokeRun es columns i))
+Inv-loop stands m size₀ i₀ size i = (i ≤ m) × (size ≤ 7 * i) × ((tr : List ℕ) → size ≡ length (strokeRun tr stands i))
 
 abbrev μ-loop : tie.MeasureT-loop
-μ-loop columns m size₀ i₀ size i = m - i
+μ-loop stands m size₀ i₀ size i = m - i
 
 loop-holds : tie.Need-loop-holds Inv-loop μ-loop
-loop-holds c = (omega arith, omega arith, λ es. strokes-none es (c .args .columns .now))
+loop-holds c = (omega arith, omega arith, λ tr. strokes-none tr (c .args .stands .now))
 
 mul-if1 : tie.Need-mul-if1 Inv-loop μ-loop
 mul-if1 c = omega arith
@@ -42,8 +42,8 @@ loop-again c =
     let at-loop = c .before .before .before in
     let start = at-loop .before in
     ⊎-elim
-    (λ w. rw (w .1) (omega arith, omega arith, λ es. omega (arith, at-loop .loop .inv .2 es, level-more es (start .args .columns .now) (at-loop .loop .i) (w .0 .taken))))
-    (λ w. rw (w .1) (omega arith, omega arith, λ es. omega (arith, at-loop .loop .inv .2 es, upright-more es (start .args .columns .now) (at-loop .loop .i) (w .0 .left))))
+    (λ w. rw (w .1) (omega arith, omega arith, λ tr. omega (arith, at-loop .loop .inv .2 tr, level-more tr (start .args .stands .now) (at-loop .loop .i) (w .0 .taken))))
+    (λ w. rw (w .1) (omega arith, omega arith, λ tr. omega (arith, at-loop .loop .inv .2 tr, upright-more tr (start .args .stands .now) (at-loop .loop .i) (w .0 .left))))
     (c .if1 .came)
 
 returns : tie.Need-returns Inv-loop μ-loop
