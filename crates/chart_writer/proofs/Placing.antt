@@ -1,6 +1,6 @@
 -- The column of each edge: one column at a time, from the last to the first, is stored at its upright's place; and the stroke of an edge by that column.
 use mathlib.Core.Path.{_≡_, refl, sym, _∙_, ap}
-use mathlib.Core.List.{List, [], _∷_, map}
+use mathlib.Core.List.{List, _∷_, map}
 use Prim.Native.Nat.{ℕ, zero, suc, _+_, _<_, _≤_}
 use native.Mathlib.Decide.{ℕ-discrete}
 use native.Mathlib.Omega.{arith}
@@ -15,7 +15,7 @@ use Rattle.keys.specs.Keys.{edgeOf, edgesOf}
 use Rattle.keys.proofs.Crosses.{all-at, at-all}
 use Rattle.tree.specs.Shows.{edgeAt}
 use Rattle.chart.specs.Chart.{upright, level, stroke}
-use Rattle.chart_writer.specs.Tables.{Edges, Among, column, strokeOf}
+use Rattle.chart_writer.specs.Tables.{Edges, Among, column, strokeOf, mapByte}
 
 -- what holds of the value stored and of the values at the other places
 pub stored : (P : ℕ → Type 0) (l : List ℕ) (i v j : ℕ) → i < length l → (j ≡ i → P v) → ((j ≡ i → ⊥) → P (getD l j 0)) → P (getD (set l i v) j 0)
@@ -50,6 +50,14 @@ level-stroke k c e = choose-yes (ℕ-discrete c 65535) _ e
 pub upright-stroke : (k c : ℕ) → (c ≡ 65535 → ⊥) → strokeOf k c ≡ upright (edgeOf k) c
 unfolding strokeOf
 upright-stroke k c f = choose-no (ℕ-discrete c 65535) _ f
+
+pub level-map : (c : ℕ) → c ≡ 65535 → mapByte c ≡ 0
+unfolding mapByte
+level-map c e = choose-yes {A = ℕ} (ℕ-discrete c 65535) 1 e
+
+pub upright-map : (c : ℕ) → (c ≡ 65535 → ⊥) → mapByte c ≡ 1
+unfolding mapByte
+upright-map c f = choose-no {A = ℕ} (ℕ-discrete c 65535) 0 f
 
 -- the places ps hold other edges than the place i, but for i itself
 stroke-among : (tr : List ℕ) (i j : ℕ) {ps : List ℕ} → All (λ p. edgeAt tr i ≡ edgeAt tr p → i ≡ p) ps → j + length ps ≤ 65535

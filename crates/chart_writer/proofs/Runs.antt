@@ -1,21 +1,31 @@
 -- Bars and strokes in bytes, one behind the other.
 use mathlib.Core.Path.{_≡_, refl, sym, _∙_, ap}
 use mathlib.Core.List.{List, [], _∷_, _++_, map, map-append, flatMap, append-assoc, append-nil}
-use Prim.Native.Nat.{ℕ, zero, suc, _+_, _*_, _/_, _%_, _<_, _≤_}
-use native.Mathlib.Decide.{decLt}
+use Prim.Native.Nat.{ℕ, zero, suc, _+_, _*_, _<_, _≤_}
+use native.Mathlib.Decide.{decLt, ℕ-discrete}
 use native.Mathlib.Numerals.{add-one}
 use native.Mathlib.Omega.{arith}
 use lib.ListN.{length, getD, set, length-append, length-map}
-use lib.Seq.{sets}
+use lib.Seq.{sets, set-set, set-comm}
 use Rattle.polygon.specs.Lists.{numbers, below}
 use Rattle.polygon.proofs.Lists.{below-count}
 use Rattle.codec.specs.Numbers.{bytes16}
 use Rattle.codec.proofs.Stores.{sets-append}
 use Rattle.chart.specs.Bytes.{barBytes, strokeBytes}
 use Rattle.chart.proofs.Sizes.{bars-size}
-use Rattle.chart_writer.specs.Tables.{strokeOf, barAt, strokeAt, barRun, strokeRun}
+use Rattle.chart_writer.specs.Tables.{mapByte, edgeBytes, strokeOf, barAt, strokeAt, barRun, strokeRun}
 use Rattle.chart_writer.proofs.Below.{below-next}
-use Rattle.chart_writer.proofs.Placing.{level-stroke, upright-stroke}
+use Rattle.chart_writer.proofs.Placing.{level-stroke, upright-stroke, level-map, upright-map}
+
+-- a store before others, and stores over others
+set-before : (s l : List ℕ) (i j y : ℕ) → i < j → set (sets l j s) i y ≡ sets (set l i y) j s
+set-before [] l i j y h = refl
+set-before (x ∷ s) l i j y h = set-before s (set l j x) i (suc j) y (omega arith) ∙ ap (λ (m : List ℕ). sets m (suc j) s) (set-comm l j i x y (λ e. omega arith))
+
+sets-over : (s t l : List ℕ) (i : ℕ) → length s ≤ length t → sets (sets l i s) i t ≡ sets l i t
+sets-over [] t l i h = refl
+sets-over (x ∷ s) [] l i h = absurd (omega arith)
+sets-over (x ∷ s) (y ∷ t) l i h = rw (set-before s (set l i x) i (suc i) y (omega arith), set-set l i x y) (sets-over s t (set l i y) (suc i) (omega arith))
 
 module _ {A : Type 0} (f : A → List ℕ) (h : ℕ → A) where
   abbrev run : ℕ → List ℕ
@@ -26,10 +36,10 @@ module _ {A : Type 0} (f : A → List ℕ) (h : ℕ → A) where
   flat-snoc [] a = append-nil (f a)
   flat-snoc (x ∷ xs) a = ap (λ (l : List ℕ). f x ++ l) (flat-snoc xs a) ∙ sym (append-assoc (f x) (flatMap f xs) (f a))
 
-  pub run-next : (i : ℕ) → run (suc i) ≡ run i ++ f (h i)
+  run-next : (i : ℕ) → run (suc i) ≡ run i ++ f (h i)
   run-next i = rw (below-next i, map-append h (below i) (i ∷ [])) (flat-snoc (map h (below i)) (h i))
 
-  pub run-none : run 0 ≡ []
+  run-none : run 0 ≡ []
   unfolding below numbers flatMap
   run-none = refl
 
@@ -45,7 +55,7 @@ module _ {A : Type 0} (f : A → List ℕ) (h : ℕ → A) where
       go (no q) r = let e : i ≡ m = omega arith in rw e (omega (arith, run-size m))
 
   -- one more is stored
-  pub run-stored : (out : List ℕ) (from i : ℕ) → sets (sets out from (run i)) (from + length (run i)) (f (h i)) ≡ sets out from (run (suc i))
+  run-stored : (out : List ℕ) (from i : ℕ) → sets (sets out from (run i)) (from + length (run i)) (f (h i)) ≡ sets out from (run (suc i))
   run-stored out from i = rw (run-next i) (sym (sets-append (run i) (f (h i)) out from))
 
 module _ (rows left right : List ℕ) where
@@ -68,46 +78,66 @@ module _ (rows left right : List ℕ) where
       (sym (sets-append b c (sets s (6 + 6 * x) a) (6 + 6 * x + 2))
       ∙ (sym (sets-append a (b ++ c) s (6 + 6 * x)) ∙ rw (r, add-one x) (run-stored barBytes (barAt rows left right) out 6 x)))
 
--- a stroke
+-- a stroke, by the bytes before its column
 module _ (k c : ℕ) where
-  pub level-size : c ≡ 65535 → length (strokeBytes (strokeOf k c)) ≡ 5
+  pub level-bytes : c ≡ 65535 → edgeBytes k c ≡ strokeBytes (strokeOf k c)
   unfolding strokeBytes
-  level-size e = rw (level-stroke k c e)
+  level-bytes e = rw (level-stroke k c e, level-map c e)
 
-  pub upright-size : (c ≡ 65535 → ⊥) → length (strokeBytes (strokeOf k c)) ≡ 7
+  pub upright-bytes : (c ≡ 65535 → ⊥) → edgeBytes k c ++ bytes16 c ≡ strokeBytes (strokeOf k c)
   unfolding strokeBytes
-  upright-size f = rw (upright-stroke k c f)
+  upright-bytes f = rw (upright-stroke k c f, upright-map c f)
 
-module _ (out : List ℕ) (at k c : ℕ) where
-  pub level-stored : c ≡ 65535 → sets (set out at 0) (at + 1) (bytes16 (k / 1024) ++ bytes16 (k % 1024)) ≡ sets out at (strokeBytes (strokeOf k c))
-  unfolding strokeBytes
-  level-stored e = rw (add-one at, level-stroke k c e)
+  pub stroke-size : length (strokeBytes (strokeOf k c)) ≡ 5 + 2 * mapByte c
+  stroke-size = go (ℕ-discrete c 65535)
+    where
+      go : Dec (c ≡ 65535) → length (strokeBytes (strokeOf k c)) ≡ 5 + 2 * mapByte c
+      go (yes e) = omega (arith, ap length (level-bytes e), level-map c e)
+      go (no f) = omega (arith, ap length (upright-bytes f), upright-map c f)
 
-  pub upright-stored : (c ≡ 65535 → ⊥) → sets (sets (set out at 1) (at + 1) (bytes16 (k / 1024) ++ bytes16 (k % 1024))) (at + 5) (bytes16 c) ≡ sets out at (strokeBytes (strokeOf k c))
-  unfolding strokeBytes
-  upright-stored f =
-      let p : at + 5 ≡ suc at + 4 = omega arith in
-      rw (p, add-one at, upright-stroke k c f) (sym (sets-append (bytes16 (k / 1024) ++ bytes16 (k % 1024)) (bytes16 c) (set out at 1) (suc at)))
+  -- the stroke with a column is the stroke, and at most two bytes behind it
+  with-column : (s : List ℕ) × (length s ≤ 2) × (edgeBytes k c ++ bytes16 c ≡ strokeBytes (strokeOf k c) ++ s)
+  with-column = go (ℕ-discrete c 65535)
+    where
+      go : Dec (c ≡ 65535) → (s : List ℕ) × (length s ≤ 2) × (edgeBytes k c ++ bytes16 c ≡ strokeBytes (strokeOf k c) ++ s)
+      go (yes e) = (bytes16 c, omega arith, ap (λ (l : List ℕ). l ++ bytes16 c) (level-bytes e))
+      go (no f) = ([], omega arith, upright-bytes f ∙ sym (append-nil (strokeBytes (strokeOf k c))))
 
 -- the bytes that one more stroke takes
-module _ (tr stands : List ℕ) (i : ℕ) where
-  pub level-more : getD stands i 0 ≡ 65535 → length (strokeRun tr stands (i + 1)) ≡ length (strokeRun tr stands i) + 5
-  level-more e = rw (add-one i) (run-size strokeBytes (strokeAt tr stands) i ∙ rw (level-size (getD tr i 0) (getD stands i 0) e))
-
-  pub upright-more : (getD stands i 0 ≡ 65535 → ⊥) → length (strokeRun tr stands (i + 1)) ≡ length (strokeRun tr stands i) + 7
-  upright-more f = rw (add-one i) (run-size strokeBytes (strokeAt tr stands) i ∙ rw (upright-size (getD tr i 0) (getD stands i 0) f))
-
-pub strokes-none : (tr stands : List ℕ) → 0 ≡ length (strokeRun tr stands 0)
-strokes-none tr stands = rw (run-none strokeBytes (strokeAt tr stands))
-
--- the strokes stored from a byte on, as far as a place
 module _ (tr stands : List ℕ) where
-  pub strokes-begin : (from : ℕ) (out : List ℕ) → (from ≡ from + length (strokeRun tr stands 0)) × (out ≡ sets out from (strokeRun tr stands 0))
-  strokes-begin from out = rw (run-none strokeBytes (strokeAt tr stands)) (omega arith, refl)
+  pub stroke-more : (i : ℕ) → length (strokeRun tr stands (i + 1)) ≡ length (strokeRun tr stands i) + (5 + 2 * mapByte (getD stands i 0))
+  stroke-more i = rw (add-one i) (run-size strokeBytes (strokeAt tr stands) i ∙ rw (stroke-size (getD tr i 0) (getD stands i 0)))
 
-  pub stroke-stored : (out : List ℕ) (from i : ℕ) (before after : List ℕ) (at next : ℕ)
-      → at ≡ from + length (strokeRun tr stands i) → before ≡ sets out from (strokeRun tr stands i)
-      → after ≡ sets before at (strokeBytes (strokeAt tr stands i)) → next ≡ at + length (strokeBytes (strokeAt tr stands i))
-      → (next ≡ from + length (strokeRun tr stands (i + 1))) × (after ≡ sets out from (strokeRun tr stands (i + 1)))
-  stroke-stored out from i before after at next p e f q =
-      (rw (add-one i) (omega (arith, run-size strokeBytes (strokeAt tr stands) i)), f ∙ rw (e, p, add-one i) (run-stored strokeBytes (strokeAt tr stands) out from i))
+  pub strokes-none : 0 ≡ length (strokeRun tr stands 0)
+  strokes-none = rw (run-none strokeBytes (strokeAt tr stands))
+
+  pub stroke-room : (i m : ℕ) → i + 1 < m → length (strokeRun tr stands i) + 7 ≤ length (strokeRun tr stands m)
+  stroke-room i m h = omega (arith, run-room strokeBytes (strokeAt tr stands) (i + 1) m h, stroke-more i, stroke-size (getD tr (i + 1) 0) (getD stands (i + 1) 0))
+
+  -- the first i strokes are stored from a byte on, with at most two bytes behind them
+  abbrev pub Over : List ℕ → ℕ → ℕ → List ℕ → Type 0
+  Over out from i o = (s : List ℕ) × (length s ≤ 2) × (o ≡ sets out from (strokeRun tr stands i ++ s))
+
+  pub over-begin : (out : List ℕ) (from : ℕ) → Over out from 0 out
+  over-begin out from = ([], omega arith, rw (run-none strokeBytes (strokeAt tr stands)))
+
+  -- bytes stored behind them
+  over : (out o bs : List ℕ) (from i : ℕ) → Over out from i o → 2 ≤ length bs → sets o (from + length (strokeRun tr stands i)) bs ≡ sets out from (strokeRun tr stands i ++ bs)
+  over out o bs from i (s, h, e) k =
+      let l : List ℕ = sets out from (strokeRun tr stands i) in
+      rw (e, sets-append (strokeRun tr stands i) s out from, sets-over s bs l (from + length (strokeRun tr stands i)) (omega arith)) (sym (sets-append (strokeRun tr stands i) bs out from))
+
+  pub over-next : (out o : List ℕ) (from i : ℕ) → Over out from i o
+      → Over out from (i + 1) (sets o (from + length (strokeRun tr stands i)) (edgeBytes (getD tr i 0) (getD stands i 0) ++ bytes16 (getD stands i 0)))
+  over-next out o from i v =
+      let k : ℕ = getD tr i 0 in
+      let c : ℕ = getD stands i 0 in
+      let (s, h, e) = with-column k c in (
+        s,
+        h,
+        over out o (edgeBytes k c ++ bytes16 c) from i v (omega arith)
+            ∙ rw (e, add-one i, run-next strokeBytes (strokeAt tr stands) i) (ap (sets out from) (sym (append-assoc (strokeRun tr stands i) (strokeBytes (strokeOf k c)) s))),
+      )
+
+  pub over-end : (out o : List ℕ) (from i : ℕ) → Over out from i o → sets o (from + length (strokeRun tr stands i)) (strokeBytes (strokeAt tr stands i)) ≡ sets out from (strokeRun tr stands (i + 1))
+  over-end out o from i v = over out o (strokeBytes (strokeAt tr stands i)) from i v (omega (arith, stroke-size (getD tr i 0) (getD stands i 0))) ∙ rw (add-one i, run-next strokeBytes (strokeAt tr stands) i)

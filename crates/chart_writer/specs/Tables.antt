@@ -1,11 +1,12 @@
 -- How the code holds a chart: tables over its edges, its columns and its corners. For the contracts.
 use mathlib.Core.Path.{_≡_}
 use mathlib.Core.List.{List, [], _∷_, _++_, map, flatMap}
-use Prim.Native.Nat.{ℕ, suc, _+_, _*_, _-_, _≤_, _<_}
+use Prim.Native.Nat.{ℕ, suc, _+_, _*_, _-_, _/_, _%_, _≤_, _<_}
 use native.Mathlib.Decide.{ℕ-discrete}
 use lib.ListN.{length, take, getD}
 use Rattle.polygon.specs.Lists.{choose, below}
 use Rattle.polygon.specs.Polygon.{Edge, Ascending}
+use Rattle.codec.specs.Numbers.{bytes16}
 use Rattle.keys.specs.Keys.{edgeOf, edgesOf}
 use Rattle.tree.specs.Shows.{edgeAt}
 use Rattle.chart.specs.Chart.{Bar, Stroke, upright, level, first, last}
@@ -59,6 +60,13 @@ Columns columns stands = (i : ℕ) → i < 2045 → getD stands i 0 ≡ column 0
 -- the stroke of the edge with the key k, by that column
 unfoldable pub strokeOf : ℕ → ℕ → Stroke
 strokeOf k c = choose (ℕ-discrete c 65535) (level (edgeOf k)) (upright (edgeOf k) c)
+
+-- its map byte by that column, and its bytes before the column
+unfoldable pub mapByte : ℕ → ℕ
+mapByte c = choose (ℕ-discrete c 65535) 0 1
+
+abbrev pub edgeBytes : ℕ → ℕ → List ℕ
+edgeBytes k c = mapByte c ∷ (bytes16 (k / 1024) ++ bytes16 (k % 1024))
 
 -- the bar of each corner, and the stroke of each edge
 abbrev pub barAt : List ℕ → List ℕ → List ℕ → ℕ → Bar

@@ -1,12 +1,12 @@
 // The bars and the strokes in bytes.
 ghost use mathlib.Core.Path.{_≡_};
 ghost use mathlib.Core.List.{List, _++_};
-ghost use Prim.Native.Nat.{ℕ, _+_, _*_, _/_, _%_, _<_, _≤_};
+ghost use Prim.Native.Nat.{ℕ, _+_, _*_, _<_, _≤_};
 ghost use lib.ListN.{length};
 ghost use lib.Seq.{sets};
 ghost use Rattle.codec.specs.Numbers.{bytes16};
 ghost use Rattle.chart.specs.Bytes.{strokeBytes};
-ghost use Rattle.chart_writer.specs.Tables.{Keyed, strokeOf, barRun, strokeRun};
+ghost use Rattle.chart_writer.specs.Tables.{Keyed, mapByte, edgeBytes, strokeOf, barRun, strokeRun};
 use codec::put16;
 use keys::high;
 use keys::low;
@@ -25,29 +25,44 @@ pub fn put_bars(out: &mut [u8], n: usize, rows: &[u16], left: &[u16], right: &[u
     }
 }
 
-// The two corners of an edge.
-fn put_edge(out: &mut [u8], at: usize, k: u32)
-    requires { ⌜ (at + 4 ≤ length (now out)) × (k < 1047552) ⌝ }
-    ensures { λ _. ⌜ now (out .exit) ≡ sets (now (out .entry)) at (bytes16 (k / 1024) ++ bytes16 (k % 1024)) ⌝ }
+// The map byte of a stroke: 1 if it is upright.
+fn map_byte(c: u16) -> u8
+    ensures { λ r. ⌜ (r ≡ mapByte c) × (r ≤ 1) ⌝ }
 {
-    put16(out, at, low(k));
-    put16(out, at + 2, high(k));
+    if c == 65535 { 0 } else { 1 }
 }
 
-// A stroke: its map byte, its corners and, if it is upright, its column. Returns the place behind it.
-fn put_stroke(out: &mut [u8], at: usize, k: u32, c: u16) -> usize
-    requires { ⌜ (at + length (strokeBytes (strokeOf k c)) ≤ length (now out)) × (k < 1047552) ⌝ }
-    ensures { λ r. ⌜ (now (out .exit) ≡ sets (now (out .entry)) at (strokeBytes (strokeOf k c))) × (r ≡ at + length (strokeBytes (strokeOf k c))) ⌝ }
+// The map byte and the two corners of a stroke.
+fn put_edge(out: &mut [u8], at: usize, k: u32, c: u16)
+    requires { ⌜ (at + 5 ≤ length (now out)) × (k < 1047552) ⌝ }
+    ensures { λ _. ⌜ now (out .exit) ≡ sets (now (out .entry)) at (edgeBytes k c) ⌝ }
 {
-    if c == 65535 {
-        out[at] = 0;
-        put_edge(out, at + 1, k);
-        return at + 5;
-    }
-    out[at] = 1;
-    put_edge(out, at + 1, k);
+    out[at] = map_byte(c);
+    put16(out, at + 1, low(k));
+    put16(out, at + 3, high(k));
+}
+
+// The stroke with a column, which the next stroke overwrites behind a level one. Returns the place behind the stroke.
+fn put_stroke(out: &mut [u8], at: usize, k: u32, c: u16) -> usize
+    requires { ⌜ (at + 7 ≤ length (now out)) × (k < 1047552) ⌝ }
+    ensures bytes { λ _. ⌜ now (out .exit) ≡ sets (now (out .entry)) at (edgeBytes k c ++ bytes16 c) ⌝ }
+    ensures place { λ r. ⌜ r ≡ at + length (strokeBytes (strokeOf k c)) ⌝ }
+{
+    put_edge(out, at, k, c);
     put16(out, at + 5, c as usize);
-    at + 7
+    at + 5 + 2 * map_byte(c) as usize
+}
+
+// The last stroke: no byte behind it changes.
+fn put_last(out: &mut [u8], at: usize, k: u32, c: u16)
+    requires { ⌜ (at + length (strokeBytes (strokeOf k c)) ≤ length (now out)) × (k < 1047552) ⌝ }
+    ensures { λ _. ⌜ now (out .exit) ≡ sets (now (out .entry)) at (strokeBytes (strokeOf k c)) ⌝ }
+{
+    put_edge(out, at, k, c);
+    if c == 65535 {
+        return;
+    }
+    put16(out, at + 5, c as usize);
 }
 
 // How many bytes the strokes of m edges take.
@@ -59,11 +74,7 @@ pub fn strokes_size(stands: &[u16], m: usize) -> usize
     let mut size = 0;
     let mut i = 0;
     while i < m {
-        if stands[i] == 65535 {
-            size += 5;
-        } else {
-            size += 7;
-        }
+        size += 5 + 2 * map_byte(stands[i]) as usize;
         i += 1;
     }
     size
@@ -72,13 +83,16 @@ pub fn strokes_size(stands: &[u16], m: usize) -> usize
 // The strokes of m edges, from a byte on.
 pub fn put_strokes(out: &mut [u8], from: usize, m: usize, tree: &[u32], stands: &[u16])
     requires keyed { ⌜ Keyed m (now tree) ⌝ }
-    requires room { ⌜ (m ≤ length (now tree)) × (m ≤ length (now stands)) × (from + length (strokeRun (now tree) (now stands) m) ≤ length (now out)) ⌝ }
+    requires some { ⌜ (1 ≤ m) × (m ≤ length (now tree)) × (m ≤ length (now stands)) ⌝ }
+    requires room { ⌜ from + length (strokeRun (now tree) (now stands) m) ≤ length (now out) ⌝ }
     ensures { λ _. ⌜ now (out .exit) ≡ sets (now (out .entry)) from (strokeRun (now (tree .entry)) (now (stands .entry)) m) ⌝ }
 {
+    let last = m - 1;
     let mut at = from;
     let mut i = 0;
-    while i < m {
+    while i < last {
         at = put_stroke(out, at, tree[i], stands[i]);
         i += 1;
     }
+    put_last(out, at, tree[last], stands[last]);
 }

@@ -97,8 +97,7 @@ put-strokes-requires c κs =
     let start = at-spans .before .before .before .before .before .before .before .before in (
       start .pre .1 .0 .keyed,
       (
-        start .pre .0 .edges,
-        omega (arith, at-spans .spans .kept .1 .1 .1 .1 .1 .0, start .pre .0 .most),
+        (omega (arith, start .pre .0 .least), start .pre .0 .edges, omega (arith, at-spans .spans .kept .1 .1 .1 .1 .1 .0, start .pre .0 .most)),
         omega (arith, at-put16 .put16 .kept .0, at-put162 .put162 .kept .0, at-put163 .put163 .kept .0, at-put-bars .put-bars .kept .0, at-if1 .if1 .left, at-size .strokes-size .ensures .0 (start .args .tree .now)),
       ),
     )

@@ -20,7 +20,8 @@ abbrev μ-loop : tie.MeasureT-loop
 μ-loop tree columns right₀ j₀ right j = length columns - j
 
 -- the upright of the column at hand
-up : (c : lts.In-loop (low-reads.Asked, low-reads.Learnt, high-reads.Asked, high-reads.Learnt) reads.Pre reads.Post Inv-loop μ-loop) → Upright (c .before .before .before .before .before .args .tree .now) (c .before .before .before .before .before .args .columns .now) (c .before .loop .j)
+up : (c : lts.In-loop (low-reads.Asked, low-reads.Learnt, high-reads.Asked, high-reads.Learnt) reads.Pre reads.Post Inv-loop μ-loop)
+    → let args = c .before .before .before .before .before .args in Upright (args .tree .now) (args .columns .now) (c .before .loop .j)
 up c = c .before .before .before .before .before .pre .0 .0 (c .before .loop .j) (omega arith)
 
 loop-holds : tie.Need-loop-holds Inv-loop μ-loop

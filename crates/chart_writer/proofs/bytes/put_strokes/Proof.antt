@@ -1,23 +1,28 @@
--- The loop's invariant: the strokes before i are stored, up to `at`.
+-- The loop's invariant: the strokes before i are stored, up to `at`, with at most two bytes behind them.
 use mathlib.Core.Path.{_≡_, refl, _∙_}
-use Prim.Native.Nat.{_+_, _-_, _≤_}
+use Prim.Native.Nat.{ℕ, _+_, _-_, _≤_}
+use native.Mathlib.Numerals.{add-one}
 use native.Mathlib.Omega.{arith}
 use lib.ListN.{length}
-use lib.Seq.{sets}
 use Rattle.chart.specs.Bytes.{strokeBytes}
 use Rattle.chart_writer.specs.Tables.{strokeAt, strokeRun}
-use Rattle.chart_writer.proofs.Runs.{run-room, strokes-begin, stroke-stored}
+use Rattle.chart_writer.proofs.Runs.{run-room, run-size, strokes-none, stroke-room, Over, over-begin, over-next, over-end}
 use Rattle.chart_writer.proofs.bytes.put_strokes.Statement.{statement}
 use Rattle.chart_writer.proofs.bytes.put_strokes.Tie as tie
 
 abbrev Inv-loop : tie.InvT-loop
-Inv-loop out₀ from m tree stands at₀ i₀ out at i = (i ≤ m) × (length out ≡ length out₀) × (at ≡ from + length (strokeRun tree stands i)) × (out ≡ sets out₀ from (strokeRun tree stands i))
+Inv-loop out₀ from m tree stands last at₀ i₀ out at i = (i ≤ m - 1) × (length out ≡ length out₀) × (at ≡ from + length (strokeRun tree stands i)) × Over tree stands out₀ from i out
 
 abbrev μ-loop : tie.MeasureT-loop
-μ-loop out₀ from m tree stands at₀ i₀ out at i = m - i
+μ-loop out₀ from m tree stands last at₀ i₀ out at i = m - 1 - i
+
+sub-last : tie.Need-sub-last Inv-loop μ-loop
+sub-last c = omega arith
 
 loop-holds : tie.Need-loop-holds Inv-loop μ-loop
-loop-holds c = let b = strokes-begin (c .before .before .before .args .tree .now) (c .before .before .before .args .stands .now) (c .before .before .before .args .from) (c .before .before .before .args .out .now) in (omega arith, refl, b .0, b .1)
+loop-holds c =
+    let start = c .before .before .before in
+    (omega arith, refl, omega (arith, strokes-none (start .args .tree .now) (start .args .stands .now)), over-begin (start .args .tree .now) (start .args .stands .now) (start .args .out .now) (start .args .from))
 
 mul-put-stroke : tie.Need-mul-put-stroke Inv-loop μ-loop
 mul-put-stroke c = omega arith
@@ -33,10 +38,9 @@ shared-slice-read-put-stroke-2 c = omega arith
 
 put-stroke-requires : tie.Need-put-stroke-requires Inv-loop μ-loop
 put-stroke-requires c κs =
-    let at-loop-test = c .before .before .before in
-    let at-loop = at-loop-test .before in
+    let at-loop = c .before .before .before .before in
     let start = at-loop .before .before .before .before in
-    (omega (arith, run-room strokeBytes (strokeAt (start .args .tree .now) (start .args .stands .now)) (at-loop .loop .i) (start .args .m) (omega arith), start .pre .1 .2, at-loop .loop .inv .2), start .pre .0 (at-loop .loop .i) (at-loop-test .loop-test .taken))
+    (omega (arith, stroke-room (start .args .tree .now) (start .args .stands .now) (at-loop .loop .i) (start .args .m) (omega arith), start .pre .1 .1, at-loop .loop .inv .2), start .pre .0 (at-loop .loop .i) (omega arith))
 
 add-i : tie.Need-add-i Inv-loop μ-loop
 add-i c = omega arith
@@ -46,17 +50,48 @@ loop-less c = omega arith
 
 loop-again : tie.Need-loop-again Inv-loop μ-loop
 loop-again c =
-    let at-put-stroke = c .before .before in
-    let at-loop = at-put-stroke .before .before .before .before .before in
+    let at-put = c .before .before in
+    let at-loop = at-put .before .before .before .before .before in
     let start = at-loop .before .before .before .before in
-    let b = stroke-stored (start .args .tree .now) (start .args .stands .now) (start .args .out .now) (start .args .from) (at-loop .loop .i) (at-loop .loop .out) _ (at-loop .loop .at) _ (at-loop .loop .inv .2) (at-loop .loop .inv .3) (at-put-stroke .put-stroke .ensures .0) (at-put-stroke .put-stroke .ensures .1) in
-    (omega arith, at-put-stroke .put-stroke .kept .0 ∙ at-loop .loop .inv .1, b .0, b .1)
+    let tree = start .args .tree .now in
+    let stands = start .args .stands .now in
+    let i : ℕ = at-loop .loop .i in (
+      omega arith,
+      at-put .put-stroke .kept .0 ∙ at-loop .loop .inv .1,
+      rw (add-one i) (omega (arith, at-put .put-stroke .ensures .1, at-loop .loop .inv .2, run-size strokeBytes (strokeAt tree stands) i)),
+      rw (at-put .put-stroke .ensures .0, at-loop .loop .inv .2) (over-next tree stands (start .args .out .now) (at-loop .loop .out) (start .args .from) i (at-loop .loop .inv .3)),
+    )
+
+mul-put-last : tie.Need-mul-put-last Inv-loop μ-loop
+mul-put-last c = omega arith
+
+shared-slice-read-put-last : tie.Need-shared-slice-read-put-last Inv-loop μ-loop
+shared-slice-read-put-last c = omega arith
+
+mul-put-last-2 : tie.Need-mul-put-last-2 Inv-loop μ-loop
+mul-put-last-2 c = omega arith
+
+shared-slice-read-put-last-2 : tie.Need-shared-slice-read-put-last-2 Inv-loop μ-loop
+shared-slice-read-put-last-2 c = omega arith
+
+put-last-requires : tie.Need-put-last-requires Inv-loop μ-loop
+put-last-requires c κs =
+    let at-loop = c .before .before .before .before in
+    let start = at-loop .before .before .before .before in
+    let e : at-loop .loop .i ≡ start .args .m - 1 = omega arith in
+    (omega (arith, rw e at (at-loop .loop .inv .2), run-room strokeBytes (strokeAt (start .args .tree .now) (start .args .stands .now)) (start .args .m - 1) (start .args .m) (omega arith), start .pre .1 .1), start .pre .0 (start .args .m - 1) (omega arith))
 
 same-length : tie.Need-same-length Inv-loop μ-loop
-same-length c = c .before .loop .inv .1
+same-length c = c .before .before .put-last .kept .0 ∙ c .before .before .before .before .before .before .before .loop .inv .1
 
 returns : tie.Need-returns Inv-loop μ-loop
-returns c = let e : c .before .loop .i ≡ c .before .before .before .before .before .args .m = omega arith in rw (← e) (c .before .loop .inv .3)
+returns c =
+    let at-loop = c .before .before .before .before .before .before .before in
+    let start = at-loop .before .before .before .before in
+    let e : at-loop .loop .i ≡ start .args .m - 1 = omega arith in
+    let f : start .args .m - 1 + 1 ≡ start .args .m = omega arith in
+    let p : at-loop .loop .at ≡ start .args .from + length (strokeRun (start .args .tree .now) (start .args .stands .now) (start .args .m - 1)) = rw e at (at-loop .loop .inv .2) in
+    c .before .before .put-last .ensures ∙ rw p (over-end (start .args .tree .now) (start .args .stands .now) (start .args .out .now) (at-loop .loop .out) (start .args .from) (start .args .m - 1) (rw e at (at-loop .loop .inv .3)) ∙ rw f)
 
 pub put-strokes-spec : {M : Type 1} → statement M
-put-strokes-spec = tie.close (tie.spec Inv-loop μ-loop loop-holds mul-put-stroke shared-slice-read-put-stroke mul-put-stroke-2 shared-slice-read-put-stroke-2 put-stroke-requires add-i loop-less loop-again same-length returns)
+put-strokes-spec = tie.close (tie.spec Inv-loop μ-loop sub-last loop-holds mul-put-stroke shared-slice-read-put-stroke mul-put-stroke-2 shared-slice-read-put-stroke-2 put-stroke-requires add-i loop-less loop-again mul-put-last shared-slice-read-put-last mul-put-last-2 shared-slice-read-put-last-2 put-last-requires same-length returns)

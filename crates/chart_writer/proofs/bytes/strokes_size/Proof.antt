@@ -1,12 +1,11 @@
 -- The loop's invariant: the size is that of the strokes before i.
 use mathlib.Core.Path.{_≡_}
 use mathlib.Core.List.{List}
-use mathlib.Core.Logic.{⊎-elim}
 use Prim.Native.Nat.{ℕ, _*_, _-_, _≤_}
 use native.Mathlib.Omega.{arith}
 use lib.ListN.{length}
 use Rattle.chart_writer.specs.Tables.{strokeRun}
-use Rattle.chart_writer.proofs.Runs.{strokes-none, level-more, upright-more}
+use Rattle.chart_writer.proofs.Runs.{strokes-none, stroke-more}
 use Rattle.chart_writer.proofs.bytes.strokes_size.Statement.{statement}
 use Rattle.chart_writer.proofs.bytes.strokes_size.Tie as tie
 
@@ -17,19 +16,28 @@ abbrev μ-loop : tie.MeasureT-loop
 μ-loop stands m size₀ i₀ size i = m - i
 
 loop-holds : tie.Need-loop-holds Inv-loop μ-loop
-loop-holds c = (omega arith, omega arith, λ tr. strokes-none tr (c .args .stands .now))
+loop-holds c = (omega arith, omega arith, λ tr. strokes-none tr (c .before .args .stands .now))
 
-mul-if1 : tie.Need-mul-if1 Inv-loop μ-loop
-mul-if1 c = omega arith
+mul-map-byte : tie.Need-mul-map-byte Inv-loop μ-loop
+mul-map-byte c = omega arith
 
-shared-slice-read-if1 : tie.Need-shared-slice-read-if1 Inv-loop μ-loop
-shared-slice-read-if1 c = omega arith
+shared-slice-read-map-byte : tie.Need-shared-slice-read-map-byte Inv-loop μ-loop
+shared-slice-read-map-byte c = omega arith
+
+map-byte-requires : tie.Need-map-byte-requires Inv-loop μ-loop
+map-byte-requires c κs = omega arith
+
+cast-size : tie.Need-cast-size Inv-loop μ-loop
+cast-size c = omega (arith, c .map-byte .ensures .1)
+
+mul-size : tie.Need-mul-size Inv-loop μ-loop
+mul-size c = omega (arith, c .map-byte .ensures .1)
 
 add-size : tie.Need-add-size Inv-loop μ-loop
-add-size c = omega arith
+add-size c = omega (arith, c .map-byte .ensures .1)
 
 add-size-2 : tie.Need-add-size-2 Inv-loop μ-loop
-add-size-2 c = omega arith
+add-size-2 c = omega (arith, c .map-byte .ensures .1)
 
 add-i : tie.Need-add-i Inv-loop μ-loop
 add-i c = omega arith
@@ -40,14 +48,11 @@ loop-less c = omega arith
 loop-again : tie.Need-loop-again Inv-loop μ-loop
 loop-again c =
     let at-loop = c .before .before .before in
-    let start = at-loop .before in
-    ⊎-elim
-    (λ w. rw (w .1) (omega arith, omega arith, λ tr. omega (arith, at-loop .loop .inv .2 tr, level-more tr (start .args .stands .now) (at-loop .loop .i) (w .0 .taken))))
-    (λ w. rw (w .1) (omega arith, omega arith, λ tr. omega (arith, at-loop .loop .inv .2 tr, upright-more tr (start .args .stands .now) (at-loop .loop .i) (w .0 .left))))
-    (c .if1 .came)
+    let start = at-loop .before .before in
+    (omega arith, omega (arith, c .map-byte .ensures .1), λ tr. omega (arith, at-loop .loop .inv .2 tr, c .map-byte .ensures .0, stroke-more tr (start .args .stands .now) (at-loop .loop .i)))
 
 returns : tie.Need-returns Inv-loop μ-loop
-returns c = let e : c .before .loop .i ≡ c .before .before .args .m = omega arith in rw (← e) (c .before .loop .inv .2, c .before .loop .inv .1)
+returns c = let e : c .before .loop .i ≡ c .before .before .before .args .m = omega arith in rw (← e) (c .before .loop .inv .2, c .before .loop .inv .1)
 
 pub strokes-size-spec : {M : Type 1} → statement M
-strokes-size-spec = tie.close (tie.spec Inv-loop μ-loop loop-holds mul-if1 shared-slice-read-if1 add-size add-size-2 add-i loop-less loop-again returns)
+strokes-size-spec = tie.close (tie.spec Inv-loop μ-loop loop-holds mul-map-byte shared-slice-read-map-byte map-byte-requires cast-size mul-size add-size add-size-2 add-i loop-less loop-again returns)
