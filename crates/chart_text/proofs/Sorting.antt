@@ -11,7 +11,7 @@ use lib.Seq.{take-suc-set}
 use Rattle.polygon.specs.Lists.{All, all-nil, all-cons, choose, numbers, below}
 use Rattle.polygon.proofs.Lists.{all-imp, all-map, numbers-in}
 use Rattle.keys.specs.Sort.{insertKey, sortKeys}
-use Rattle.keys.proofs.Merge.{insert-below, insert-past}
+use Rattle.keys.proofs.Insert.{insert-below, insert-past}
 use Rattle.chart.specs.Chart.{Stroke, Chart}
 use Rattle.chart_writer.proofs.Below.{below-next, map-places}
 use Rattle.chart_reader.specs.Decode.{strokeAt, chartIn}

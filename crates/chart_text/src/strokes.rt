@@ -52,7 +52,7 @@ fn order(chart: &[u8], at: &[usize], n: usize, keys: &mut [u32], spare: &mut [u3
 {
     stroke_keys(chart, at, n, keys);
     let m = at.len();
-    sort(&mut keys[..m], spare);
+    sort(&mut keys[..m], spare, 32);
 }
 
 // Writes how the stroke at a place is found on the tape.

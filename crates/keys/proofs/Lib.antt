@@ -1,6 +1,8 @@
 pub mod Ascends
-pub mod Merge
-pub mod Halves
+pub mod Insert
+pub mod Merging
+pub mod Buckets
+pub mod Counting
 pub mod Tables
 pub mod Apexes
 pub mod Crosses

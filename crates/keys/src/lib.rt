@@ -1,5 +1,5 @@
 // Diagonals as keys in the code: the edge (a,b), lower corner first, is the number a * 1,024 + b, so that keys ascend as edges do.
-// sort.rt puts keys in order, cross.rt finds out whether two diagonals cross, change.rt adds and removes a key.
+// sort.rt puts keys in order, merge.rt merges ascending tables, cross.rt finds out whether two diagonals cross, change.rt adds and removes a key.
 ghost use mathlib.Core.Path.{_≡_};
 ghost use Prim.Native.Nat.{_+_, _*_, _/_, _%_, _<_};
 ghost use Rattle.keys.specs.Keys.{keyOf};
@@ -7,6 +7,7 @@ ghost use Rattle.polygon.specs.Polygon.{_—_};
 
 pub mod change;
 pub mod cross;
+pub mod merge;
 pub mod sort;
 
 // The key of the edge (a,b).

@@ -1,21 +1,21 @@
 -- What the reading of a sheet has found out about its pairs, step by step, and what follows for the sheet.
 use mathlib.Core.Path.{_≡_, ap, sym, _∙_}
 use mathlib.Core.Bool.{true, false, true≢false}
-use mathlib.Core.List.{List, _++_}
+use mathlib.Core.List.{List, [], _∷_, _++_}
 use Prim.Native.Nat.{ℕ, _+_, _*_, _-_, _≤_}
 use native.Mathlib.Omega.{arith}
-use lib.ListN.{length, take, drop, getD, length-append, length-map, List·getD-map}
+use lib.ListN.{length, take, drop, length-append}
 use lib.Seq.{take-at, getD-take, length-take-le}
-use Rattle.polygon.specs.Lists.{Sub, All}
-use Rattle.polygon.specs.Polygon.{Edge, _—_, NoneCross, Diagonal}
+use Rattle.polygon.specs.Lists.{Sub, All, all-nil, all-cons}
+use Rattle.polygon.specs.Polygon.{Edge, NoneCross, Diagonal}
 use Rattle.polygon.specs.Order.{Distinct, sort}
 use Rattle.polygon.proofs.Lists.{all-mem, all-of}
 use Rattle.polygon.proofs.Sort.{sort-all, sort-sub, sort-mem, sort-ascends}
-use Rattle.keys.specs.Keys.{edgeOf, edgesOf}
-use Rattle.keys.specs.Sort.{ascends, sortKeys}
+use Rattle.keys.specs.Keys.{edgesOf}
+use Rattle.keys.specs.Sort.{ascends, sortKeys, Within}
 use Rattle.keys.specs.Tops.{Diagonals}
 use Rattle.keys.proofs.Crosses.{at-all}
-use Rattle.keys.proofs.Halves.{length-sort}
+use Rattle.keys.proofs.Insert.{length-sort}
 use Rattle.keys.proofs.InOrder.{sort-edges, ascends-edges, edges-ascend}
 use Rattle.sheet.specs.declared.Head.{Head}
 use Rattle.sheet.specs.declared.Read.{Read}
@@ -36,11 +36,12 @@ none-cross-sub : (xs ys : List Edge) → Sub xs ys → NoneCross ys → NoneCros
 none-cross-sub xs ys f N = all-of xs (λ p m. all-of xs (λ q k. all-mem (all-mem N (f p m)) (f q k)))
 
 -- keys of diagonals are small
+pub small-all : (n : ℕ) (ks : List ℕ) → n ≤ 1024 → All (Diagonal n) (edgesOf ks) → Within 20 ks
+small-all n [] h a = all-nil
+small-all n (k ∷ ks) h (all-cons d a) = all-cons {x = k} (omega (arith, d .forth, d .corner)) (small-all n ks h a)
+
 pub small-keys : (n m : ℕ) (ks : List ℕ) → n ≤ 1024 → m ≤ length ks → All (Diagonal n) (edgesOf (take m ks)) → Small m ks
-small-keys n m ks h k a j i =
-    let e : getD (edgesOf (take m ks)) j (0 — 0) ≡ edgeOf (getD ks j 0) = List·getD-map edgeOf (take m ks) j 0 ∙ ap edgeOf (getD-take m ks j 0 i) in
-    let d : Diagonal n (edgeOf (getD ks j 0)) = rw e at (at-all (0 — 0) a j (omega (arith, length-map (take m ks) edgeOf, length-take-le m ks k))) in
-    omega (arith, d .forth, d .corner)
+small-keys n m ks h k a j i = rw (getD-take m ks j 0 i) at (at-all 0 (small-all n (take m ks) h a) j (omega (arith, length-take-le m ks k)))
 
 module _ (s : List ℕ) (h : Head) (H : HeadOf s h) where
   -- there is room for the pairs

@@ -1,10 +1,12 @@
 -- The keys, then sorting as many as there are strokes.
 use mathlib.Core.Path.{_≡_, ap, sym, _∙_}
 use borrow.Author.Needs.{needs}
+use Prim.Native.Nat.{_<_}
 use native.Mathlib.Omega.{arith}
 use lib.ListN.{length, take}
-use lib.Seq.{length-take-le, take-at}
+use lib.Seq.{length-take-le, take-at, getD-take}
 use Rattle.keys.specs.Sort.{sortKeys}
+use Rattle.keys.proofs.Crosses.{all-at}
 use Rattle.chart_text.proofs.strokes.order.Statement.{statement}
 use Rattle.chart_text.proofs.strokes.order.Tie as tie
 
@@ -27,8 +29,11 @@ slice-aggregate-sort c = sym (keys-size (c .before))
 sort-requires : tie.Need-sort-requires
 sort-requires c κs =
     let at-slice-known3 = c .before .before in
-    let start = at-slice-known3 .before .before .before .before .before .before .before .before in
-    omega (arith, keys-size at-slice-known3, start .pre .1)
+    let at-stroke-keys = at-slice-known3 .before .before in
+    let start = at-stroke-keys .before .before .before .before .before .before in
+    let m = length (start .args .at .now) in
+    let ks = at-stroke-keys .stroke-keys .last .1 .1 .1 .0 in
+    (omega (arith, keys-size at-slice-known3, start .pre .1), all-at 0 (take m ks) (λ j h. let k : j < m = omega (arith, keys-size at-slice-known3) in rw (getD-take m ks j 0 k) (omega (arith, at-slice-known3 .slice-known3 .given j))))
 
 same-length : tie.Need-same-length
 same-length c = search needs

@@ -6,7 +6,7 @@ use borrow.Author.Tests.{not-true, not-false}
 use native.Mathlib.Omega.{arith}
 use lib.ListN.{length-append, length-drop}
 use lib.Seq.{length-take-le}
-use Rattle.sheet.proofs.Found.{says-refused, says-held, room, no-diagonals, first-count, repeated, in-order, crossing, holds, fitting}
+use Rattle.sheet.proofs.Found.{says-refused, says-held, small-all, room, no-diagonals, first-count, repeated, in-order, crossing, holds, fitting}
 use Rattle.sheet.proofs.reader.read_sheet.Statement.{statement}
 use Rattle.sheet.proofs.reader.read_sheet.Tie as tie
 
@@ -60,9 +60,11 @@ order-requires c κs =
     let at-h = at-read-pairs .before .before .before in
     let at-read-head = at-h .before .before in
     let start = at-read-head .before .before .before in
-    let R = room (start .args .sheet .now) (at-h .h .given .0 .0) (says-held (start .args .sheet .now) _ _ (at-read-head .read-head .ensures) (at-h .h .given .1)) in
+    let H = says-held (start .args .sheet .now) _ _ (at-read-head .read-head .ensures) (at-h .h .given .1) in
+    let R = room (start .args .sheet .now) (at-h .h .given .0 .0) H in
+    let pairs = at-read-pairs .read-pairs .ensures .0 (not-false _ (c .before .if1 .left)) in
     let e = length-take-le (at-h .h .given .0 .0 .n - 3) (at-read-pairs .read-pairs .last .1 .1 .0) (omega (arith, at-read-pairs .read-pairs .kept .1 .1 .0)) in
-    omega (arith, e)
+    (omega (arith, e), small-all (at-h .h .given .0 .0 .n) _ (R .1) (rw (pairs .1) (pairs .0)))
 
 same-length-2 : tie.Need-same-length-2
 same-length-2 c = search needs
