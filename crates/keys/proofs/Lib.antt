@@ -1,11 +1,11 @@
 pub mod Ascends
 pub mod Insert
 pub mod Merging
+pub mod Removal
 pub mod Buckets
-pub mod Counting
 pub mod Tables
+pub mod Counting
 pub mod Apexes
 pub mod Crosses
 pub mod InOrder
 pub mod Carry
-pub mod Removal

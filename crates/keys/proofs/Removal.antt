@@ -18,23 +18,23 @@ unfolding put
 put-append (yes p) x xs ys = refl
 put-append (no p) x xs ys = refl
 
-keep-snoc : {A : Type 0} {P : A → Type 0} (d : (x : A) → Dec (P x)) (xs : List A) (y : A) → keep d (xs ++ (y ∷ [])) ≡ keep d xs ++ put (d y) y []
+pub keep-append : {A : Type 0} {P : A → Type 0} (d : (x : A) → Dec (P x)) (xs ys : List A) → keep d (xs ++ ys) ≡ keep d xs ++ keep d ys
 unfolding keep
-keep-snoc d [] y = refl
-keep-snoc d (x ∷ xs) y = ap (put (d x) x) (keep-snoc d xs y) ∙ sym (put-append (d x) x (keep d xs) (put (d y) y []))
+keep-append d [] ys = refl
+keep-append d (x ∷ xs) ys = ap (put (d x) x) (keep-append d xs ys) ∙ sym (put-append (d x) x (keep d xs) (keep d ys))
 
 module _ (k : ℕ) (xs : List ℕ) (y : ℕ) where
   remove-same : y ≡ k → removeKey k (xs ++ (y ∷ [])) ≡ removeKey k xs
-  unfolding removeKey not? put
-  remove-same e = keep-snoc _ xs y ∙ go (ℕ-discrete y k)
+  unfolding removeKey keep not? put
+  remove-same e = keep-append _ xs (y ∷ []) ∙ go (ℕ-discrete y k)
     where
       go : (d : Dec (y ≡ k)) → removeKey k xs ++ put (not? d) y [] ≡ removeKey k xs
       go (yes p) = append-nil (removeKey k xs)
       go (no p) = absurd (p e)
 
   remove-other : ¬ (y ≡ k) → removeKey k (xs ++ (y ∷ [])) ≡ removeKey k xs ++ (y ∷ [])
-  unfolding removeKey not? put
-  remove-other f = keep-snoc _ xs y ∙ go (ℕ-discrete y k)
+  unfolding removeKey keep not? put
+  remove-other f = keep-append _ xs (y ∷ []) ∙ go (ℕ-discrete y k)
     where
       go : (d : Dec (y ≡ k)) → removeKey k xs ++ put (not? d) y [] ≡ removeKey k xs ++ (y ∷ [])
       go (yes p) = absurd (f p)
