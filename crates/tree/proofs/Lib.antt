@@ -1,7 +1,6 @@
 pub mod Pieces
 pub mod ShowsTree
 pub mod Lasting
-pub mod Merging
 pub mod Sides
 pub mod Listing
 pub mod Whole

@@ -16,7 +16,7 @@ use Rattle.polygon.proofs.Sort.{sort-is, distinct-of}
 use Rattle.polygon.proofs.TreeTheorem.{TreeIs, tree-of}
 use Rattle.keys.specs.Keys.{keyOf, edgeOf, edgesOf}
 use Rattle.keys.specs.Sort.{insertKey, sortKeys, merge}
-use Rattle.keys.proofs.Merge.{merge-sorts}
+use Rattle.keys.proofs.Insert.{merge-sorts}
 use Rattle.keys.proofs.InOrder.{edge-of-key, sort-edges, ascends-same, ascends-sorted, edges-ascend}
 use Rattle.keys.proofs.Crosses.{all-at, at-all}
 use Rattle.polygon.specs.Edges.{edges}

@@ -9,7 +9,7 @@ use lib.ListN.{length, getD, set, length-map}
 use Rattle.polygon.specs.Lists.{numbers, below}
 use Rattle.polygon.proofs.Lists.{below-count}
 use Rattle.tree.specs.Sides.{side, sides}
-use Rattle.tree.proofs.Merging.{Merging, merging-first, merging-second}
+use Rattle.keys.proofs.Merging.{Merging, merging-first, merging-second}
 
 pub sides-count : (k : ℕ) → length (sides k) ≡ k
 sides-count k = length-map (below k) side ∙ below-count k

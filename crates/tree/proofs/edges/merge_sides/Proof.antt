@@ -7,7 +7,7 @@ use native.Mathlib.Omega.{arith}
 use lib.ListN.{length, drop, getD}
 use lib.Seq.{drop-set-lt}
 use Rattle.tree.specs.Sides.{side, sides}
-use Rattle.tree.proofs.Merging.{Merging, merged}
+use Rattle.keys.proofs.Merging.{Merging, merged}
 use Rattle.tree.proofs.Sides.{sides-count, Next, chord-next, side-left, side-next}
 use Rattle.tree.proofs.edges.merge_sides.Statement.{statement}
 use Rattle.tree.proofs.edges.merge_sides.Tie as tie
