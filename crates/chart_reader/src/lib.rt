@@ -4,7 +4,7 @@
 ghost use mathlib.Core.Path.{_≡_};
 ghost use lib.ListN.{length};
 ghost use Rattle.codec.specs.Answer.{answered, written};
-ghost use Rattle.sheet.specs.Held.{readOf, Sized};
+ghost use Rattle.sheet.specs.Held.{Reads};
 ghost use Rattle.chart_reader.specs.Reader.{readChart, chartRead};
 use crate::bars::bars_keep;
 use crate::frame::frame;
@@ -46,8 +46,7 @@ pub struct Area {
 // Reads a chart: the part's head, with the keys of its diagonals in the table, ascending, or a refusal.
 pub fn read_part(chart: &[u8], keys: &mut [u32]) -> Read
     requires { ⌜ length (now keys) ≡ 2045 ⌝ }
-    ensures { λ r. ⌜ readOf r (now (keys .exit)) ≡ readChart (now (chart .entry)) ⌝ }
-    ensures { λ r. ⌜ Sized r (now (keys .exit)) ⌝ }
+    ensures { λ r. ⌜ Reads (readChart (now (chart .entry))) r (now (keys .exit)) ⌝ }
 {
     let mut at = [0usize; 2045];
     let n = frame(chart, &mut at);

@@ -5,7 +5,7 @@ use mathlib.Core.List.{List, map}
 use Prim.Native.Nat.{ℕ, _≤_, _<_}
 use native.Mathlib.Omega.{arith}
 use lib.ListN.{length, replicate, length-map, length-replicate}
-use Rattle.polygon.specs.Polygon.{Polygon}
+use Rattle.polygon.specs.Polygon.{Triangulated, Polygon}
 use Rattle.polygon.specs.Tree.{treeOf}
 use Rattle.polygon.proofs.TreeTheorem.{tree-of}
 use Rattle.codec.specs.Answer.{Answer, refusal, write, written, answered}
@@ -20,48 +20,42 @@ use Rattle.bar_list.specs.declared.Bar.{Bar}
 use Rattle.bar_list.specs.OfChart.{barOf}
 use Rattle.draw.specs.declared.Drawn.{Drawn}
 use Rattle.draw.specs.declared.Drawn.the-variants.{Chart, Refused}
-use Rattle.draw.specs.Answer.{charted, drawn, intoBoth, drawnBoth, drawnWithBars}
+use Rattle.draw.specs.Answer.{charted, drawn, drawnBoth, drawnWithBars}
 use Rattle.draw.specs.WithBars.{drawing, filledBy, Fits}
 use Rattle.draw.proofs.WithBars.{few-records, both-written, none-written, wrote, enough-records}
 
--- the answer r with the bytes `after`, of a sheet s and an output, for any list of `room` records
-abbrev pub For : List ℕ → List ℕ → ℕ → Drawn → List ℕ → Type 0
-For s out room r after = (bars : List Bar) → length bars ≡ room → drawing r after (filledBy r after bars) ≡ drawnWithBars s out (map barOf bars)
+-- the answer r with the bytes `after`, to a reading and an output, for any list of `room` records
+abbrev pub For : Reading → List ℕ → ℕ → Drawn → List ℕ → Type 0
+For q out room r after = (bars : List Bar) → length bars ≡ room → drawing r after (filledBy r after bars) ≡ drawnBoth q out (map barOf bars)
 
 -- the chart has the part's corners
-corners : (s : List ℕ) (p : Polygon) → readSheet s ≡ held p → chartOf p .n ≡ p .n
+corners : (p : Polygon) → Triangulated (p .n) (p .ds) → chartOf p .n ≡ p .n
 unfolding chartOf chart layout
-corners s p e = omega (arith, tree-of (p .n) (p .ds) (read-triangulated s p e) .size, read-counted s p e)
+corners p T = omega (arith, tree-of (p .n) (p .ds) T .size, T .full)
 
--- a sheet that is refused
-pub for-refused : (s out : List ℕ) (room k : ℕ) → readSheet s ≡ refused k → For s out room (Refused k) out
-unfolding drawnWithBars drawnBoth
-for-refused s out room k e bars h = rw e
-
--- a sheet that holds a part
-module _ (s out : List ℕ) (room : ℕ) (p : Polygon) (e : readSheet s ≡ held p) where
-  both : (bars : List Bar) → intoBoth (chartOf p) out (map barOf bars) ≡ drawnWithBars s out (map barOf bars)
-  unfolding drawnWithBars drawnBoth
-  both bars = rw e
-
+-- a part that was read
+module _ (p : Polygon) (T : Triangulated (p .n) (p .ds)) (out : List ℕ) (room : ℕ) where
   abbrev bytes : List ℕ
   bytes = bytesOf (chart (best (treeOf (p .n) (p .ds))))
 
-  pub for-few : room < p .n → For s out room (Refused 8) out
-  for-few h bars l = few-records (chartOf p) out bars (omega (arith, h, l, corners s p e)) ∙ both bars
+  pub for-few : room < p .n → For (held p) out room (Refused 8) out
+  unfolding drawnBoth
+  for-few h bars l = few-records (chartOf p) out bars (omega (arith, h, l, corners p T))
 
-  pub for-none : p .n ≤ room → (after : List ℕ) (k : ℕ) → refusal k after ≡ written (write bytes) out → For s out room (Refused k) after
-  unfolding chartOf
-  for-none h after k a bars l = none-written (chartOf p) out bars (omega (arith, h, l, corners s p e)) after k a ∙ both bars
+  -- with records enough: none written, or the chart
+  module _ (h : p .n ≤ room) (after : List ℕ) (k : ℕ) where
+    pub for-none : refusal k after ≡ written (write bytes) out → For (held p) out room (Refused k) after
+    unfolding chartOf drawnBoth
+    for-none a bars l = none-written (chartOf p) out bars (omega (arith, h, l, corners p T)) after k a
 
-  pub for-chart : p .n ≤ room → (after : List ℕ) (k : ℕ) → answered (is.Bytes k) after ≡ written (write bytes) out → For s out room (Chart k (p .n)) after
-  unfolding chartOf
-  for-chart h after k a bars l =
-      ap (λ (n : ℕ). drawing (Chart k n) after (filledBy (Chart k n) after bars)) (sym (corners s p e)) ∙ (both-written (chartOf p) out bars (omega (arith, h, l, corners s p e)) after k a ∙ both bars)
+    pub for-chart : answered (is.Bytes k) after ≡ written (write bytes) out → For (held p) out room (Chart k (p .n)) after
+    unfolding chartOf drawnBoth
+    for-chart a bars l =
+        ap (λ (n : ℕ). drawing (Chart k n) after (filledBy (Chart k n) after bars)) (sym (corners p T)) ∙ both-written (chartOf p) out bars (omega (arith, h, l, corners p T)) after k a
 
-  pub chart-fits : p .n ≤ room → (after : List ℕ) (k : ℕ) → answered (is.Bytes k) after ≡ written (write bytes) out → Fits (Chart k (p .n)) room (length out)
-  unfolding chartOf
-  chart-fits h after k a = (h, omega (arith, wrote (chartOf p) out after k a, corners s p e))
+    pub chart-fits : answered (is.Bytes k) after ≡ written (write bytes) out → Fits (Chart k (p .n)) room (length out)
+    unfolding chartOf
+    chart-fits a = (h, omega (arith, wrote (chartOf p) out after k a, corners p T))
 
 -- room for any part
 room-enough : (s out : List ℕ) (bars : List Bar) → length bars ≡ 1024 → drawnWithBars s out (map barOf bars) .answer ≡ written (drawn s) out
@@ -70,9 +64,10 @@ room-enough s out bars h = go (readSheet s) refl
   where
     go : (r : Reading) → readSheet s ≡ r → drawnBoth (readSheet s) out (map barOf bars) .answer ≡ written (charted (readSheet s)) out
     go (refused k) e = rw e
-    go (held p) e = rw e (enough-records (chartOf p) out (map barOf bars) (omega (arith, h, corners s p e, length-map bars barOf, read-counted s p e .0)))
+    go (held p) e = rw e (enough-records (chartOf p) out (map barOf bars) (omega (arith, h, corners p (read-triangulated s p e), length-map bars barOf, read-counted s p e .0)))
 
-pub without-bars : (s out after : List ℕ) (r : Drawn) → For s out 1024 r after → (a : Answer) → ((bars : List Bar) → drawing r after bars .answer ≡ a) → a ≡ written (drawn s) out
+pub without-bars : (s out after : List ℕ) (r : Drawn) → For (readSheet s) out 1024 r after → (a : Answer) → ((bars : List Bar) → drawing r after bars .answer ≡ a) → a ≡ written (drawn s) out
+unfolding drawnWithBars
 without-bars s out after r H a h =
     let bar : Bar = record { row = 0; left = 0; right = 0 } in
     let bars : List Bar = replicate 1024 bar in

@@ -1,14 +1,15 @@
--- The line of a part, from what was planned, and the line of a sheet, from what was read.
+-- The line of a part, from what was planned, and how long a line is.
 use mathlib.Core.Path.{_≡_, ap, sym, _∙_}
 use mathlib.Core.List.{List}
 use Prim.Native.Nat.{ℕ, _+_, _*_, _-_, _≤_}
 use native.Mathlib.Omega.{arith}
 use lib.ListN.{length}
-use Rattle.polygon.specs.Polygon.{Polygon, Valid}
+use Rattle.polygon.specs.Polygon.{Valid}
 use Rattle.polygon.specs.Tree.{Tree, leaf, node, span, treeOf}
 use Rattle.polygon.proofs.TreeTheorem.{tree-of}
 use Rattle.sheet.specs.declared.Head.{Head}
 use Rattle.sheet.specs.Sheet.{Reading, refused, held, readSheet}
+use Rattle.sheet.specs.Held.{partOf}
 use Rattle.umbrella.specs.Plan.{levels, umbrellas, stems}
 use Rattle.umbrella.specs.Numbers.{ud}
 use Rattle.umbrella.specs.Best.{planOf}
@@ -18,18 +19,10 @@ use Rattle.plan.specs.declared.Planned.the-variants.{Counts, Refused}
 use Rattle.plan.specs.Answer as plan
 use Rattle.chart.specs.Chart.{chartOf}
 use Rattle.chart.proofs.Theorems.{chart-rows, chart-columns}
-use Rattle.log_line.specs.Line.{line, refusedLine}
+use Rattle.log_line.specs.Line.{line}
 use Rattle.log_line.proofs.Size.{line-size, refused-size}
 use Rattle.draw.specs.Printed.{factsOf, printedOf, printed}
-use Rattle.draw.specs.Told.{partOf, told}
-
-pub refused-line : (s : List ℕ) (k : ℕ) → readSheet s ≡ refused k → refusedLine k ≡ printed s
-unfolding printed printedOf
-refused-line s k e = rw e
-
-pub held-line : (s : List ℕ) (p : Polygon) → readSheet s ≡ held p → line (factsOf p) ≡ printed s
-unfolding printed printedOf
-held-line s p e = rw e
+use Rattle.draw.specs.Told.{told}
 
 -- no line is longer than 256 bytes
 pub printed-size : (s : List ℕ) → length (printed s) ≤ 256

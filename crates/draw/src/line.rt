@@ -2,10 +2,11 @@
 ghost use Prim.Native.Nat.{_≤_};
 ghost use lib.ListN.{length};
 ghost use Rattle.polygon.specs.Polygon.{Valid};
+ghost use Rattle.sheet.specs.Held.{partOf};
 ghost use Rattle.log_line.specs.Put.{Put};
 ghost use Rattle.log_line.specs.Line.{line};
 ghost use Rattle.draw.specs.Printed.{factsOf, printed};
-ghost use Rattle.draw.specs.Told.{partOf, told};
+ghost use Rattle.draw.specs.Told.{told};
 use log_line::Facts;
 use log_line::put_line;
 use log_line::put_refused;

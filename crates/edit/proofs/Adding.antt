@@ -5,25 +5,23 @@ use Prim.Native.Nat.{ℕ, suc, _+_, _-_, _≤_, _<_}
 use native.Mathlib.Decide.{ℕ-discrete}
 use native.Mathlib.Omega.{arith}
 use native.Mathlib.Numerals.{add-one}
-use lib.ListN.{length, take, getD, length-map, List·getD-map}
-use lib.Seq.{length-take-le, getD-take}
+use lib.ListN.{length, take}
 use Rattle.polygon.specs.Lists.{Sorted}
-use Rattle.polygon.specs.Polygon.{_—_, Diagonal}
-use Rattle.polygon.proofs.Lists.{choose-yes, choose-no}
-use Rattle.keys.specs.Keys.{keyOf, edgeOf, edgesOf}
+use Rattle.polygon.specs.Polygon.{_—_}
+use Rattle.polygon.proofs.Lists.{choose-yes, choose-no, all-imp}
+use Rattle.keys.specs.Keys.{keyOf, edgesOf}
 use Rattle.keys.specs.Sort.{insertKey}
-use Rattle.keys.proofs.Crosses.{at-all}
 use Rattle.sheet.specs.declared.Head.{Head}
 use Rattle.sheet.specs.Sheet.{refused}
-use Rattle.sheet.specs.Held.{polygonOf, Fitting}
+use Rattle.sheet.specs.declared.Read.the-variants.{Held}
+use Rattle.sheet.specs.Held.{polygonOf, InHand, Reads}
 use Rattle.sheet.proofs.Asks.{ask-yes, ask-no}
 use Rattle.edit.specs.Rules.{addEar, rule, up, both, entering, earAdded}
 use Rattle.edit.specs.declared.shift.Shift.the-variants.{Up}
-use Rattle.edit.specs.Tables.{AllMovable}
-use Rattle.edit.specs.Part.{Part}
-use Rattle.edit.proofs.Rule.{given}
-use Rattle.edit.proofs.Add.{moved-ascending, add-triangulated}
-use Rattle.edit.proofs.InHand.{keys-sorted, inserted, edited-fits}
+use Rattle.edit.specs.Tables.{AllMovable, moved as shifted}
+use Rattle.edit.proofs.Add.{moved-ascending}
+use Rattle.edit.proofs.InHand.{edited, keys-sorted, inserted}
+use Rattle.edit.proofs.Shifting.{up-one}
 
 -- the pair that enters
 pub entering-root : (n i : ℕ) → i + 1 ≡ n → entering n i ≡ 0 — i
@@ -41,7 +39,7 @@ entering-low n i h k = go (ℕ-discrete (i + 1) n)
     go (yes e) = rw (entering-root n i e) (omega arith)
     go (no e) = rw (entering-side n i e) (omega arith)
 
-module _ {h : Head} {ks : List ℕ} (P : Part h ks) (i : ℕ) where
+module _ {h : Head} {ks : List ℕ} (P : InHand h ks) (i : ℕ) where
   pub add-outside : ¬ (i < h .n) → rule (addEar i) (polygonOf h ks) ≡ refused 9
   unfolding rule
   add-outside f = ask-no 9 _ _ f
@@ -53,29 +51,24 @@ module _ {h : Head} {ks : List ℕ} (P : Part h ks) (i : ℕ) where
 
     module _ (space : ¬ (h .n ≡ 1024)) where
       small : h .n ≤ 1023
-      small = omega (arith, P .fits .most, space)
+      small = omega (arith, P .valid .most, space)
 
-      pub can-rise : AllMovable (Up i) (h .n - 3) ks
-      can-rise j k =
-          let l : length (take (h .n - 3) ks) ≡ h .n - 3 = length-take-le (h .n - 3) ks (omega (arith, P .room, P .fits .most)) in
-          let e : getD (edgesOf (take (h .n - 3) ks)) j (0 — 0) ≡ edgeOf (getD ks j 0) = List·getD-map edgeOf (take (h .n - 3) ks) j 0 ∙ ap edgeOf (getD-take (h .n - 3) ks j 0 k) in
-          let d : Diagonal (h .n) (edgeOf (getD ks j 0)) = rw e at (at-all (0 — 0) (P .triangulated .diagonals) j (omega (arith, length-map (take (h .n - 3) ks) edgeOf))) in
-          (omega (arith, d .forth, d .corner, small), omega (arith, d .corner, small))
+      pub can-rise : AllMovable (Up i 1) (h .n - 3) ks
+      can-rise = all-imp (λ e d. ((omega (arith, d .forth, d .corner, small), λ l. omega (arith, d .forth, d .corner, small)), (omega (arith, d .corner, small), λ l. omega (arith, d .corner, small)))) (P .valid .triangulated .diagonals)
 
-      module _ (moved : List ℕ) (M : edgesOf (take (h .n - 3) moved) ≡ map (both (up i)) (edgesOf (take (h .n - 3) ks))) where
+      module _ (moved : List ℕ) (R : edgesOf (take (h .n - 3) moved) ≡ map (both (shifted (Up i 1))) (edgesOf (take (h .n - 3) ks))) where
+        M : edgesOf (take (h .n - 3) moved) ≡ map (both (up i)) (edgesOf (take (h .n - 3) ks))
+        M = R ∙ ap (λ (f : ℕ → ℕ). map (both f) (edgesOf (take (h .n - 3) ks))) (up-one i)
+
         pub moved-sorted : Sorted _<_ (take (h .n - 3) moved)
-        moved-sorted = keys-sorted (take (h .n - 3) moved) (rw M (moved-ascending (h .n) i (edgesOf (take (h .n - 3) ks)) (P .triangulated) inside))
+        moved-sorted = keys-sorted (take (h .n - 3) moved) (rw M (moved-ascending (h .n) i (edgesOf (take (h .n - 3) ks)) (P .valid .triangulated) inside))
 
         module _ {k : ℕ} (E : k ≡ keyOf (entering (h .n) i)) (after : List ℕ) (I : take (h .n - 3 + 1) after ≡ insertKey k (take (h .n - 3) moved)) (long : 1021 ≤ length after) where
           edges : edgesOf (take (h .n + 1 - 3) after) ≡ earAdded (h .n) i (edgesOf (take (h .n - 3) ks))
           unfolding earAdded
           edges =
-              let e : h .n + 1 - 3 ≡ h .n - 3 + 1 = omega (arith, P .fits .least) in
+              let e : h .n + 1 - 3 ≡ h .n - 3 + 1 = omega (arith, P .valid .least) in
               rw (e, I, inserted k (entering (h .n) i) (take (h .n - 3) moved) E (entering-low (h .n) i inside small), M)
 
-          pub added : polygonOf (record { n = h .n + 1; numbered = h .numbered; number = h .number }) after ≡ given (addEar i) (polygonOf h ks)
-          added = rw (edges, add-one (h .n))
-
-          pub added-fits : Fitting (record { n = h .n + 1; numbered = h .numbered; number = h .number }) after
-          added-fits = edited-fits (record { n = h .n + 1; numbered = h .numbered; number = h .number }) after (omega (arith, P .fits .least)) (omega (arith, small)) (P .fits .number) long
-              (rw (edges, add-one (h .n)) (add-triangulated (h .n) i (edgesOf (take (h .n - 3) ks)) (P .triangulated) inside .diagonals))
+          pub added : Reads (rule (addEar i) (polygonOf h ks)) (Held (record { n = h .n + 1; numbered = h .numbered; number = h .number })) after
+          added = edited (addEar i) P (inside, space) (rw (edges, add-one (h .n))) long

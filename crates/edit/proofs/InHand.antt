@@ -1,47 +1,33 @@
--- A part in the code's hands: what follows from a refusal of a rule, and from a rule that is taken.
-use mathlib.Core.Path.{_≡_, ap, _∙_}
+-- A part in the code's hands after an edit, and its table with an edge put in or taken out.
+use mathlib.Core.Path.{_≡_, ap, sym, _∙_}
 use mathlib.Core.List.{List}
-use Prim.Native.Nat.{ℕ, _-_, _≤_, _<_}
+use Prim.Native.Nat.{ℕ, suc, _+_, _-_, _≤_, _<_}
 use native.Mathlib.Omega.{arith}
-use lib.ListN.{length, take}
-use Rattle.polygon.specs.Lists.{All, Sorted}
-use Rattle.polygon.specs.Polygon.{Edge, Ascending, Diagonal, Polygon}
-use Rattle.polygon.specs.Order.{insert}
-use Rattle.codec.specs.Answer.{refusal, written, write}
+use lib.ListN.{length, take, length-map}
+use Rattle.polygon.specs.Lists.{Mem, Sorted}
+use Rattle.polygon.specs.Polygon.{Edge, Ascending}
+use Rattle.polygon.specs.Order.{insert, remove}
+use Rattle.polygon.proofs.Lists.{all-mem}
+use Rattle.polygon.proofs.Order.{insert-length}
 use Rattle.keys.specs.Keys.{keyOf, edgeOf, edgesOf}
 use Rattle.keys.specs.Sort.{insertKey}
+use Rattle.keys.specs.Change.{removeKey}
 use Rattle.keys.proofs.InOrder.{edge-of-key, insert-edges, ascends-sorted, edges-ascend}
+use Rattle.keys.proofs.Removal.{remove-edges}
 use Rattle.sheet.specs.declared.Head.{Head}
-use Rattle.sheet.specs.Sheet.{refused, held, readSheet, normalSheet, outcome}
-use Rattle.sheet.specs.Held.{polygonOf, Fitting}
-use Rattle.sheet.proofs.Found.{small-keys}
-use Rattle.sheet.proofs.Valid.{read-triangulated}
+use Rattle.sheet.specs.declared.Read.the-variants.{Held}
+use Rattle.sheet.specs.Sheet.{held}
+use Rattle.sheet.specs.Held.{polygonOf, InHand, Reads, gives}
 use Rattle.edit.specs.Rules.{Edit, rule}
-use Rattle.edit.specs.Calls.{onHeld, edited}
-use Rattle.edit.specs.Part.{Part}
 use Rattle.edit.proofs.Rule.{Takes, given, rule-takes}
+use Rattle.edit.proofs.Enter.{insert-remove}
+use Rattle.edit.proofs.Keeps.{given-valid}
 
--- a part that was read
-pub part-read : (s : List ℕ) (h : Head) (ks : List ℕ) → readSheet s ≡ held (polygonOf h ks) → Fitting h ks → 1021 ≤ length ks → Part h ks
-part-read s h ks e F l = record { fits = F; room = l; triangulated = read-triangulated s (polygonOf h ks) e }
-
--- the operation's answer, by what was read
-pub edited-refused : (e : Edit) (s out : List ℕ) (k : ℕ) → readSheet s ≡ refused k → refusal k out ≡ written (edited e s) out
-unfolding edited onHeld outcome written
-edited-refused e s out k r = rw r
-
-pub edited-held : (e : Edit) (s out : List ℕ) (p : Polygon) → readSheet s ≡ held p → written (outcome (rule e p)) out ≡ written (edited e s) out
-unfolding edited onHeld
-edited-held e s out p r = rw r
-
--- the answer by a rule that refuses, and by one that is taken
-pub rule-refused : (e : Edit) (p : Polygon) (out : List ℕ) (k : ℕ) → rule e p ≡ refused k → refusal k out ≡ written (outcome (rule e p)) out
-unfolding outcome written
-rule-refused e p out k r = rw r
-
-pub rule-written : (e : Edit) (p q : Polygon) (out : List ℕ) → Takes e p → q ≡ given e p → written (write (normalSheet q)) out ≡ written (outcome (rule e p)) out
-unfolding outcome
-rule-written e p q out t r = rw (rule-takes e p t, r)
+-- what an edit that is taken gives
+pub edited : (e : Edit) {h g : Head} {ks after : List ℕ} → InHand h ks → Takes e (polygonOf h ks) → polygonOf g after ≡ given e (polygonOf h ks) → 1021 ≤ length after
+    → Reads (rule e (polygonOf h ks)) (Held g) after
+edited e {h} {g} {ks} {after} P t same long =
+    gives {h = g} (rule-takes e (polygonOf h ks) t ∙ ap held (sym same)) (record { valid = rw same (given-valid e (polygonOf h ks) (P .valid) t); room = long })
 
 -- keys whose edges ascend, ascend
 pub keys-sorted : (ks : List ℕ) → Ascending (edgesOf ks) → Sorted _<_ ks
@@ -51,6 +37,21 @@ keys-sorted ks a = ascends-sorted ks (edges-ascend ks a)
 pub inserted : (k : ℕ) (e : Edge) (ks : List ℕ) → k ≡ keyOf e → e .1 < 1024 → edgesOf (insertKey k ks) ≡ insert e (edgesOf ks)
 inserted k e ks p h = insert-edges k ks ∙ ap (λ (f : Edge). insert f (edgesOf ks)) (ap edgeOf p ∙ edge-of-key e h)
 
--- what the code holds after an edit fits
-pub edited-fits : (h : Head) (ks : List ℕ) → 3 ≤ h .n → h .n ≤ 1024 → h .number < 4294967296 → 1021 ≤ length ks → All (Diagonal (h .n)) (edgesOf (take (h .n - 3) ks)) → Fitting h ks
-edited-fits h ks a b c l D = record { least = a; most = b; number = c; keys = small-keys (h .n) (h .n - 3) ks b (omega arith) D }
+-- a part's table without the diagonal e
+pub record Without (h : Head) (ks : List ℕ) (e : Edge) (out : List ℕ) : Type 0 where
+  pub member : Mem e (edgesOf (take (h .n - 3) ks))
+  pub left : edgesOf (take (h .n - 3 - 1) out) ≡ remove e (edgesOf (take (h .n - 3) ks))
+  pub some : 1 ≤ h .n - 3
+  pub room : 1021 ≤ length out
+
+-- it is taken out by its key
+pub taken-out : {h : Head} {ks : List ℕ} (P : InHand h ks) (e : Edge) → Mem e (edgesOf (take (h .n - 3) ks)) → {k : ℕ} → k ≡ keyOf e → (out : List ℕ) {r : ℕ}
+    → take r out ≡ removeKey k (take (h .n - 3) ks) → r ≡ length (removeKey k (take (h .n - 3) ks)) → 1021 ≤ length out → Without h ks e out
+taken-out {h} {ks} P e m {k} K out {r} t l long =
+    let T = P .valid .triangulated in
+    let key : edgeOf k ≡ e = ap edgeOf K ∙ edge-of-key e (omega (arith, all-mem (T .diagonals) m .corner, P .valid .most)) in
+    let es : edgesOf (removeKey k (take (h .n - 3) ks)) ≡ remove e (edgesOf (take (h .n - 3) ks)) = remove-edges k (take (h .n - 3) ks) ∙ ap (λ (f : Edge). remove f (edgesOf (take (h .n - 3) ks))) key in
+    let one : suc (length (remove e (edgesOf (take (h .n - 3) ks)))) + 3 ≡ h .n =
+    ap (λ (j : ℕ). j + 3) (sym (insert-length e (remove e (edgesOf (take (h .n - 3) ks))))) ∙ (ap (λ (xs : List Edge). length xs + 3) (insert-remove e (edgesOf (take (h .n - 3) ks)) (T .ascending) m) ∙ T .full) in
+    let count : r ≡ h .n - 3 - 1 = omega (arith, l, ap length es, length-map (removeKey k (take (h .n - 3) ks)) edgeOf) in
+    record { member = m; left = rw (← count, t) es; some = omega arith; room = long }

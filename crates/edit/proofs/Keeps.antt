@@ -8,7 +8,7 @@ use Rattle.edit.proofs.Add.{add-valid}
 use Rattle.edit.proofs.Remove.{remove-valid}
 use Rattle.edit.proofs.Flipped.{flip-valid}
 
-given-valid : (e : Edit) (p : Polygon) → Valid p → Takes e p → Valid (given e p)
+pub given-valid : (e : Edit) (p : Polygon) → Valid p → Takes e p → Valid (given e p)
 given-valid (addEar i) p A t = add-valid p i A t
 given-valid (removeEar k) p A t = remove-valid p k A t
 given-valid (flip a b) p A t = flip-valid p a b A t

@@ -1,34 +1,25 @@
 -- A table of keys renumbered place after place.
 use mathlib.Core.Path.{_≡_, refl, ap, sym, _∙_}
 use mathlib.Core.List.{List, [], _∷_, map, map-append}
-use Prim.Native.Nat.{ℕ, suc, _+_, _-_, _/_, _%_, _<_, _≤_}
+use Prim.Native.Nat.{ℕ, suc, _+_, _/_, _%_, _<_, _≤_}
 use native.Mathlib.Decide.{decLt}
 use native.Mathlib.Numerals.{add-one}
 use native.Mathlib.Omega.{arith}
 use lib.ListN.{length, take, drop, set, getD, length-set}
-use lib.Seq.{take-suc, take-suc-set, drop-set-lt, drop-drop, drop-cons}
+use lib.Seq.{take-suc, take-suc-set, drop-set-lt, drop-drop, drop-cons, getD-take, length-take-le}
+use Rattle.polygon.specs.Lists.{All, choose}
 use Rattle.polygon.specs.Polygon.{_—_}
-use Rattle.polygon.proofs.Lists.{choose-yes, choose-no}
 use Rattle.keys.specs.Keys.{keyOf, edgeOf, edgesOf}
 use Rattle.keys.proofs.InOrder.{edge-of-key}
-use Rattle.edit.specs.Rules.{up, down, both}
+use Rattle.sheet.proofs.Hand.{edge-at}
+use Rattle.edit.specs.declared.shift.Shift.the-variants.{Up}
+use Rattle.edit.specs.Rules.{up, both}
+use Rattle.edit.specs.Tables.{moved}
 
--- which way a corner goes
-pub up-above : (i x : ℕ) → i < x → x + 1 ≡ up i x
+-- the rule of an added corner is the case of one
+pub up-one : (i : ℕ) → moved (Up i 1) ≡ up i
 unfolding up
-up-above i x h = add-one x ∙ sym (choose-yes (decLt i x) x h)
-
-pub up-below : (i x : ℕ) → x ≤ i → x ≡ up i x
-unfolding up
-up-below i x h = sym (choose-no (decLt i x) (suc x) (λ k. omega arith))
-
-pub down-above : (k x : ℕ) → k < x → x - 1 ≡ down k x
-unfolding down
-down-above k x h = sym (choose-yes (decLt k x) x h)
-
-pub down-below : (k x : ℕ) → x ≤ k → x ≡ down k x
-unfolding down
-down-below k x h = sym (choose-no (decLt k x) (x - 1) (λ j. omega arith))
+up-one i = λ j x. choose (decLt i x) (add-one x j) x
 
 -- what the loop keeps: the edges before j are renumbered by f, and from j on nothing has changed
 pub record Mapping (f : ℕ → ℕ) (m : ℕ) (first keys : List ℕ) (j : ℕ) : Type 0 where
@@ -41,12 +32,16 @@ pub mapping-begin : (f : ℕ → ℕ) (m : ℕ) (keys : List ℕ) → Mapping f 
 mapping-begin f m keys = record { upto = omega arith; kept = refl; done = refl; rest = refl }
 
 module _ (f : ℕ → ℕ) (m : ℕ) (first keys : List ℕ) (j : ℕ) (M : Mapping f m first keys j) (fits : m ≤ length first) (more : j < m) where
-  pub same-key : getD keys j 0 ≡ getD first j 0
+  same-key : getD keys j 0 ≡ getD first j 0
   same-key = ap front (sym (drop-cons keys j 0 (omega (arith, M .kept))) ∙ (M .rest ∙ drop-cons first j 0 (omega arith)))
     where
       front : List ℕ → ℕ
       front [] = 0
       front (x ∷ xs) = x
+
+  -- what holds of the corners of all edges at first
+  pub at-first : (Q : ℕ → Type 0) → All (λ e. Q (e .0) × Q (e .1)) (edgesOf (take m first)) → Q (getD keys j 0 / 1024) × Q (getD keys j 0 % 1024)
+  at-first Q a = rw (same-key, ← getD-take m first j 0 more) (edge-at {P = λ e. Q (e .0) × Q (e .1)} (take m first) a j (omega (arith, length-take-le m first fits)))
 
   pub mapping-next : (a b v : ℕ) → a ≡ f (getD keys j 0 / 1024) → b ≡ f (getD keys j 0 % 1024) → b < 1024 → v ≡ keyOf (a — b) → Mapping f m first (set keys j v) (j + 1)
   unfolding both

@@ -7,10 +7,10 @@ use native.Mathlib.Decide.{decLt}
 use native.Mathlib.Omega.{arith}
 use lib.ListN.{length, take, getD, replicate}
 use Rattle.polygon.specs.Lists.{Mem, head, tail, all-cons, Sorted, sorted-cons}
-use Rattle.polygon.specs.Polygon.{Edge, _—_, Triangulated}
+use Rattle.polygon.specs.Polygon.{Edge, _—_}
 use Rattle.polygon.specs.Order.{insert, remove, lower-first}
 use Rattle.polygon.proofs.Lists.{here, there, not-empty, keep-sorted, below-sorted}
-use Rattle.polygon.proofs.Order.{remove-ascending, insert-length}
+use Rattle.polygon.proofs.Order.{remove-ascending}
 use Rattle.keys.specs.Keys.{keyOf, edgeOf, edgesOf}
 use Rattle.keys.specs.Sort.{insertKey}
 use Rattle.keys.specs.Change.{removeKey}
@@ -18,18 +18,16 @@ use Rattle.keys.proofs.InOrder.{edge-of-key}
 use Rattle.keys.proofs.Removal.{mem-edges, edges-mem}
 use Rattle.sheet.specs.declared.Head.{Head}
 use Rattle.sheet.specs.Sheet.{refused}
-use Rattle.sheet.specs.Held.{polygonOf, Fitting}
+use Rattle.sheet.specs.declared.Read.the-variants.{Held}
+use Rattle.sheet.specs.Held.{polygonOf, InHand, Reads}
 use Rattle.sheet.proofs.Asks.{ask-yes, ask-no}
 use Rattle.sheet.proofs.Pairs.{lower-below, lower-above}
 use Rattle.edit.specs.Rules.{flip, rule, common}
 use Rattle.edit.specs.Tables.{Near, Common}
-use Rattle.edit.specs.Part.{Part}
-use Rattle.edit.proofs.Rule.{Takes, given}
 use Rattle.edit.proofs.Reading.{common-reads}
-use Rattle.edit.proofs.Quad.{Across, across, joined-corners}
-use Rattle.edit.proofs.Flipped.{common-is, flipped-is, flip-triangulated}
-use Rattle.edit.proofs.InHand.{keys-sorted, inserted, edited-fits}
-use Rattle.edit.proofs.Removing.{taken-out}
+use Rattle.edit.proofs.Quad.{across, joined-corners}
+use Rattle.edit.proofs.Flipped.{common-is, flipped-is}
+use Rattle.edit.proofs.InHand.{edited, keys-sorted, inserted, Without, taken-out}
 
 -- two tables of near corners, and the first and second corner marked in both
 module _ (n a b : ℕ) (ds : List Edge) (p q : List ℕ) (A : Near n ds a p) (B : Near n ds b q) (x y : ℕ) (two : common n ds (a — b) ≡ x ∷ (y ∷ [])) where
@@ -86,66 +84,39 @@ in-order a b h = go (decLt a b)
     go (yes l) = lower-below a b l
     go (no l) = let e : a ≡ b = omega arith in lower-above a b (omega arith) ∙ rw e
 
-module _ {h : Head} {ks : List ℕ} (P : Part h ks) (a b : ℕ) where
+module _ {h : Head} {ks : List ℕ} (P : InHand h ks) (a b : ℕ) where
   pub turn-outside : ¬ ((a < h .n) × (b < h .n)) → rule (flip a b) (polygonOf h ks) ≡ refused 9
   unfolding rule
   turn-outside f = ask-no 9 _ _ f
 
   module _ (up : a ≤ b) (inside : b < h .n) {k : ℕ} (K : k ≡ keyOf (a — b)) where
     edge-k : edgeOf k ≡ a — b
-    edge-k = ap edgeOf K ∙ edge-of-key (a — b) (omega (arith, P .fits .most))
+    edge-k = ap edgeOf K ∙ edge-of-key (a — b) (omega (arith, P .valid .most))
 
     pub turn-lacks : ¬ Mem k (take (h .n - 3) ks) → rule (flip a b) (polygonOf h ks) ≡ refused 13
     unfolding rule
     turn-lacks f = ask-yes 9 _ _ (omega arith, inside) ∙ ask-no 13 _ _ (λ m. f (edges-mem k (take (h .n - 3) ks) (rw (edge-k, ← in-order a b up) m)))
 
-    module _ (M : Mem k (take (h .n - 3) ks)) where
-      member : Mem (a — b) (edgesOf (take (h .n - 3) ks))
-      member = rw edge-k at (mem-edges k (take (h .n - 3) ks) M)
+    pub turn-out : Mem k (take (h .n - 3) ks) → (out : List ℕ) {r : ℕ} → take r out ≡ removeKey k (take (h .n - 3) ks) → r ≡ length (removeKey k (take (h .n - 3) ks)) → 1021 ≤ length out
+        → Without h ks (a — b) out
+    turn-out M = taken-out P (a — b) (rw edge-k at (mem-edges k (take (h .n - 3) ks) M)) K
 
-      turned : (f : Edge) × Across (h .n) (edgesOf (take (h .n - 3) ks)) (a — b) f
-      turned = across (h .n) (edgesOf (take (h .n - 3) ks)) (P .triangulated) (a — b) member
+  module _ {out : List ℕ} (W : Without h ks (a — b) out) where
+    pub out-sorted : Sorted _<_ (take (h .n - 3 - 1) out)
+    out-sorted = keys-sorted (take (h .n - 3 - 1) out) (rw (W .left) (remove-ascending (a — b) (P .valid .triangulated .ascending)))
 
-      pub turn-takes : Takes (flip a b) (polygonOf h ks)
-      turn-takes = ((omega arith, inside), rw (in-order a b up) member)
-
-      module _ (other : ℕ) (O : (x y : ℕ) → common (h .n) (edgesOf (take (h .n - 3) ks)) (a — b) ≡ x ∷ (y ∷ []) → other ≡ keyOf (x — y))
-          (out : List ℕ) {r : ℕ} (T : take r out ≡ removeKey k (take (h .n - 3) ks)) (L : r ≡ length (removeKey k (take (h .n - 3) ks))) where
-        abbrev f : Edge
-        f = turned .0
-
-        triangulated : Triangulated (h .n) (insert f (remove (a — b) (edgesOf (take (h .n - 3) ks))))
-        triangulated = flip-triangulated (h .n) (edgesOf (take (h .n - 3) ks)) (P .triangulated) (a — b) f (turned .1) member
-
-        gone : (edgesOf (take r out) ≡ remove (a — b) (edgesOf (take (h .n - 3) ks))) × (r ≡ length (remove (a — b) (edgesOf (take (h .n - 3) ks))))
-        gone = taken-out (h .n - 3) k (a — b) ks out r K (omega (arith, P .fits .most)) T L
-
-        pub count : (r ≡ h .n - 3 - 1) × (1 ≤ h .n - 3)
-        count = omega (arith, gone .1, triangulated .full, insert-length f (remove (a — b) (edgesOf (take (h .n - 3) ks))))
-
-        out-edges : edgesOf (take (h .n - 3 - 1) out) ≡ remove (a — b) (edgesOf (take (h .n - 3) ks))
-        out-edges = rw (← count .0) (gone .0)
-
-        pub out-sorted : Sorted _<_ (take (h .n - 3 - 1) out)
-        out-sorted = keys-sorted (take (h .n - 3 - 1) out) (rw out-edges (remove-ascending (a — b) (P .triangulated .ascending)))
-
-        module _ (after : List ℕ) (I : take (h .n - 3 - 1 + 1) after ≡ insertKey other (take (h .n - 3 - 1) out)) (long : 1021 ≤ length after) where
-          f-low : f .1 < 1024
-          f-low = omega (arith, joined-corners (h .n) (edgesOf (take (h .n - 3) ks)) (P .triangulated) _ _ (turned .1 .low-high) .1, P .fits .most)
-
-          new : other ≡ keyOf f
-          new = O (f .0) (f .1) (common-is (h .n) (edgesOf (take (h .n - 3) ks)) (P .triangulated) (a — b) f (turned .1))
-
-          edges : edgesOf (take (h .n - 3) after) ≡ insert f (remove (a — b) (edgesOf (take (h .n - 3) ks)))
-          edges =
-              let e : h .n - 3 ≡ h .n - 3 - 1 + 1 = omega (arith, count .1) in
-              ap (λ (j : ℕ). edgesOf (take j after)) e ∙ (ap edgesOf I ∙ (inserted other f (take (h .n - 3 - 1) out) new f-low ∙ ap (insert f) out-edges))
-
-          pub flipped-over : polygonOf h after ≡ given (flip a b) (polygonOf h ks)
-          flipped-over = rw (edges, in-order a b up, flipped-is (h .n) (edgesOf (take (h .n - 3) ks)) (P .triangulated) (a — b) f (turned .1))
-
-          pub flipped-fits : Fitting h after
-          flipped-fits = edited-fits h after (P .fits .least) (P .fits .most) (P .fits .number) long (rw edges (triangulated .diagonals))
+    pub flipped-over : a ≤ b → b < h .n → {other : ℕ} → ((x y : ℕ) → common (h .n) (edgesOf (take (h .n - 3) ks)) (a — b) ≡ x ∷ (y ∷ []) → other ≡ keyOf (x — y)) → (after : List ℕ)
+        → take (h .n - 3 - 1 + 1) after ≡ insertKey other (take (h .n - 3 - 1) out) → 1021 ≤ length after → Reads (rule (flip a b) (polygonOf h ks)) (Held h) after
+    flipped-over up inside {other} O after I long =
+        let T = P .valid .triangulated in
+        let (f, A) = across (h .n) (edgesOf (take (h .n - 3) ks)) T (a — b) (W .member) in
+        let low : f .1 < 1024 = omega (arith, joined-corners (h .n) (edgesOf (take (h .n - 3) ks)) T _ _ (A .low-high) .1, P .valid .most) in
+        let new : other ≡ keyOf f = O (f .0) (f .1) (common-is (h .n) (edgesOf (take (h .n - 3) ks)) T (a — b) f A) in
+        let m : h .n - 3 ≡ h .n - 3 - 1 + 1 = omega (arith, W .some) in
+        let edges : edgesOf (take (h .n - 3) after) ≡ insert f (remove (a — b) (edgesOf (take (h .n - 3) ks))) =
+        ap (λ (j : ℕ). edgesOf (take j after)) m ∙ (ap edgesOf I ∙ (inserted other f (take (h .n - 3 - 1) out) new low ∙ ap (insert f) (W .left))) in
+        let there : Mem (lower-first (a, b)) (edgesOf (take (h .n - 3) ks)) = rw (in-order a b up) (W .member) in
+        edited (flip a b) P ((omega arith, inside), there) (rw (edges, in-order a b up, flipped-is (h .n) (edgesOf (take (h .n - 3) ks)) T (a — b) f A)) long
 
 -- a blank table has no mark
 pub blank : (n x : ℕ) → _≡_ {A = ℕ} (getD (replicate n 0) x 0) 0

@@ -2,4 +2,3 @@ pub mod Rules
 pub mod Model
 pub mod Calls
 pub mod Tables
-pub mod Part

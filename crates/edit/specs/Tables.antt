@@ -2,25 +2,36 @@
 use mathlib.Core.Path.{_≡_}
 use mathlib.Core.Logic.{_⊎_}
 use mathlib.Core.List.{List}
-use Prim.Native.Nat.{ℕ, _/_, _%_, _<_, _≤_}
-use lib.ListN.{getD}
+use Prim.Native.Nat.{ℕ, _+_, _-_, _<_, _≤_}
+use native.Mathlib.Decide.{decLt}
+use lib.ListN.{take, getD}
+use Rattle.polygon.specs.Lists.{All, choose}
 use Rattle.polygon.specs.Polygon.{Edge, Joined}
+use Rattle.keys.specs.Keys.{edgesOf}
+use Rattle.edit.specs.declared.held.Edit as code
+use Rattle.edit.specs.declared.held.Edit.the-variants.{AddEar, RemoveEar, Flip}
 use Rattle.edit.specs.declared.shift.Shift.{Shift}
 use Rattle.edit.specs.declared.shift.Shift.the-variants.{Up, Down}
-use Rattle.edit.specs.Rules.{up, down}
+use Rattle.edit.specs.Rules.{Edit, addEar, removeEar, flip}
 
--- a corner renumbered; and that its number stays below 1,024
+-- the edit that the code's value stands for
+abbrev pub editOf : code.Edit → Edit
+editOf (AddEar i) = addEar i
+editOf (RemoveEar k) = removeEar k
+editOf (Flip a b) = flip a b
+
+-- a corner renumbered; and that its number stays one below 1,024
 abbrev pub moved : Shift → ℕ → ℕ
-moved (Up i) = up i
-moved (Down k) = down k
+moved (Up at by) x = choose (decLt at x) (x + by) x
+moved (Down at by) x = choose (decLt at x) (x - by) x
 
 abbrev pub Movable : Shift → ℕ → Type 0
-Movable (Up i) x = x < 1023
-Movable (Down k) x = x < 1024
+Movable (Up at by) x = (x < 1024) × (at < x → x + by < 1024)
+Movable (Down at by) x = (x < 1024) × (at < x → by ≤ x)
 
 -- the corners of the first m keys can be renumbered
 abbrev pub AllMovable : Shift → ℕ → List ℕ → Type 0
-AllMovable s m ks = (j : ℕ) → j < m → Movable s (getD ks j 0 / 1024) × Movable s (getD ks j 0 % 1024)
+AllMovable s m ks = All (λ e. Movable s (e .0) × Movable s (e .1)) (edgesOf (take m ks))
 
 -- r is the other end of an edge with an end at c, or 1,024 if neither end is c
 abbrev pub OtherEnd : Edge → ℕ → ℕ → Type 0

@@ -1,16 +1,12 @@
-// The three edits on a part that was read: its head, and the keys of its diagonals in a table.
+// The edits on a part in hand: its head, and the keys of its diagonals in a table. What an edit gives is again a part in hand, or a refusal.
 ghost use mathlib.Core.Path.{_≡_};
 ghost use mathlib.Core.List.{[], _∷_};
-ghost use Prim.Native.Nat.{ℕ, _+_, _-_, _<_, _≤_};
-ghost use lib.ListN.{length, take};
-ghost use Rattle.codec.specs.Answer.{answered, written};
+ghost use Prim.Native.Nat.{ℕ, _<_, _≤_};
 ghost use Rattle.polygon.specs.Polygon.{_—_};
 ghost use Rattle.keys.specs.Keys.{keyOf, edgesOf};
-ghost use Rattle.sheet.specs.Sheet.{outcome};
-ghost use Rattle.sheet.specs.Held.{polygonOf};
+ghost use Rattle.sheet.specs.Held.{polygonOf, Small, InHand, Reads};
 ghost use Rattle.edit.specs.Rules.{addEar, removeEar, flip, rule, entering, common};
-ghost use Rattle.sheet.specs.Held.{Small};
-ghost use Rattle.edit.specs.Part.{Part};
+ghost use Rattle.edit.specs.Tables.{editOf};
 use crate::near::first_common;
 use crate::near::high_neighbour;
 use crate::near::is_ear;
@@ -18,13 +14,19 @@ use crate::near::low_neighbour;
 use crate::near::mark;
 use crate::shift::Shift;
 use crate::shift::renumber;
-use codec::Written;
 use keys::change::has;
 use keys::change::insert;
 use keys::change::remove;
 use keys::key;
 use sheet::Head;
-use sheet::writer::write_sheet;
+use sheet::Read;
+
+// An edit: add a corner on a side, take off a corner, turn the diagonal of two corners, named in either order.
+pub enum Edit {
+    AddEar(usize),
+    RemoveEar(usize),
+    Flip(usize, usize),
+}
 
 // The key of the diagonal that enters with a corner on side i.
 fn entering_key(n: usize, i: usize) -> u32
@@ -38,59 +40,57 @@ fn entering_key(n: usize, i: usize) -> u32
 }
 
 // Adds a corner on a side.
-pub fn add_to(h: Head, keys: &mut [u32], side: usize, out: &mut [u8]) -> Written
-    requires { ⌜ Part h (now keys) ⌝ }
-    ensures { λ r. ⌜ answered r (now (out .exit)) ≡ written (outcome (rule (addEar side) (polygonOf h (now (keys .entry))))) (now (out .entry)) ⌝ }
+fn add_to(h: Head, keys: &mut [u32], side: usize) -> Read
+    requires { ⌜ InHand h (now keys) ⌝ }
+    ensures { λ r. ⌜ Reads (rule (addEar side) (polygonOf h (now (keys .entry)))) r (now (keys .exit)) ⌝ }
 {
     let n = h.n;
     if side >= n {
-        return Written::Refused(9);
+        return Read::Refused(9);
     }
     if n == 1024 {
-        return Written::Refused(10);
+        return Read::Refused(10);
     }
     let m = n - 3;
-    renumber(keys, m, Shift::Up(side));
+    renumber(keys, m, Shift::Up(side, 1));
     insert(keys, m, entering_key(n, side));
-    let more = Head {
+    Read::Held(Head {
         n: n + 1,
         numbered: h.numbered,
         number: h.number,
-    };
-    write_sheet(more, keys, out)
+    })
 }
 
 // Takes off a corner.
-pub fn remove_from(h: Head, keys: &mut [u32], corner: usize, out: &mut [u8]) -> Written
-    requires { ⌜ Part h (now keys) ⌝ }
-    ensures { λ r. ⌜ answered r (now (out .exit)) ≡ written (outcome (rule (removeEar corner) (polygonOf h (now (keys .entry))))) (now (out .entry)) ⌝ }
+fn remove_from(h: Head, keys: &mut [u32], corner: usize) -> Read
+    requires { ⌜ InHand h (now keys) ⌝ }
+    ensures { λ r. ⌜ Reads (rule (removeEar corner) (polygonOf h (now (keys .entry)))) r (now (keys .exit)) ⌝ }
 {
     let n = h.n;
     if corner >= n {
-        return Written::Refused(9);
+        return Read::Refused(9);
     }
     if n == 3 {
-        return Written::Refused(11);
+        return Read::Refused(11);
     }
     let m = n - 3;
     if !is_ear(&keys[..m], corner) {
-        return Written::Refused(12);
+        return Read::Refused(12);
     }
     let a = low_neighbour(n, corner);
     let b = high_neighbour(n, corner);
     remove(keys, m, key(a, b));
-    renumber(keys, m - 1, Shift::Down(corner));
-    let fewer = Head {
+    renumber(keys, m - 1, Shift::Down(corner, 1));
+    Read::Held(Head {
         n: n - 1,
         numbered: h.numbered,
         number: h.number,
-    };
-    write_sheet(fewer, keys, out)
+    })
 }
 
 // The key of the pair of corners that are joined to both a and b.
 fn turned_key(keys: &[u32], n: usize, a: usize, b: usize) -> u32
-    requires { ⌜ (3 ≤ n) × (n ≤ 1024) × (a < n) × (b < n) × Small (length (now keys)) (now keys) ⌝ }
+    requires { ⌜ (3 ≤ n) × (n ≤ 1024) × (a < n) × (b < n) × Small (now keys) ⌝ }
     ensures { λ r. ⌜ ((x y : ℕ) → common n (edgesOf (now (keys .entry))) (a — b) ≡ x ∷ (y ∷ []) → r ≡ keyOf (x — y)) ⌝ }
 {
     let mut near = [0u8; 1025];
@@ -109,38 +109,50 @@ fn turned_key(keys: &[u32], n: usize, a: usize, b: usize) -> u32
 }
 
 // Turns the diagonal (a,b), a below b.
-fn turn(h: Head, keys: &mut [u32], a: usize, b: usize, out: &mut [u8]) -> Written
-    requires { ⌜ Part h (now keys) ⌝ }
+fn turn(h: Head, keys: &mut [u32], a: usize, b: usize) -> Read
+    requires { ⌜ InHand h (now keys) ⌝ }
     requires { ⌜ (a ≤ b) × (b < h .n) ⌝ }
-    ensures { λ r. ⌜ answered r (now (out .exit)) ≡ written (outcome (rule (flip a b) (polygonOf h (now (keys .entry))))) (now (out .entry)) ⌝ }
+    ensures { λ r. ⌜ Reads (rule (flip a b) (polygonOf h (now (keys .entry)))) r (now (keys .exit)) ⌝ }
 {
     let n = h.n;
     let m = n - 3;
     let k = key(a, b);
     if !has(&keys[..m], k) {
-        return Written::Refused(13);
+        return Read::Refused(13);
     }
     let other = turned_key(&keys[..m], n, a, b);
     remove(keys, m, k);
     insert(keys, m - 1, other);
-    write_sheet(h, keys, out)
+    Read::Held(h)
 }
 
 // Turns the diagonal (a,b), named in either order.
-pub fn flip_in(h: Head, keys: &mut [u32], a: usize, b: usize, out: &mut [u8]) -> Written
-    requires { ⌜ Part h (now keys) ⌝ }
-    ensures { λ r. ⌜ answered r (now (out .exit)) ≡ written (outcome (rule (flip a b) (polygonOf h (now (keys .entry))))) (now (out .entry)) ⌝ }
+fn flip_in(h: Head, keys: &mut [u32], a: usize, b: usize) -> Read
+    requires { ⌜ InHand h (now keys) ⌝ }
+    ensures { λ r. ⌜ Reads (rule (flip a b) (polygonOf h (now (keys .entry)))) r (now (keys .exit)) ⌝ }
 {
     let n = h.n;
     if a >= n {
-        return Written::Refused(9);
+        return Read::Refused(9);
     }
     if b >= n {
-        return Written::Refused(9);
+        return Read::Refused(9);
     }
     if a < b {
-        turn(h, keys, a, b, out)
+        turn(h, keys, a, b)
     } else {
-        turn(h, keys, b, a, out)
+        turn(h, keys, b, a)
+    }
+}
+
+// Does an edit.
+pub fn edit_part(h: Head, keys: &mut [u32], e: Edit) -> Read
+    requires { ⌜ InHand h (now keys) ⌝ }
+    ensures { λ r. ⌜ Reads (rule (editOf e) (polygonOf h (now (keys .entry)))) r (now (keys .exit)) ⌝ }
+{
+    match e {
+        Edit::AddEar(side) => add_to(h, keys, side),
+        Edit::RemoveEar(corner) => remove_from(h, keys, corner),
+        Edit::Flip(a, b) => flip_in(h, keys, a, b),
     }
 }

@@ -5,46 +5,49 @@ ghost use mathlib.Core.Path.{_≡_};
 ghost use Rattle.codec.specs.Answer.{answered, written};
 ghost use Rattle.edit.specs.Rules.{addEar, removeEar, flip};
 ghost use Rattle.edit.specs.Calls.{edited};
-use crate::held::add_to;
-use crate::held::flip_in;
-use crate::held::remove_from;
+ghost use Rattle.edit.specs.Tables.{editOf};
+use crate::held::Edit;
+use crate::held::edit_part;
 use codec::Written;
 use sheet::Read;
 use sheet::reader::read_sheet;
+use sheet::writer::write_sheet;
 
 pub mod held;
 pub mod near;
 pub mod shift;
 
-// Add a corner on a side.
-pub fn add_ear(sheet: &[u8], side: usize, out: &mut [u8]) -> Written
-    ensures { λ r. ⌜ answered r (now (out .exit)) ≡ written (edited (addEar side) (now (sheet .entry))) (now (out .entry)) ⌝ }
+// The sheet's part after an edit, as a sheet in normal order.
+pub fn edit(sheet: &[u8], e: Edit, out: &mut [u8]) -> Written
+    ensures { λ r. ⌜ answered r (now (out .exit)) ≡ written (edited (editOf e) (now (sheet .entry))) (now (out .entry)) ⌝ }
 {
     let mut keys = [0u32; 1021];
     match read_sheet(sheet, &mut keys) {
         Read::Refused(k) => Written::Refused(k),
-        Read::Held(h) => add_to(h, &mut keys, side, out),
+        Read::Held(h) => match edit_part(h, &mut keys, e) {
+            Read::Refused(k) => Written::Refused(k),
+            Read::Held(g) => write_sheet(g, &keys, out),
+        },
     }
+}
+
+// Add a corner on a side.
+pub fn add_ear(sheet: &[u8], side: usize, out: &mut [u8]) -> Written
+    ensures { λ r. ⌜ answered r (now (out .exit)) ≡ written (edited (addEar side) (now (sheet .entry))) (now (out .entry)) ⌝ }
+{
+    edit(sheet, Edit::AddEar(side), out)
 }
 
 // Take off a corner.
 pub fn remove_ear(sheet: &[u8], corner: usize, out: &mut [u8]) -> Written
     ensures { λ r. ⌜ answered r (now (out .exit)) ≡ written (edited (removeEar corner) (now (sheet .entry))) (now (out .entry)) ⌝ }
 {
-    let mut keys = [0u32; 1021];
-    match read_sheet(sheet, &mut keys) {
-        Read::Refused(k) => Written::Refused(k),
-        Read::Held(h) => remove_from(h, &mut keys, corner, out),
-    }
+    edit(sheet, Edit::RemoveEar(corner), out)
 }
 
 // Turn the diagonal (a,b), named in either order.
 pub fn flip(sheet: &[u8], a: usize, b: usize, out: &mut [u8]) -> Written
     ensures { λ r. ⌜ answered r (now (out .exit)) ≡ written (edited (flip a b) (now (sheet .entry))) (now (out .entry)) ⌝ }
 {
-    let mut keys = [0u32; 1021];
-    match read_sheet(sheet, &mut keys) {
-        Read::Refused(k) => Written::Refused(k),
-        Read::Held(h) => flip_in(h, &mut keys, a, b, out),
-    }
+    edit(sheet, Edit::Flip(a, b), out)
 }

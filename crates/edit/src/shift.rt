@@ -1,35 +1,19 @@
-// Renumbering the corners of a table of keys: up by one above a side, down by one above a corner.
+// Renumbering the corners of a table of keys: those above a corner go up or down.
 ghost use mathlib.Core.Path.{_≡_};
 ghost use mathlib.Core.List.{map};
 ghost use Prim.Native.Nat.{_<_, _≤_};
 ghost use lib.ListN.{length, take};
 ghost use Rattle.keys.specs.Keys.{edgesOf};
-ghost use Rattle.edit.specs.Rules.{up, down, both};
+ghost use Rattle.edit.specs.Rules.{both};
 ghost use Rattle.edit.specs.Tables.{moved, Movable, AllMovable};
 use keys::high;
 use keys::key;
 use keys::low;
 
-// For a corner added on a side, or for a corner taken off.
+// The corners above `at` go up, or down, by so many: Up(at, by), Down(at, by).
 pub enum Shift {
-    Up(usize),
-    Down(usize),
-}
-
-// "Corners above i go up by one."
-fn up(i: usize, x: usize) -> usize
-    requires { ⌜ x < 1023 ⌝ }
-    ensures { λ r. ⌜ (r ≡ up i x) × (r < 1024) ⌝ }
-{
-    if x > i { x + 1 } else { x }
-}
-
-// "Corners above k go down by one."
-fn down(k: usize, x: usize) -> usize
-    requires { ⌜ x < 1024 ⌝ }
-    ensures { λ r. ⌜ (r ≡ down k x) × (r < 1024) ⌝ }
-{
-    if x > k { x - 1 } else { x }
+    Up(usize, usize),
+    Down(usize, usize),
 }
 
 // A corner renumbered.
@@ -38,8 +22,8 @@ fn moved(shift: Shift, x: usize) -> usize
     ensures { λ r. ⌜ (r ≡ moved shift x) × (r < 1024) ⌝ }
 {
     match shift {
-        Shift::Up(i) => up(i, x),
-        Shift::Down(k) => down(k, x),
+        Shift::Up(at, by) => { if x > at { x + by } else { x } }
+        Shift::Down(at, by) => { if x > at { x - by } else { x } }
     }
 }
 

@@ -3,7 +3,7 @@ use mathlib.Core.Path.{_≡_, ap, sym, _∙_}
 use mathlib.Core.Bool.{true, false}
 use mathlib.Core.List.{List}
 use mathlib.Core.Option.{some}
-use Prim.Native.Nat.{ℕ, _+_, _*_, _-_, _≤_, _<_}
+use Prim.Native.Nat.{ℕ, _+_, _*_, _-_, _≤_, _<_, _^_}
 use native.Mathlib.Omega.{arith}
 use lib.ListN.{length, getD}
 use Rattle.codec.specs.Numbers.{get16, get32}
@@ -29,10 +29,10 @@ module _ (s : List ℕ) (n : ℕ) (some-bytes : 1 ≤ length s) (low : bit0 (get
       framed : Framed s
       framed = record { some = some-bytes; low = low; small = small; three = three; least = omega arith; most = omega arith; agrees = agrees ∙ ap more count; exact = exact ∙ sym sized }
 
-      pub numbered : rest ≡ 1 → (k : ℕ) → k ≡ get32 s (3 + 4 * (n - 3)) → k < 4294967296 → HeadOf s (record { n = n; numbered = true; number = k })
+      pub numbered : rest ≡ 1 → (k : ℕ) → k ≡ get32 s (3 + 4 * (n - 3)) → k < 2 ^ 32 → HeadOf s (record { n = n; numbered = true; number = k })
       unfolding partNumber
       numbered one k e h = record { frame = framed; corners = count; number = rw (sym last ∙ one, e, ← count); fits = h }
 
       pub unnumbered : ¬ (rest ≡ 1) → rest ≤ 1 → HeadOf s (record { n = n; numbered = false; number = 0 })
       unfolding partNumber
-      unnumbered f h = let e : bit2 (getD s 0 0) ≡ 0 = omega (arith, last) in record { frame = framed; corners = count; number = rw e; fits = omega arith }
+      unnumbered f h = let e : bit2 (getD s 0 0) ≡ 0 = omega (arith, last) in record { frame = framed; corners = count; number = rw e; fits = tt }

@@ -10,7 +10,7 @@ pub mod Pairs
 pub mod Frame
 pub mod Found
 pub mod Writing
-pub mod Outcomes
+pub mod Hand
 pub mod Size
 pub mod Long
 pub mod Refusals

@@ -5,7 +5,7 @@ use Prim.Native.Nat.{ℕ, _+_, _*_, _-_, _/_, _%_, _≤_, _<_}
 use native.Mathlib.Numerals.{add-one}
 use native.Mathlib.Omega.{arith}
 use lib.ListN.{length, take, drop, set, getD, length-map, length-append}
-use lib.Seq.{sets, take-suc, length-take-le, getD-take}
+use lib.Seq.{sets, take-suc, length-take-le}
 use Rattle.polygon.specs.Polygon.{Edge, Polygon}
 use Rattle.codec.specs.Numbers.{bytes16}
 use Rattle.codec.specs.Answer.{Answer, refusal, written, write}
@@ -14,7 +14,8 @@ use Rattle.codec.proofs.Answers.{written-short, written-fits}
 use Rattle.keys.specs.Keys.{edgeOf, edgesOf}
 use Rattle.sheet.specs.declared.Head.{Head}
 use Rattle.sheet.specs.Sheet.{pairBytes, numberBytes, mapByte, normalSheet}
-use Rattle.sheet.specs.Held.{numberOf, polygonOf, Small, Fitting}
+use Rattle.sheet.specs.Held.{numberOf, polygonOf, InHand}
+use Rattle.sheet.proofs.Hand.{keys-count}
 use Rattle.sheet.proofs.Normal.{pairs-length}
 
 pairs-snoc : (es : List Edge) (e : Edge) → pairBytes (es ++ (e ∷ [])) ≡ pairBytes es ++ (bytes16 (e .0) ++ bytes16 (e .1))
@@ -41,16 +42,10 @@ sheet-written p out h =
     ∙ (sym (sets-append (bytes16 (p .n)) (pairBytes (p .ds) ++ numberBytes (p .number)) (set out 0 (mapByte p)) 1)
     ∙ sets-front (mapByte p ∷ (bytes16 (p .n) ++ (pairBytes (p .ds) ++ numberBytes (p .number)))) out h)
 
-pub small-front : (m : ℕ) (ks : List ℕ) → m ≤ length ks → Small m ks → Small (length (take m ks)) (take m ks)
-small-front m ks h S j k =
-    let n : length (take m ks) ≡ m = length-take-le m ks h in
-    let i : j < m = omega arith in
-    rw (getD-take m ks j 0 i) (S j i)
-
 -- the part that the code holds
-module _ (h : Head) (ks : List ℕ) (F : Fitting h ks) (long : 1021 ≤ length ks) where
+module _ {h : Head} {ks : List ℕ} (P : InHand h ks) where
   pub edges-size : length (pairBytes (edgesOf (take (h .n - 3) ks))) ≡ (h .n - 3) * 4
-  edges-size = omega (arith, pairs-length (edgesOf (take (h .n - 3) ks)), length-map (take (h .n - 3) ks) edgeOf, length-take-le (h .n - 3) ks (omega (arith, F .most)))
+  edges-size = omega (arith, pairs-length (edgesOf (take (h .n - 3) ks)), length-map (take (h .n - 3) ks) edgeOf, keys-count P)
 
   module _ (out : List ℕ) (z : ℕ) (last : z ≡ length (numberBytes (numberOf (h .numbered) (h .number)))) where
     sheet-size : length (normalSheet (polygonOf h ks)) ≡ 3 + (h .n - 3) * 4 + z

@@ -4,8 +4,8 @@ use mathlib.Core.Bool.{Bool, true, false}
 use mathlib.Core.List.{List}
 use mathlib.Core.Option.{Option, none, some}
 use Prim.Native.Nat.{ℕ, _+_, _*_, _-_, _≤_, _<_}
-use lib.ListN.{take, getD}
-use Rattle.polygon.specs.Polygon.{Edge, Diagonal, Polygon}
+use lib.ListN.{length, take, getD}
+use Rattle.polygon.specs.Polygon.{Edge, Diagonal, Polygon, Numbered, Valid}
 use Rattle.polygon.specs.Order.{lower-first}
 use Rattle.codec.specs.Numbers.{get16, get32}
 use Rattle.keys.specs.Keys.{keyOf, edgesOf}
@@ -19,36 +19,33 @@ abbrev pub numberOf : Bool → ℕ → Option ℕ
 numberOf true k = some k
 numberOf false k = none
 
--- the part that a head and a table of keys stand for
+-- the part of a head and the keys of its diagonals; and of a head and a table that begins with them
+abbrev pub partOf : Head → List ℕ → Polygon
+partOf h ks = record { n = h .n; ds = edgesOf ks; number = numberOf (h .numbered) (h .number) }
+
 abbrev pub polygonOf : Head → List ℕ → Polygon
-polygonOf h ks = record { n = h .n; ds = edgesOf (take (h .n - 3) ks); number = numberOf (h .numbered) (h .number) }
+polygonOf h ks = partOf h (take (h .n - 3) ks)
 
--- each case of the code's answer
-abbrev pub readOf : Read → List ℕ → Reading
-readOf (Refused k) ks = refused k
-readOf (Held h) ks = held (polygonOf h ks)
+-- a part in the code's hands: valid, in a table with room for the keys of any part
+pub record InHand (h : Head) (ks : List ℕ) : Type 0 where
+  pub valid : Valid (polygonOf h ks)
+  pub room : 1021 ≤ length ks
 
--- the first m keys are of edges whose corners are below 1,024
-abbrev pub Small : ℕ → List ℕ → Type 0
-Small m ks = (j : ℕ) → j < m → getD ks j 0 < 1048576
+-- what the code's answer says of the reading q: refused by the same number, or the part in hand
+pub data Reads (q : Reading) : Read → List ℕ → Type 0 where
+  refuses : {k : ℕ} {ks : List ℕ} → q ≡ refused k → Reads q (Refused k) ks
+  gives : {h : Head} {ks : List ℕ} → q ≡ held (polygonOf h ks) → InHand h ks → Reads q (Held h) ks
 
--- the sizes of what is held
-pub record Fitting (h : Head) (ks : List ℕ) : Type 0 where
-  pub least : 3 ≤ h .n
-  pub most : h .n ≤ 1024
-  pub number : h .number < 4294967296
-  pub keys : Small (h .n - 3) ks
-
-abbrev pub Sized : Read → List ℕ → Type 0
-Sized (Refused k) ks = Unit {0}
-Sized (Held h) ks = Fitting h ks
+-- the keys are of edges whose corners are below 1,024
+abbrev pub Small : List ℕ → Type 0
+Small ks = (j : ℕ) → j < length ks → getD ks j 0 < 1048576
 
 -- a head that was read: the sheet refused, or its frame and what the head holds of it
 pub record HeadOf (s : List ℕ) (h : Head) : Type 0 where
   pub frame : Framed s
   pub corners : h .n ≡ get16 s 1
   pub number : numberOf (h .numbered) (h .number) ≡ partNumber (bit2 (getD s 0 0)) (get32 s (3 + 4 * (get16 s 1 - 3)))
-  pub fits : h .number < 4294967296
+  pub fits : Numbered (numberOf (h .numbered) (h .number))
 
 abbrev pub Says : List ℕ → Read → Type 0
 Says s (Refused k) = readSheet s ≡ refused k

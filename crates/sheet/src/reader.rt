@@ -1,13 +1,13 @@
 // Reading a sheet: the tests of document 01 in their order.
 ghost use mathlib.Core.Path.{_≡_};
 ghost use mathlib.Core.Bool.{true, false};
-ghost use Prim.Native.Nat.{ℕ, _+_, _*_, _-_, _%_, _<_, _≤_};
+ghost use Prim.Native.Nat.{_+_, _*_, _-_, _%_, _<_, _≤_};
 ghost use lib.ListN.{length, take};
 ghost use Rattle.polygon.specs.Lists.{All};
 ghost use Rattle.polygon.specs.Polygon.{_—_, Diagonal};
 ghost use Rattle.keys.specs.Keys.{edgesOf};
 ghost use Rattle.sheet.specs.Sheet.{readSheet, pairs, bit1, bit2, more};
-ghost use Rattle.sheet.specs.Held.{readOf, Sized, Says, KeyIs, pairAt};
+ghost use Rattle.sheet.specs.Held.{Reads, Says, KeyIs, pairAt};
 use crate::Head;
 use crate::Read;
 use codec::get16;
@@ -137,8 +137,7 @@ fn read_pairs(sheet: &[u8], n: usize, keys: &mut [u32]) -> bool
 // Reads a sheet: the part's head, with the keys of its diagonals in the table, ascending, or a refusal.
 pub fn read_sheet(sheet: &[u8], keys: &mut [u32]) -> Read
     requires { ⌜ 1021 ≤ length (now keys) ⌝ }
-    ensures { λ r. ⌜ readOf r (now (keys .exit)) ≡ readSheet (now (sheet .entry)) ⌝ }
-    ensures { λ r. ⌜ Sized r (now (keys .exit)) ⌝ }
+    ensures { λ r. ⌜ Reads (readSheet (now (sheet .entry))) r (now (keys .exit)) ⌝ }
 {
     match read_head(sheet) {
         Read::Refused(k) => Read::Refused(k),

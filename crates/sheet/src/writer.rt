@@ -1,12 +1,13 @@
 // Writing a part as a sheet in normal order.
 ghost use mathlib.Core.Path.{_≡_};
-ghost use Prim.Native.Nat.{ℕ, _+_, _*_, _-_, _<_, _≤_};
+ghost use Prim.Native.Nat.{ℕ, _+_, _*_, _-_, _≤_};
 ghost use lib.ListN.{length};
 ghost use lib.Seq.{sets};
+ghost use Rattle.polygon.specs.Polygon.{Numbered};
 ghost use Rattle.codec.specs.Answer.{answered, written, write};
 ghost use Rattle.keys.specs.Keys.{edgesOf};
 ghost use Rattle.sheet.specs.Sheet.{normalSheet, pairBytes, numberBytes, numberBit, more};
-ghost use Rattle.sheet.specs.Held.{polygonOf, numberOf, Small, Fitting};
+ghost use Rattle.sheet.specs.Held.{polygonOf, numberOf, Small, InHand};
 use crate::Head;
 use codec::Written;
 use codec::put16;
@@ -35,7 +36,7 @@ fn number_size(numbered: bool) -> usize
 
 // Writes the part number, if there is one.
 fn put_number(out: &mut [u8], at: usize, numbered: bool, number: usize)
-    requires { ⌜ (at + length (numberBytes (numberOf numbered number)) ≤ length (now out)) × (number < 4294967296) ⌝ }
+    requires { ⌜ (at + length (numberBytes (numberOf numbered number)) ≤ length (now out)) × Numbered (numberOf numbered number) ⌝ }
     ensures { λ _. ⌜ now (out .exit) ≡ sets (now (out .entry)) at (numberBytes (numberOf numbered number)) ⌝ }
 {
     if numbered {
@@ -46,7 +47,7 @@ fn put_number(out: &mut [u8], at: usize, numbered: bool, number: usize)
 // Writes the corners of each key's edge.
 fn put_edges(out: &mut [u8], at: usize, keys: &[u32])
     requires { ⌜ at + length (now keys) * 4 ≤ length (now out) ⌝ }
-    requires { ⌜ Small (length (now keys)) (now keys) ⌝ }
+    requires { ⌜ Small (now keys) ⌝ }
     ensures { λ _. ⌜ now (out .exit) ≡ sets (now (out .entry)) at (pairBytes (edgesOf (now (keys .entry)))) ⌝ }
 {
     let mut i = 0;
@@ -60,8 +61,7 @@ fn put_edges(out: &mut [u8], at: usize, keys: &[u32])
 
 // Writes the part of a head and its keys in normal order, if the output is long enough.
 pub fn write_sheet(h: Head, keys: &[u32], out: &mut [u8]) -> Written
-    requires { ⌜ Fitting h (now keys) ⌝ }
-    requires { ⌜ 1021 ≤ length (now keys) ⌝ }
+    requires { ⌜ InHand h (now keys) ⌝ }
     ensures { λ r. ⌜ answered r (now (out .exit)) ≡ written (write (normalSheet (polygonOf h (now (keys .entry))))) (now (out .entry)) ⌝ }
 {
     let n = h.n;

@@ -1,10 +1,10 @@
 -- Read, then written.
 use mathlib.Core.Path.{_∙_}
 use borrow.Author.Needs.{needs}
-use native.Mathlib.Omega.{arith}
-use Rattle.sheet.proofs.Outcomes.{held-fits}
+use Rattle.codec.specs.Answer.{written}
+use Rattle.sheet.specs.Sheet.{Reading, outcome}
+use Rattle.sheet.proofs.Hand.{read-is, in-hand}
 use Rattle.chart_reader.specs.Reader.{chartRead}
-use Rattle.chart_reader.proofs.Found.{read-refused, read-held}
 use Rattle.chart_reader.proofs.read_chart.Statement.{statement}
 use Rattle.chart_reader.proofs.read_chart.Tie as tie
 
@@ -24,22 +24,21 @@ slice-aggregate-write-sheet : tie.Need-slice-aggregate-write-sheet
 slice-aggregate-write-sheet c = search needs
 
 write-sheet-requires : tie.Need-write-sheet-requires
-write-sheet-requires c κs = (held-fits (c .before .before .before .before .before .before .read-part .result) _ _ (c .before .before .before .before .before .before .read-part .ensures .1) (c .before .before .before .h .given .1), omega (arith, c .before .before .before .before .before .before .read-part .kept .1 .0))
+write-sheet-requires c κs = in-hand (c .before .before .before .before .before .before .read-part .ensures) (c .before .before .before .h .given .1)
 
 returns : tie.Need-returns
-unfolding chartRead
-returns c = read-refused (c .before .before .before .before .read-part .result) (c .before .before .before .before .read-part .last .1 .0) (c .before .before .before .before .before .before .before .before .args .out .now) _ _ (c .before .before .before .before .read-part .ensures .0) (c .before .k .given .1)
+unfolding chartRead outcome written
+returns c = read-is (λ (q : Reading). written (outcome q) (c .before .before .before .before .before .before .before .before .args .out .now)) (c .before .before .before .before .read-part .ensures) (c .before .k .given .1)
 
 same-length : tie.Need-same-length
 same-length c = search needs
 
 returns-2 : tie.Need-returns-2
-unfolding chartRead
+unfolding chartRead outcome
 returns-2 c =
     let at-h = c .before .before .before .before .before .before in
     let at-read-part = at-h .before .before .before in
-    let start = at-read-part .before .before .before .before in
-    c .before .before .write-sheet .ensures ∙ read-held (at-read-part .read-part .result) (at-read-part .read-part .last .1 .0) (start .args .out .now) (at-h .h .given .0 .0) _ (at-read-part .read-part .ensures .0) (at-h .h .given .1)
+    c .before .before .write-sheet .ensures ∙ read-is (λ (q : Reading). written (outcome q) (at-read-part .before .before .before .before .args .out .now)) (at-read-part .read-part .ensures) (at-h .h .given .1)
 
 pub read-chart-spec : {M : Type 1} → statement M
 read-chart-spec = tie.close (tie.spec slice-aggregate-read-part read-part-requires enum-known-k enum-known-h slice-aggregate-write-sheet write-sheet-requires returns same-length returns-2)

@@ -1,22 +1,19 @@
--- By what was read, by the laws of Described.antt.
+-- By what was read.
 use borrow.Author.Needs.{needs}
 use mathlib.Core.Path.{sym}
-use Prim.Native.Nat.{_-_}
 use native.Mathlib.Omega.{arith}
-use lib.Seq.{length-take-le}
-use Rattle.keys.proofs.Crosses.{all-at}
-use Rattle.sheet.specs.Held.{Fitting}
-use Rattle.sheet.proofs.Outcomes.{held-fits}
+use Rattle.sheet.specs.Sheet.{Reading}
+use Rattle.sheet.specs.Held.{InHand}
+use Rattle.sheet.proofs.Hand.{read-is, in-hand, keys-lie, keys-count}
 use Rattle.log_line.proofs.Size.{refused-size}
-use Rattle.chart_text.proofs.Described.{refused-described, held-described, held-valid, held-formed}
+use Rattle.chart_reader.specs.Decode.{chartIn}
+use Rattle.chart_text.specs.Text.{describedAs, described}
+use Rattle.chart_text.proofs.Described.{read-formed}
 use Rattle.chart_text.proofs.describe.Statement.{statement}
 use Rattle.chart_text.proofs.describe.Tie as tie
 
--- the sizes of what was read
-fits : (c : tie.After-h) → Fitting (c .h .given .0 .0) (c .before .before .before .read-part .last .1 .0)
-fits c =
-    let at-read-part = c .before .before .before in
-    held-fits (at-read-part .read-part .result) _ _ (at-read-part .read-part .ensures .1) (c .h .given .1)
+part : (c : tie.After-h) → InHand (c .h .given .0 .0) (c .before .before .before .read-part .last .1 .0)
+part c = in-hand (c .before .before .before .read-part .ensures) (c .h .given .1)
 
 slice-aggregate-read-part : tie.Need-slice-aggregate-read-part
 slice-aggregate-read-part c = search needs
@@ -37,51 +34,32 @@ enum-known-h : tie.Need-enum-known-h
 enum-known-h c = search needs
 
 sub-m : tie.Need-sub-m
-sub-m c =
-    let at-h = c .before .before in
-    omega (arith, fits at-h .least)
+sub-m c = part (c .before .before) .valid .least
 
 array-share-prefix-keys : tie.Need-array-share-prefix-keys
-array-share-prefix-keys c =
-    let at-h = c .before .before in
-    omega (arith, fits at-h .most)
+array-share-prefix-keys c = omega (arith, keys-lie (part (c .before .before)), c .before .before .before .before .before .read-part .kept)
 
 slice-aggregate-describe-part : tie.Need-slice-aggregate-describe-part
-slice-aggregate-describe-part c =
-    let at-h = c .before .before .before in
-    let at-read-part = at-h .before .before .before in
-    sym (length-take-le (at-h .h .given .0 .0 .n - 3) (at-read-part .read-part .last .1 .0) (omega (arith, fits at-h .most, at-read-part .read-part .kept)))
+slice-aggregate-describe-part c = sym (keys-count (part (c .before .before .before)))
 
 describe-part-requires : tie.Need-describe-part-requires
 describe-part-requires c κs =
     let at-h = c .before .before .before .before in
-    let at-read-part = at-h .before .before .before in
-    let at-shared-slice-known = at-read-part .before .before in
-    let start = at-shared-slice-known .before in
-    let s = start .args .chart .now in
-    let r = at-read-part .read-part in (
-      held-valid s (r .result) (r .last .1 .0) (at-h .h .given .0 .0) (r .ensures .0) (at-h .h .given .1) (all-at 0 s (λ i h. omega (arith, at-shared-slice-known .shared-slice-known .given i))),
-      (held-formed s (r .result) (r .last .1 .0) (at-h .h .given .0 .0) (r .ensures .0) (at-h .h .given .1), omega arith),
-    )
+    let reads = read-is (λ (q : Reading). q) (at-h .before .before .before .read-part .ensures) (at-h .h .given .1) in
+    (part at-h .valid, (read-formed (at-h .before .before .before .before .before .before .args .chart .now) _ (sym reads), omega arith))
 
 returns : tie.Need-returns
+unfolding described describedAs
 returns c =
     let at-k = c .before .before .before in
-    let at-read-part = at-k .before .before .before in
-    let start = at-read-part .before .before .before in
-    let s = start .args .chart .now in
-    let r = at-read-part .read-part in
-    let said = refused-described s (r .result) (r .last .1 .0) _ (r .ensures .0) (at-k .k .given .1) in
+    let said = read-is (describedAs (chartIn (at-k .before .before .before .before .before .before .args .chart .now))) (at-k .before .before .before .read-part .ensures) (at-k .k .given .1) in
     (rw (← said) (c .put-refused .ensures), omega (arith, c .put-refused .ensures .end, refused-size (at-k .k .given .0 .0)))
 
 returns-2 : tie.Need-returns-2
+unfolding described
 returns-2 c =
     let at-h = c .before .before .before .before .before in
-    let at-read-part = at-h .before .before .before in
-    let start = at-read-part .before .before .before in
-    let s = start .args .chart .now in
-    let r = at-read-part .read-part in
-    let said = held-described s (r .result) (r .last .1 .0) (at-h .h .given .0 .0) (r .ensures .0) (at-h .h .given .1) in
+    let said = read-is (describedAs (chartIn (at-h .before .before .before .before .before .before .args .chart .now))) (at-h .before .before .before .read-part .ensures) (at-h .h .given .1) in
     (rw (← said) (c .describe-part .ensures .0), c .describe-part .ensures .1)
 
 pub describe-spec : {M : Type 1} → statement M

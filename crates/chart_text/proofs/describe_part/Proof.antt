@@ -7,7 +7,7 @@ use lib.ListN.{length, take}
 use lib.Seq.{length-take-le}
 use Rattle.log_line.proofs.Putting.{put-then}
 use Rattle.log_line.proofs.Size.{line-size}
-use Rattle.draw.specs.Told.{partOf}
+use Rattle.sheet.specs.Held.{partOf}
 use Rattle.chart_reader.specs.Decode.{chartIn}
 use Rattle.chart_reader.specs.Held.{Placed}
 use Rattle.chart_reader.proofs.Stroked.{bars-room}

@@ -2,6 +2,7 @@
 use borrow.Author.Needs.{needs}
 use mathlib.Core.Path.{ap}
 use Rattle.draw.specs.declared.Drawn.{Drawn}
+use Rattle.draw.specs.Answer.{drawnWithBars}
 use Rattle.draw.specs.WithBars.{drawing}
 use Rattle.draw.proofs.Answers.{without-bars}
 use Rattle.draw.proofs.draw.Statement.{statement}
@@ -20,6 +21,7 @@ same-length : tie.Need-same-length
 same-length c = search needs
 
 returns : tie.Need-returns
+unfolding drawnWithBars
 returns c =
     let at-draw-for = c .before .before .before .before .before in
     let start = at-draw-for .before .before .before .before in
@@ -29,6 +31,7 @@ same-length-2 : tie.Need-same-length-2
 same-length-2 c = search needs
 
 returns-2 : tie.Need-returns-2
+unfolding drawnWithBars
 returns-2 c =
     let at-draw-for = c .before .before .before .before .before in
     let start = at-draw-for .before .before .before .before in

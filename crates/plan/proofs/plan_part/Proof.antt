@@ -5,13 +5,13 @@ use borrow.Author.Needs.{needs}
 use native.Mathlib.Omega.{arith}
 use lib.ListN.{length-replicate}
 use Rattle.tree.proofs.Pieces.{inside}
-use Rattle.levels.proofs.Storing.{deep-root}
-use Rattle.plan.proofs.Answers.{blank, part-planned}
+use Rattle.levels.proofs.Storing.{deep-root, blank}
+use Rattle.plan.proofs.Answers.{part-planned}
 use Rattle.plan.proofs.plan_part.Statement.{statement}
 use Rattle.plan.proofs.plan_part.Tie as tie
 
 fill-requires : tie.Need-fill-requires
-fill-requires c κs = let start = c .before .before .before in ((start .pre .0, start .pre .1), ((length-replicate {A = ℕ} 3072 0, length-replicate {A = ℕ} 12270 0), blank 12270))
+fill-requires c κs = let start = c .before .before .before in ((start .pre .0, start .pre .1), ((length-replicate {A = ℕ} 3072 0, length-replicate {A = ℕ} 12270 0), (blank 3072, blank 12270)))
 
 cast-numbers : tie.Need-cast-numbers
 cast-numbers c = search needs

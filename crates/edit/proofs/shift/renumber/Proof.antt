@@ -2,8 +2,8 @@
 use mathlib.Core.Path.{ap, _∙_}
 use Prim.Native.Nat.{_-_}
 use native.Mathlib.Omega.{arith}
-use Rattle.edit.specs.Tables.{moved}
-use Rattle.edit.proofs.Shifting.{Mapping, mapping-begin, same-key, mapping-next, mapping-end}
+use Rattle.edit.specs.Tables.{moved, Movable}
+use Rattle.edit.proofs.Shifting.{Mapping, mapping-begin, at-first, mapping-next, mapping-end}
 use Rattle.edit.proofs.shift.renumber.Statement.{statement}
 use Rattle.edit.proofs.shift.renumber.Tie as tie
 
@@ -30,7 +30,7 @@ moved-requires c κs =
     let loop = c .before .before .before .loop in
     let start = c .before .before .before .before .before in
     let taken = c .before .before .loop-test .taken in
-    rw (c .low .ensures, same-key _ _ _ _ _ (loop .inv) (start .pre .0) taken) (start .pre .1 (loop .j) taken .0)
+    rw (c .low .ensures) (at-first _ _ _ _ _ (loop .inv) (start .pre .0) taken (Movable (start .args .shift)) (start .pre .1) .0)
 
 mul-high : tie.Need-mul-high Inv-loop μ-loop
 mul-high c = omega arith
@@ -46,7 +46,7 @@ moved-requires-2 c κs =
     let loop = c .before .before .before .before .before .before .loop in
     let start = c .before .before .before .before .before .before .before .before in
     let taken = c .before .before .before .before .before .loop-test .taken in
-    rw (c .high .ensures .0, same-key _ _ _ _ _ (loop .inv) (start .pre .0) taken) (start .pre .1 (loop .j) taken .1)
+    rw (c .high .ensures .0) (at-first _ _ _ _ _ (loop .inv) (start .pre .0) taken (Movable (start .args .shift)) (start .pre .1) .1)
 
 key-requires : tie.Need-key-requires Inv-loop μ-loop
 key-requires c κs = omega arith

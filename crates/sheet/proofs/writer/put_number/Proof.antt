@@ -2,6 +2,7 @@
 use borrow.Author.Needs.{needs}
 use Prim.Native.Nat.{_+_, _≤_}
 use lib.ListN.{length}
+use Rattle.polygon.specs.Polygon.{Numbered}
 use Rattle.sheet.specs.Sheet.{numberBytes}
 use Rattle.sheet.specs.Held.{numberOf}
 use Rattle.sheet.proofs.writer.put_number.Statement.{statement}
@@ -9,7 +10,11 @@ use Rattle.sheet.proofs.writer.put_number.Tie as tie
 
 put32-requires : tie.Need-put32-requires
 unfolding numberBytes
-put32-requires c κs = let h : c .before .before .before .args .at + length (numberBytes (numberOf (c .before .before .before .args .numbered) (c .before .before .before .args .number))) ≤ length (c .before .before .before .args .out .now) = c .before .before .before .pre .0 in let k = rw (c .before .if1 .taken) at h in (k, c .before .before .before .pre .1)
+put32-requires c κs =
+    let s = c .before .before .before in
+    let number = numberOf (s .args .numbered) (s .args .number) in
+    let h : (s .args .at + length (numberBytes number) ≤ length (s .args .out .now)) × Numbered number = s .pre in
+    rw (c .before .if1 .taken) at h
 
 same-length : tie.Need-same-length
 same-length c = search needs

@@ -1,12 +1,11 @@
 -- The length is known before the first byte is written; then field by field, by the laws of Writing.antt.
 use mathlib.Core.Path.{sym, _∙_}
-use Prim.Native.Nat.{_-_}
 use borrow.Author.Needs.{needs}
 use native.Mathlib.Omega.{arith}
 use lib.ListN.{length-set}
-use lib.Seq.{length-take-le}
 use Rattle.sheet.specs.Sheet.{mapByte}
-use Rattle.sheet.proofs.Writing.{small-front, too-short, finished}
+use Rattle.sheet.proofs.Hand.{keys-count, keys-small}
+use Rattle.sheet.proofs.Writing.{too-short, finished}
 use Rattle.sheet.proofs.writer.write_sheet.Statement.{statement}
 use Rattle.sheet.proofs.writer.write_sheet.Tie as tie
 
@@ -23,10 +22,12 @@ number-size-requires : tie.Need-number-size-requires
 number-size-requires c κs = search needs
 
 add-size : tie.Need-add-size
-add-size c = omega (arith, c .number-size .ensures .0, c .before .before .before .pre .0 .most)
+add-size c = omega (arith, c .number-size .ensures .0, c .before .before .before .pre .valid .most)
 
 returns : tie.Need-returns
-returns c = too-short (c .before .before .before .before .args .h) (c .before .before .before .before .args .keys .now) (c .before .before .before .before .pre .0) (c .before .before .before .before .pre .1) (c .before .before .before .before .args .out .now) (c .before .number-size .result) (c .before .number-size .ensures .1 (c .before .before .before .before .args .h .number)) (c .if1 .taken)
+returns c =
+    let start = c .before .before .before .before in
+    too-short (start .pre) (start .args .out .now) (c .before .number-size .result) (c .before .number-size .ensures .1 (start .args .h .number)) (c .if1 .taken)
 
 map-byte-requires : tie.Need-map-byte-requires
 map-byte-requires c κs = search needs
@@ -35,17 +36,17 @@ slice-write-out : tie.Need-slice-write-out
 slice-write-out c = search needs
 
 put16-requires : tie.Need-put16-requires
-put16-requires c κs = simp length-set (omega (arith, c .before .before .before .before .before .before .pre .0 .most))
+put16-requires c κs = simp length-set (omega (arith, c .before .before .before .before .before .before .pre .valid .most))
 
 slice-aggregate-put-edges : tie.Need-slice-aggregate-put-edges
-slice-aggregate-put-edges c = sym (length-take-le _ (c .before .before .before .before .before .before .before .before .before .before .before .args .keys .now) (omega (arith, c .before .before .before .before .before .before .before .before .before .before .before .pre .0 .most)))
+slice-aggregate-put-edges c = sym (keys-count (c .before .before .before .before .before .before .before .before .before .before .before .pre))
 
 put-edges-requires : tie.Need-put-edges-requires
 put-edges-requires c κs =
     let at-put16 = c .before .before .before .before in
     let at-map-byte = at-put16 .before .before in
     let start = at-map-byte .before .before .before .before .before in
-    (omega (arith, at-put16 .put16 .kept .0, length-set (start .args .out .now) 0 (at-map-byte .map-byte .result), length-take-le (start .args .h .n - 3) (start .args .keys .now) (omega (arith, start .pre .0 .most))), small-front (start .args .h .n - 3) (start .args .keys .now) (omega (arith, start .pre .0 .most)) (start .pre .0 .keys))
+    (omega (arith, at-put16 .put16 .kept .0, length-set (start .args .out .now) 0 (at-map-byte .map-byte .result), keys-count (start .pre)), keys-small (start .pre))
 
 put-number-requires : tie.Need-put-number-requires
 put-number-requires c κs =
@@ -54,7 +55,7 @@ put-number-requires c κs =
     let at-map-byte = at-put16 .before .before in
     let at-number-size = at-map-byte .before .before in
     let start = at-number-size .before .before .before in
-    (omega (arith, at-put-edges .put-edges .kept .0, at-put16 .put16 .kept .0, length-set (start .args .out .now) 0 (at-map-byte .map-byte .result), at-number-size .number-size .ensures .1 (start .args .h .number)), start .pre .0 .number)
+    (omega (arith, at-put-edges .put-edges .kept .0, at-put16 .put16 .kept .0, length-set (start .args .out .now) 0 (at-map-byte .map-byte .result), at-number-size .number-size .ensures .1 (start .args .h .number)), start .pre .valid .numbered)
 
 same-length : tie.Need-same-length
 same-length c =
@@ -73,7 +74,7 @@ returns-2 c =
     let at-if1 = at-map-byte .before in
     let at-number-size = at-if1 .before in
     let start = at-number-size .before .before .before in
-    finished (start .args .h) (start .args .keys .now) (start .pre .0) (start .pre .1) (start .args .out .now) (at-number-size .number-size .result)
+    finished (start .pre) (start .args .out .now) (at-number-size .number-size .result)
     (at-number-size .number-size .ensures .1 (start .args .h .number)) _ (at-if1 .if1 .left)
     (c .before .before .put-number .ensures ∙ rw (at-put-edges .put-edges .ensures, at-put16 .put16 .ensures, at-map-byte .map-byte .ensures (start .args .h .number)))
 

@@ -1,0 +1,50 @@
+-- A part in the code's hands: the one law from what was read to what is answered, and what is known of the keys.
+use mathlib.Core.Path.{_≡_, ap, sym}
+use mathlib.Core.List.{List}
+use Prim.Native.Nat.{ℕ, _-_, _≤_, _<_}
+use native.Mathlib.Omega.{arith}
+use lib.ListN.{length, take, getD, length-map, List·getD-map}
+use lib.Seq.{length-take-le}
+use Rattle.polygon.specs.Lists.{All}
+use Rattle.polygon.specs.Polygon.{Edge, _—_}
+use Rattle.keys.specs.Keys.{edgeOf, edgesOf}
+use Rattle.keys.proofs.Crosses.{at-all}
+use Rattle.sheet.specs.declared.Head.{Head}
+use Rattle.sheet.specs.declared.Read.{Read}
+use Rattle.sheet.specs.declared.Read.the-variants.{Refused, Held}
+use Rattle.sheet.specs.Sheet.{Reading, refused, held}
+use Rattle.sheet.specs.Held.{polygonOf, Small, InHand, Reads, refuses, gives}
+
+-- the reading in each case of the code's answer
+abbrev pub readOf : Read → List ℕ → Reading
+readOf (Refused k) ks = refused k
+readOf (Held h) ks = held (polygonOf h ks)
+
+-- What is worked out of a reading, in the case x of the code's answer.
+pub read-is : {A : Type 0} {q : Reading} {r x : Read} {ks : List ℕ} (f : Reading → A) → Reads q r ks → r ≡ x → f (readOf x ks) ≡ f q
+read-is {A} {q} {r} {x} {ks} f R e = ap f (sym (go (rw e at R)))
+  where
+    go : {y : Read} → Reads q y ks → q ≡ readOf y ks
+    go (refuses p) = p
+    go (gives p P) = p
+
+pub in-hand : {q : Reading} {r : Read} {h : Head} {ks : List ℕ} → Reads q r ks → r ≡ Held h → InHand h ks
+in-hand {q} {r} {h} {ks} R e = go (rw e at R)
+  where
+    go : Reads q (Held h) ks → InHand h ks
+    go (gives p P) = P
+
+-- what holds of all edges holds of the edge of a key
+pub edge-at : {P : Edge → Type 0} (ks : List ℕ) → All P (edgesOf ks) → (j : ℕ) → j < length ks → P (edgeOf (getD ks j 0))
+edge-at ks a j h = rw (List·getD-map edgeOf ks j 0) at (at-all (0 — 0) a j (omega (arith, length-map ks edgeOf)))
+
+module _ {h : Head} {ks : List ℕ} (P : InHand h ks) where
+  -- the keys lie in the table
+  pub keys-lie : h .n - 3 ≤ length ks
+  keys-lie = omega (arith, P .room, P .valid .most)
+
+  pub keys-count : length (take (h .n - 3) ks) ≡ h .n - 3
+  keys-count = length-take-le (h .n - 3) ks keys-lie
+
+  pub keys-small : Small (take (h .n - 3) ks)
+  keys-small j i = let d = edge-at (take (h .n - 3) ks) (P .valid .triangulated .diagonals) j i in omega (arith, d .forth, d .corner, P .valid .most)
