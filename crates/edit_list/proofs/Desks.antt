@@ -1,10 +1,9 @@
 -- One edit, from the code's answer to the desk afterwards.
 use mathlib.Core.Path.{_≡_, refl, ap, sym, _∙_}
 use mathlib.Core.List.{List, _++_}
-use Prim.Native.Nat.{ℕ, zero, suc, _+_, _*_, _<_}
+use Prim.Native.Nat.{ℕ, zero, suc, _<_}
 use lib.ListN.{take, drop}
 use Rattle.polygon.proofs.Lists.{choose-yes, choose-no}
-use Rattle.codec.specs.Numbers.{get32}
 use Rattle.codec.specs.Answer.{Answer, written, answered}
 use Rattle.codec.specs.declared.Written.{Written}
 use Rattle.codec.specs.declared.Written.the-variants.{Bytes, Refused}
@@ -12,7 +11,7 @@ use Rattle.codec.proofs.Answers.{bytes-left}
 use Rattle.edit.specs.Rules.{Edit, flip}
 use Rattle.edit.specs.Calls.{edited, called}
 use Rattle.edit_list.specs.declared.Stand.{Stand}
-use Rattle.edit_list.specs.Script.{kindAt, roomAt, editOf, editAt}
+use Rattle.edit_list.specs.Script.{roomAt, editOf, editAt}
 use Rattle.edit_list.specs.Desk.{placed, Desk, deskOf, other, buffer, answerOf, answeredDesk, deskStep}
 use Rattle.edit_list.specs.Steps.{numberOf, sizeOf, Lent, Stepped}
 
@@ -89,7 +88,7 @@ edit-else zero a b h g = absurd (h refl)
 edit-else (suc zero) a b h g = absurd (g refl)
 edit-else (suc (suc k)) a b h g = refl
 
--- edit i, read from the list
-pub edit-read : (list : List ℕ) (i kind a b room : ℕ) → kind ≡ kindAt list i → a ≡ get32 list (i * 13 + 1) → b ≡ get32 list (i * 13 + 5) → room ≡ roomAt list i → (editOf kind a b, room) ≡ editAt list i
+-- edit i, with the length that it lends
+pub edit-read : (list : List ℕ) (i : ℕ) {e : Edit} {room : ℕ} → e ≡ editAt list i .0 → room ≡ roomAt list i → (e, room) ≡ editAt list i
 unfolding editAt
-edit-read list i kind a b room k p q r = rw (k, p, q, r)
+edit-read list i p q = rw (p, q)

@@ -5,19 +5,17 @@ ghost use mathlib.Core.Bool.{true, false};
 ghost use Prim.Native.Nat.{_+_, _*_, _<_, _≤_};
 ghost use lib.ListN.{length};
 ghost use Rattle.polygon.specs.Polygon.{Polygon};
-ghost use Rattle.codec.specs.Answer.{answered, written};
 ghost use Rattle.sheet.specs.Sheet.{readSheet, held};
-ghost use Rattle.edit.specs.Calls.{edited};
-ghost use Rattle.edit_list.specs.Script.{count, editOf, editAt, scriptOf, roomAt, Kinds, Rooms};
+ghost use Rattle.edit.specs.Tables.{editOf};
+ghost use Rattle.edit_list.specs.Script.{count, editAt, scriptOf, roomAt, Kinds, Rooms};
 ghost use Rattle.edit_list.specs.Desk.{deskOf, begin, other, deskAfter, numbersOf};
 ghost use Rattle.edit_list.specs.Result.{AsModel, numbered, ranOf, resultOf};
 ghost use Rattle.edit_list.specs.Steps.{numberOf, sizeOf, Lies, Spacious, Lent, Stepped};
 use codec::Written;
 use codec::get32;
 use codec::put16;
-use edit::add_ear;
-use edit::flip;
-use edit::remove_ear;
+use edit::edit;
+use edit::held::Edit;
 
 // The answer: where the sheet left lies (0 the first sheet, 1 the front buffer, 2 the back buffer) and its length, or the number of a refusal.
 pub enum Ran {
@@ -30,12 +28,6 @@ pub struct Stand {
     pub place: usize,
     pub size: usize,
     pub number: usize,
-}
-
-fn wide(x: u8) -> usize
-    ensures { λ r. ⌜ (r ≡ x) × (r < 256) ⌝ }
-{
-    x as usize
 }
 
 // Whether each kind is known.
@@ -72,17 +64,21 @@ fn rooms_fit(list: &[u8], front: usize, back: usize) -> bool
     true
 }
 
-// One edit, by its kind and its numbers.
-fn apply(sheet: &[u8], kind: usize, a: usize, b: usize, out: &mut [u8]) -> Written
-    ensures { λ r. ⌜ answered r (now (out .exit)) ≡ written (edited (editOf kind a b) (now (sheet .entry))) (now (out .entry)) ⌝ }
+// Edit i of the list.
+fn edit_at(list: &[u8], i: usize) -> Edit
+    requires { ⌜ i < count (now list) ⌝ }
+    ensures { λ r. ⌜ editOf r ≡ editAt (now (list .entry)) i .0 ⌝ }
 {
+    let at = i * 13;
+    let kind = list[at];
+    let a = get32(list, at + 1);
     if kind == 0 {
-        return add_ear(sheet, a, out);
+        return Edit::AddEar(a);
     }
     if kind == 1 {
-        return remove_ear(sheet, a, out);
+        return Edit::RemoveEar(a);
     }
-    flip(sheet, a, b, out)
+    Edit::Flip(a, get32(list, at + 5))
 }
 
 // One edit, from the place of the sheet to the buffer in which it does not lie.
@@ -92,22 +88,21 @@ fn lend(
     back: &mut [u8],
     place: usize,
     size: usize,
-    kind: usize,
-    a: usize,
-    b: usize,
+    e: Edit,
     room: usize,
 ) -> Written
     requires { ⌜ Lies (deskOf place size (now front) (now back)) ⌝ }
     requires { ⌜ Spacious room (deskOf place size (now front) (now back)) ⌝ }
-    ensures { λ r. ⌜ Lent (now (first .entry)) (deskOf place size (now (front .entry)) (now (back .entry))) (editOf kind a b, room) r (now (front .exit)) (now (back .exit)) ⌝ }
+    ensures { λ r. ⌜ Lent (now (first .entry)) (deskOf place size (now (front .entry)) (now (back .entry)))
+        (editOf e, room) r (now (front .exit)) (now (back .exit)) ⌝ }
 {
     if place == 0 {
-        return apply(first, kind, a, b, &mut front[..room]);
+        return edit(first, e, &mut front[..room]);
     }
     if place == 1 {
-        return apply(&front[..size], kind, a, b, &mut back[..room]);
+        return edit(&front[..size], e, &mut back[..room]);
     }
-    apply(&back[..size], kind, a, b, &mut front[..room])
+    edit(&back[..size], e, &mut front[..room])
 }
 
 fn number_of(w: Written) -> usize
@@ -138,7 +133,7 @@ fn other(place: usize) -> usize
     1
 }
 
-// Edit i of the list.
+// Does edit i of the list.
 fn step(
     first: &[u8],
     list: &[u8],
@@ -151,14 +146,12 @@ fn step(
     requires { ⌜ i < count (now list) ⌝ }
     requires { ⌜ Lies (deskOf place size (now front) (now back)) ⌝ }
     requires { ⌜ Spacious (roomAt (now list) i) (deskOf place size (now front) (now back)) ⌝ }
-    ensures { λ r. ⌜ Stepped (now (first .entry)) (deskOf place size (now (front .entry)) (now (back .entry))) (editAt (now (list .entry)) i) r (now (front .exit)) (now (back .exit)) ⌝ }
+    ensures { λ r. ⌜ Stepped (now (first .entry)) (deskOf place size (now (front .entry)) (now (back .entry)))
+        (editAt (now (list .entry)) i) r (now (front .exit)) (now (back .exit)) ⌝ }
 {
-    let at = i * 13;
-    let kind = wide(list[at]);
-    let a = get32(list, at + 1);
-    let b = get32(list, at + 5);
-    let room = get32(list, at + 9);
-    let w = lend(first, front, back, place, size, kind, a, b, room);
+    let e = edit_at(list, i);
+    let room = get32(list, i * 13 + 9);
+    let w = lend(first, front, back, place, size, e, room);
     let k = number_of(w);
     if k == 0 {
         return Stand {
@@ -184,8 +177,10 @@ fn run_all(
 ) -> Stand
     requires { ⌜ Rooms (now list) (length (now front)) (length (now back)) ⌝ }
     requires { ⌜ count (now list) * 2 ≤ length (now numbers) ⌝ }
-    ensures { λ r. ⌜ deskOf (r .place) (r .size) (now (front .exit)) (now (back .exit)) ≡ deskAfter (now (first .entry)) (begin (now (first .entry)) (now (front .entry)) (now (back .entry))) (scriptOf (now (list .entry))) ⌝ }
-    ensures { λ r. ⌜ now (numbers .exit) ≡ numbered (numbersOf (now (first .entry)) (begin (now (first .entry)) (now (front .entry)) (now (back .entry))) (scriptOf (now (list .entry)))) (now (numbers .entry)) ⌝ }
+    ensures { λ r. ⌜ deskOf (r .place) (r .size) (now (front .exit)) (now (back .exit))
+        ≡ deskAfter (now (first .entry)) (begin (now (first .entry)) (now (front .entry)) (now (back .entry))) (scriptOf (now (list .entry))) ⌝ }
+    ensures { λ r. ⌜ now (numbers .exit) ≡ numbered (numbersOf (now (first .entry)) (begin (now (first .entry)) (now (front .entry)) (now (back .entry)))
+        (scriptOf (now (list .entry)))) (now (numbers .entry)) ⌝ }
 {
     let m = list.len() / 13;
     let mut place = 0;
@@ -207,8 +202,11 @@ fn run_all(
 
 // Runs a list of edits from the sheet `first`. The number of each edit is written to `numbers`, in two bytes.
 pub fn run(first: &[u8], list: &[u8], front: &mut [u8], back: &mut [u8], numbers: &mut [u8]) -> Ran
-    ensures { λ r. ⌜ ranOf r (now (front .exit)) (now (back .exit)) (now (numbers .exit)) ≡ resultOf (now (first .entry)) (now (list .entry)) (now (front .entry)) (now (back .entry)) (now (numbers .entry)) ⌝ }
-    ensures model { λ r. ⌜ ((p : Polygon) → readSheet (now (first .entry)) ≡ held p → ranOf r (now (front .exit)) (now (back .exit)) (now (numbers .exit)) .number ≡ 0 → AsModel (now (first .entry)) p (now (list .entry)) (now (numbers .entry)) (ranOf r (now (front .exit)) (now (back .exit)) (now (numbers .exit)))) ⌝ }
+    ensures { λ r. ⌜ ranOf r (now (front .exit)) (now (back .exit)) (now (numbers .exit))
+        ≡ resultOf (now (first .entry)) (now (list .entry)) (now (front .entry)) (now (back .entry)) (now (numbers .entry)) ⌝ }
+    ensures model { λ r. ⌜ ((p : Polygon) → readSheet (now (first .entry)) ≡ held p
+        → ranOf r (now (front .exit)) (now (back .exit)) (now (numbers .exit)) .number ≡ 0
+        → AsModel (now (first .entry)) p (now (list .entry)) (now (numbers .entry)) (ranOf r (now (front .exit)) (now (back .exit)) (now (numbers .exit)))) ⌝ }
 {
     if list.len() % 13 != 0 {
         return Ran::Refused(32);

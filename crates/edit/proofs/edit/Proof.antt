@@ -44,24 +44,29 @@ write-sheet-requires c κs = in-hand (c .before .before .before .before .before 
 returns : tie.Need-returns
 unfolding edited onHeld outcome written
 returns c =
-    let start = c .before .before .before .before .before .before .before .before in
-    read-is (λ (q : Reading). written (outcome (onHeld q (rule (editOf (start .args .e))))) (start .args .out .now)) (c .before .before .before .before .read-sheet .ensures) (c .before .k .given .1)
+    let s = c .before .before .before .before .before .before .before .before in
+    read-is (λ (q : Reading). written (outcome (onHeld q (rule (editOf (s .args .e))))) (s .args .out .now)) (c .before .before .before .before .read-sheet .ensures) (c .before .k .given .1)
 
 -- what the edit gives, of the sheet
-after : (c : tie.After-edit-part) → Reads (onHeld (readSheet (c .before .before .before .before .before .before .before .before .before .before .args .sheet .now)) (rule (editOf (c .before .before .before .before .before .before .before .before .before .before .args .e)))) (c .edit-part .result) (c .edit-part .last .1 .0)
+abbrev start : tie.After-edit-part → tie.Start
+start c = c .before .before .before .before .before .before .before .before .before .before
+
+after : (c : tie.After-edit-part) → Reads (onHeld (readSheet (start c .args .sheet .now)) (rule (editOf (start c .args .e)))) (c .edit-part .result) (c .edit-part .last .1 .0)
 unfolding onHeld
-after c = rw (← read-is (λ (q : Reading). onHeld q (rule (editOf (c .before .before .before .before .before .before .before .before .before .before .args .e)))) (c .before .before .before .before .before .before .read-sheet .ensures) (c .before .before .before .h .given .1)) (c .edit-part .ensures)
+after c = rw (← read-is (λ (q : Reading). onHeld q (rule (editOf (start c .args .e)))) (c .before .before .before .before .before .before .read-sheet .ensures) (c .before .before .before .h .given .1)) (c .edit-part .ensures)
 
 returns-2 : tie.Need-returns-2
 unfolding edited outcome written
-returns-2 c = read-is (λ (q : Reading). written (outcome q) (c .before .before .before .before .before .before .before .before .before .before .before .before .before .before .args .out .now)) (after (c .before .before .before .before)) (c .before .k2 .given .1)
+returns-2 c = read-is (λ (q : Reading). written (outcome q) (start (c .before .before .before .before) .args .out .now)) (after (c .before .before .before .before)) (c .before .k2 .given .1)
 
 same-length : tie.Need-same-length
 same-length c = search needs
 
 returns-3 : tie.Need-returns-3
 unfolding edited outcome
-returns-3 c = c .before .before .write-sheet .ensures ∙ read-is (λ (q : Reading). written (outcome q) (c .before .before .before .before .before .before .before .before .before .before .before .before .before .before .before .before .before .before .before .args .out .now)) (after (c .before .before .before .before .before .before .before .before .before)) (c .before .before .before .before .before .before .g .given .1)
+returns-3 c =
+    let at-edit-part = c .before .before .before .before .before .before .before .before .before in
+    c .before .before .write-sheet .ensures ∙ read-is (λ (q : Reading). written (outcome q) (start at-edit-part .args .out .now)) (after at-edit-part) (c .before .before .before .before .before .before .g .given .1)
 
 pub edit-spec : {M : Type 1} → statement M
 edit-spec = tie.close (tie.spec slice-aggregate-read-sheet read-sheet-requires enum-known-k enum-known-h slice-aggregate-edit-part edit-part-requires enum-known-k-2 enum-known-g slice-aggregate-write-sheet write-sheet-requires returns returns-2 same-length returns-3)

@@ -1,38 +1,34 @@
--- The edit is read from the list; the answer's number says where the sheet lies afterwards.
+-- The answer's number says where the sheet lies afterwards.
 use mathlib.Core.Path.{refl}
 use borrow.Author.Needs.{needs}
 use Rattle.edit_list.specs.Script.{editAt}
-use Rattle.edit_list.specs.Desk.{deskOf}
+use Rattle.edit_list.specs.Desk.{Desk, deskOf}
+use Rattle.edit_list.specs.Steps.{Lent}
 use Rattle.edit_list.proofs.Desks.{stepped-taken, stepped-refused, edit-read}
 use Rattle.edit_list.proofs.step.Statement.{statement}
 use Rattle.edit_list.proofs.step.Tie as tie
 
-mul-at : tie.Need-mul-at
-mul-at c = search needs
+abbrev start : tie.After-lend → tie.Start
+start c = c .before .before .before .before .before .before .before .before .before
 
-shared-slice-read-wide : tie.Need-shared-slice-read-wide
-shared-slice-read-wide c = search needs
+abbrev desk : tie.After-lend → Desk
+desk c = deskOf (start c .args .place) (start c .args .size) (start c .args .front .now) (start c .args .back .now)
 
-wide-requires : tie.Need-wide-requires
-wide-requires c κs = search needs
+-- the edit of the list is done
+lent : (c : tie.After-lend) → Lent (start c .args .first .now) (desk c) (editAt (start c .args .list .now) (start c .args .i)) (c .lend .result) (c .lend .last .1 .0) (c .lend .last .1 .1 .0)
+lent c = rw (edit-read (start c .args .list .now) (start c .args .i) (c .before .before .before .before .edit-at .ensures) (c .before .before .before .get32 .ensures .0)) at (c .lend .ensures)
+
+edit-at-requires : tie.Need-edit-at-requires
+edit-at-requires c κs = search needs
+
+mul-get32 : tie.Need-mul-get32
+mul-get32 c = search needs
 
 add-get32 : tie.Need-add-get32
 add-get32 c = search needs
 
 get32-requires : tie.Need-get32-requires
 get32-requires c κs = search needs
-
-add-get32-2 : tie.Need-add-get32-2
-add-get32-2 c = search needs
-
-get32-requires-2 : tie.Need-get32-requires-2
-get32-requires-2 c κs = search needs
-
-add-get32-3 : tie.Need-add-get32-3
-add-get32-3 c = search needs
-
-get32-requires-3 : tie.Need-get32-requires-3
-get32-requires-3 c κs = search needs
 
 lend-requires : tie.Need-lend-requires
 lend-requires c κs = search needs
@@ -56,14 +52,7 @@ returns : tie.Need-returns
 returns c =
     let at-number-of = c .before .before .before in
     let at-lend = at-number-of .before .before .before .before .before in
-    let at-get323 = at-lend .before .before .before in
-    let at-get322 = at-get323 .before in
-    let at-get32 = at-get322 .before in
-    let at-wide = at-get32 .before in
-    let start = at-wide .before .before .before .before .before .before in
-    stepped-taken (start .args .first .now) (deskOf (start .args .place) (start .args .size) (start .args .front .now) (start .args .back .now))
-    (editAt (start .args .list .now) (start .args .i)) (at-lend .lend .result) (at-lend .lend .last .1 .0) (at-lend .lend .last .1 .1 .0)
-    (rw (edit-read (start .args .list .now) (start .args .i) (at-wide .wide .result) (at-get32 .get32 .result) (at-get322 .get322 .result) (at-get323 .get323 .result) (at-wide .wide .ensures .0) (at-get32 .get32 .ensures .0) (at-get322 .get322 .ensures .0) (at-get323 .get323 .ensures .0)) at (at-lend .lend .ensures))
+    stepped-taken _ (desk at-lend) _ (at-lend .lend .result) _ _ (lent at-lend)
     (record { place = c .before .other .result; size = c .size-of .result; number = at-number-of .number-of .result }) (at-number-of .number-of .ensures .1)
     (at-number-of .number-of .ensures .0) (c .before .before .if1 .taken) (c .before .other .ensures) (c .size-of .ensures)
 
@@ -76,16 +65,9 @@ same-length-4 c = search needs
 returns-2 : tie.Need-returns-2
 returns-2 c =
     let at-lend = c .before .before .before .before .before .before in
-    let at-get323 = at-lend .before .before .before in
-    let at-get322 = at-get323 .before in
-    let at-get32 = at-get322 .before in
-    let at-wide = at-get32 .before in
-    let start = at-wide .before .before .before .before .before .before in
-    stepped-refused (start .args .first .now) (deskOf (start .args .place) (start .args .size) (start .args .front .now) (start .args .back .now))
-    (editAt (start .args .list .now) (start .args .i)) (at-lend .lend .result) (at-lend .lend .last .1 .0) (at-lend .lend .last .1 .1 .0)
-    (rw (edit-read (start .args .list .now) (start .args .i) (at-wide .wide .result) (at-get32 .get32 .result) (at-get322 .get322 .result) (at-get323 .get323 .result) (at-wide .wide .ensures .0) (at-get32 .get32 .ensures .0) (at-get322 .get322 .ensures .0) (at-get323 .get323 .ensures .0)) at (at-lend .lend .ensures))
-    (record { place = start .args .place; size = start .args .size; number = c .before .number-of .result }) (c .before .number-of .ensures .1)
+    stepped-refused _ (desk at-lend) _ (at-lend .lend .result) _ _ (lent at-lend)
+    (record { place = desk at-lend .place; size = desk at-lend .size; number = c .before .number-of .result }) (c .before .number-of .ensures .1)
     (c .before .number-of .ensures .0) (c .if1 .left) refl refl
 
 pub step-spec : {M : Type 1} → statement M
-step-spec = tie.close (tie.spec mul-at shared-slice-read-wide wide-requires add-get32 get32-requires add-get32-2 get32-requires-2 add-get32-3 get32-requires-3 lend-requires number-of-requires other-requires size-of-requires same-length same-length-2 returns same-length-3 same-length-4 returns-2)
+step-spec = tie.close (tie.spec edit-at-requires mul-get32 add-get32 get32-requires lend-requires number-of-requires other-requires size-of-requires same-length same-length-2 returns same-length-3 same-length-4 returns-2)

@@ -20,7 +20,7 @@ takes : (c : tie.Else3) → Takes (removeEar (start c .args .corner)) (polygonOf
 takes c = (omega arith, c .before .before .before .if2 .left, c .before .is-ear .ensures .0 (not-false _ (c .if3 .left)))
 
 -- the table without the ear's diagonal
-ear : (c : tie.After-remove) → Without (start (c .before .before .before .before .before) .args .h) (start (c .before .before .before .before .before) .args .keys .now) (neighbours (start (c .before .before .before .before .before) .args .h .n) (start (c .before .before .before .before .before) .args .corner)) (c .remove .last .0)
+ear : (c : tie.After-remove) → let s = start (c .before .before .before .before .before) in Without (s .args .h) (s .args .keys .now) (neighbours (s .args .h .n) (s .args .corner)) (c .remove .last .0)
 ear c =
     let at-if3 = c .before .before .before .before .before in
     let s = start at-if3 in
