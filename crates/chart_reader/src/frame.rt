@@ -10,7 +10,8 @@ use codec::get16;
 // Finds the places of the strokes from `from` on, as many as there is room for, if their map bytes have at most bit 0 and they end where the bytes end.
 fn stroke_places(chart: &[u8], from: usize, at: &mut [usize]) -> bool
     requires { ⌜ (from ≤ 6150) × (length (now at) ≤ 2045) ⌝ }
-    ensures { λ r. ⌜ (r ≡ true → (now (at .exit) ≡ places (now (chart .entry)) from (length (now (at .entry)))) × Ending (now (chart .entry)) from (length (now (at .entry)))) ⌝ }
+    ensures { λ r. ⌜ (r ≡ true → (now (at .exit) ≡ places (now (chart .entry)) from (length (now (at .entry))))
+        × Ending (now (chart .entry)) from (length (now (at .entry)))) ⌝ }
     ensures { λ r. ⌜ (r ≡ false → Ending (now (chart .entry)) from (length (now (at .entry))) → ⊥) ⌝ }
 {
     let mut i = 0;

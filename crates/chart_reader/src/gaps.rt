@@ -31,7 +31,8 @@ fn put_gap(gaps: &mut [u8], at: usize, e: Ends)
 fn put_gap_of(chart: &[u8], at: usize, n: usize, gaps: &mut [u8], g: usize) -> usize
     requires { ⌜ StrokeIn (now chart) n at × Bars (now chart) n × (6 * g + 6 ≤ length (now gaps)) ⌝ }
     ensures { λ r. ⌜ (r ≡ g + length (gapOf (chartIn (now (chart .entry))) (strokeAt (now (chart .entry)) at))) ⌝ }
-    ensures { λ r. ⌜ now (gaps .exit) ≡ sets (now (gaps .entry)) (6 * g) (flatMap barBytes (gapOf (chartIn (now (chart .entry))) (strokeAt (now (chart .entry)) at))) ⌝ }
+    ensures { λ r. ⌜ now (gaps .exit)
+        ≡ sets (now (gaps .entry)) (6 * g) (flatMap barBytes (gapOf (chartIn (now (chart .entry))) (strokeAt (now (chart .entry)) at))) ⌝ }
 {
     if chart[at] != 0 {
         return g;
@@ -48,7 +49,8 @@ fn put_gap_of(chart: &[u8], at: usize, n: usize, gaps: &mut [u8], g: usize) -> u
 
 // Writes the gaps of the level strokes, and says how many there are.
 fn put_gaps(chart: &[u8], at: &[usize], n: usize, gaps: &mut [u8]) -> usize
-    requires { ⌜ Placed (now chart) n (now at) × All (Named (chartIn (now chart))) (chartIn (now chart) .strokes) × (6 * length (now at) ≤ length (now gaps)) ⌝ }
+    requires { ⌜ Placed (now chart) n (now at) × All (Named (chartIn (now chart))) (chartIn (now chart) .strokes)
+        × (6 * length (now at) ≤ length (now gaps)) ⌝ }
     ensures { λ r. ⌜ GapsIn (chartIn (now (chart .entry))) (now (gaps .exit)) r × (r ≤ length (now (at .entry))) ⌝ }
 {
     let mut g = 0;

@@ -52,7 +52,8 @@ fn diagonals(edges: &[u32], n: usize, keys: &mut [u32]) -> usize
 // Whether 2n - 3 ascending edges are all sides and diagonals that do not cross, with the keys of the diagonals in the table if they are.
 pub fn part(edges: &[u32], n: usize, keys: &mut [u32]) -> bool
     requires { ⌜ EdgesOf n (edgesOf (now edges)) × (n ≤ 1024) × (length (now edges) ≤ length (now keys)) ⌝ }
-    ensures { λ r. ⌜ (r ≡ true → PartOf n (edgesOf (now (edges .entry))) × (edgesOf (take (n - 3) (now (keys .exit))) ≡ keep (diagonal? n) (edgesOf (now (edges .entry))))) ⌝ }
+    ensures { λ r. ⌜ (r ≡ true → PartOf n (edgesOf (now (edges .entry)))
+        × (edgesOf (take (n - 3) (now (keys .exit))) ≡ keep (diagonal? n) (edgesOf (now (edges .entry))))) ⌝ }
     ensures { λ r. ⌜ (r ≡ false → PartOf n (edgesOf (now (edges .entry))) → ⊥) ⌝ }
 {
     let m = diagonals(edges, n, keys);

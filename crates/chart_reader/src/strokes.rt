@@ -18,7 +18,8 @@ use keys::sort::ascends;
 // Reads the edges of the strokes, as keys, if each is of two corners, the lower first.
 fn edge_keys(chart: &[u8], at: &[usize], n: usize, keys: &mut [u32]) -> bool
     requires { ⌜ Placed (now chart) n (now at) × (length (now at) ≤ length (now keys)) ⌝ }
-    ensures { λ r. ⌜ (r ≡ true → All (Named (chartIn (now (chart .entry)))) (chartIn (now (chart .entry)) .strokes) × (edgesOf (take (length (now (at .entry))) (now (keys .exit))) ≡ edgesIn (chartIn (now (chart .entry))))) ⌝ }
+    ensures { λ r. ⌜ (r ≡ true → All (Named (chartIn (now (chart .entry)))) (chartIn (now (chart .entry)) .strokes)
+        × (edgesOf (take (length (now (at .entry))) (now (keys .exit))) ≡ edgesIn (chartIn (now (chart .entry))))) ⌝ }
     ensures { λ r. ⌜ (r ≡ false → All (Named (chartIn (now (chart .entry)))) (chartIn (now (chart .entry)) .strokes) → ⊥) ⌝ }
 {
     let mut i = 0;
@@ -168,7 +169,8 @@ fn all_fit(chart: &[u8], at: &[usize], n: usize) -> bool
 // Whether the strokes keep their rule, with the keys of their edges in the table if they do.
 pub fn strokes_keep(chart: &[u8], at: &[usize], n: usize, keys: &mut [u32]) -> bool
     requires { ⌜ Placed (now chart) n (now at) × (length (now at) ≤ length (now keys)) ⌝ }
-    ensures { λ r. ⌜ (r ≡ true → StrokeRule (chartIn (now (chart .entry))) × (edgesOf (take (length (now (at .entry))) (now (keys .exit))) ≡ edgesIn (chartIn (now (chart .entry))))) ⌝ }
+    ensures { λ r. ⌜ (r ≡ true → StrokeRule (chartIn (now (chart .entry)))
+        × (edgesOf (take (length (now (at .entry))) (now (keys .exit))) ≡ edgesIn (chartIn (now (chart .entry))))) ⌝ }
     ensures { λ r. ⌜ (r ≡ false → StrokeRule (chartIn (now (chart .entry))) → ⊥) ⌝ }
 {
     if !edge_keys(chart, at, n, keys) {
