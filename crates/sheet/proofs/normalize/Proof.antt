@@ -23,15 +23,11 @@ slice-aggregate-write-sheet : tie.Need-slice-aggregate-write-sheet
 slice-aggregate-write-sheet c = search needs
 
 write-sheet-requires : tie.Need-write-sheet-requires
-write-sheet-requires c κs =
-    let at-h = c .before .before .before in
-    in-hand (at-h .before .before .before .read-sheet .ensures) (at-h .h .given .1)
+write-sheet-requires c κs = in-hand (c .before .before .before .before .before .before .read-sheet .ensures) (c .before .before .before .h .given .1)
 
 returns : tie.Need-returns
 unfolding ordered outcome written
-returns c =
-    let at-read-sheet = c .before .before .before .before in
-    read-is (λ (q : Reading). written (outcome q) (at-read-sheet .before .before .before .before .args .out .now)) (at-read-sheet .read-sheet .ensures) (c .before .k .given .1)
+returns c = read-is (λ (q : Reading). written (outcome q) (c .before .before .before .before .before .before .before .before .args .out .now)) (c .before .before .before .before .read-sheet .ensures) (c .before .k .given .1)
 
 same-length : tie.Need-same-length
 same-length c = search needs
@@ -41,8 +37,7 @@ unfolding ordered outcome
 returns-2 c =
     let at-h = c .before .before .before .before .before .before in
     let at-read-sheet = at-h .before .before .before in
-    c .before .before .write-sheet .ensures
-    ∙ read-is (λ (q : Reading). written (outcome q) (at-read-sheet .before .before .before .before .args .out .now)) (at-read-sheet .read-sheet .ensures) (at-h .h .given .1)
+    c .before .before .write-sheet .ensures ∙ read-is (λ (q : Reading). written (outcome q) (at-read-sheet .before .before .before .before .args .out .now)) (at-read-sheet .read-sheet .ensures) (at-h .h .given .1)
 
 pub normalize-spec : {M : Type 1} → statement M
 normalize-spec = tie.close (tie.spec slice-aggregate-read-sheet read-sheet-requires enum-known-k enum-known-h slice-aggregate-write-sheet write-sheet-requires returns same-length returns-2)

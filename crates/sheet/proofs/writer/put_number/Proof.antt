@@ -1,20 +1,12 @@
 -- Stored, or nothing to store.
 use borrow.Author.Needs.{needs}
-use Prim.Native.Nat.{_+_, _≤_}
-use lib.ListN.{length}
-use Rattle.polygon.specs.Polygon.{Numbered}
 use Rattle.sheet.specs.Sheet.{numberBytes}
-use Rattle.sheet.specs.Held.{numberOf}
 use Rattle.sheet.proofs.writer.put_number.Statement.{statement}
 use Rattle.sheet.proofs.writer.put_number.Tie as tie
 
 put32-requires : tie.Need-put32-requires
 unfolding numberBytes
-put32-requires c κs =
-    let s = c .before .before .before in
-    let number = numberOf (s .args .numbered) (s .args .number) in
-    let h : (s .args .at + length (numberBytes number) ≤ length (s .args .out .now)) × Numbered number = s .pre in
-    rw (c .before .if1 .taken) at h
+put32-requires c κs = rw (c .before .if1 .taken) at (c .before .before .before .pre)
 
 same-length : tie.Need-same-length
 same-length c = search needs
