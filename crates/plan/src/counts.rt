@@ -25,17 +25,17 @@ pub struct Tally {
 }
 
 // A piece, its role, and the levels under its umbrella; for a hung piece d is not looked at.
-pub struct Spot {
-    pub piece: Piece,
-    pub role: Role,
-    pub d: u16,
+struct Spot {
+    piece: Piece,
+    role: Role,
+    d: u16,
 }
 
 // What a triangle adds, and what is left to be counted.
-pub struct Fork {
-    pub adds: Tally,
-    pub small: Spot,
-    pub large: Spot,
+struct Fork {
+    adds: Tally,
+    small: Spot,
+    large: Spot,
 }
 
 // The stem whose first gate is at a triangle.
