@@ -1,54 +1,74 @@
--- From the columns, rows and levels of the plan drawn to its chart.
+-- From the edges, columns and rows of the plan drawn to its chart.
 use mathlib.Core.Path.{_≡_, ap, sym, _∙_}
-use mathlib.Core.List.{List}
-use Prim.Native.Nat.{ℕ, _-_, _≤_, _<_}
-use native.Mathlib.Nat.{zero-add}
+use mathlib.Core.List.{List, map}
+use Prim.Native.Nat.{ℕ, suc, _+_, _*_, _-_, _≤_, _<_}
 use native.Mathlib.Omega.{arith}
 use lib.ListN.{length, take, getD}
-use lib.Seq.{getD-take}
-use Rattle.polygon.specs.Lists.{Mem, All}
+use lib.Seq.{getD-take, length-take-le}
 use Rattle.polygon.specs.Polygon.{Edge, Triangulated}
-use Rattle.polygon.specs.Order.{same?}
+use Rattle.polygon.specs.Edges.{edges}
 use Rattle.polygon.specs.Tree.{Tree, span, treeOf}
-use Rattle.polygon.proofs.Lists.{all-of}
+use Rattle.polygon.proofs.Edges.{edges-ascending}
 use Rattle.polygon.proofs.TreeTheorem.{tree-of}
 use Rattle.keys.specs.Keys.{edgesOf}
 use Rattle.umbrella.specs.Plan.{Plan, levels}
 use Rattle.umbrella.specs.Best.{best}
-use Rattle.umbrella.proofs.Occurs.{mem-occurs, occurs-mem}
 use Rattle.umbrella.proofs.Theorems.{umbrellas-bound}
+use Rattle.tree.specs.Shows.{edgeAt}
+use Rattle.tree.proofs.Whole.{keyed}
 use Rattle.chart.specs.Places.{cols, rows}
-use Rattle.polygon.specs.Edges.{edges}
 use Rattle.chart.specs.Chart.{layout, chart}
 use Rattle.chart.specs.Bytes.{bytesOf}
-use Rattle.chart.proofs.EachEdge.{each-drawn}
 use Rattle.chart.proofs.Width.{width}
-use Rattle.chart_writer.specs.Tables.{RowsAre}
+use Rattle.chart_writer.specs.Tables.{Sizes, Edges, Among, Laid}
 use Rattle.drawing.specs.Placed.{Placed}
 use Rattle.drawing.specs.declared.Size.{Size}
 
--- each column's upright is an edge of the part
-cols-are-edges : {t : Tree} (p : Plan t) → All (λ e. Mem e (edges 0 t)) (cols p 0 (span t))
-cols-are-edges {t} p = all-of (cols p 0 (span t)) (λ e m. occurs-mem same? e (edges 0 t) (omega (arith, each-drawn e p 0 (span t) (zero-add (span t)), mem-occurs same? e m)))
-
--- there are some, and not too many; and few levels
-sizes : {t : Tree} (p : Plan t) → 2 ≤ span t → span t ≤ 1023 → (1 ≤ length (cols p 0 (span t))) × (length (cols p 0 (span t)) < 4096) × (levels p < 1024)
+-- some columns, and few levels
+sizes : {t : Tree} (p : Plan t) → 2 ≤ span t → span t ≤ 1023 → (1 ≤ length (cols p 0 (span t))) × (levels p < 1024)
 sizes {t} p h k = omega (arith, width p 0 (span t), umbrellas-bound p)
 
 -- a part drawn: what its writer asks for, and the chart that comes of it
-module _ {n : ℕ} {ds : List Edge} (T : Triangulated n ds) (h : 3 ≤ n) {columns ranks : List ℕ} {s : Size} (P : Placed n (treeOf n ds) columns ranks s) where
-  last : n - 1 ≡ span (treeOf n ds)
-  last = omega (arith, tree-of n ds T .size)
+module _ {n : ℕ} (ks : List ℕ) (T : Triangulated n (edgesOf ks)) (most : n ≤ 1024) {tr columns ranks : List ℕ} {s : Size} (P : Placed n (treeOf n (edgesOf ks)) tr columns ranks s) where
+  abbrev t : Tree
+  t = treeOf n (edgesOf ks)
 
-  pub uprights-are-edges : All (λ e. Mem e (edges 0 (treeOf n ds))) (edgesOf (take (s .columns) columns))
-  uprights-are-edges = rw (P .uprights, last) (cols-are-edges (best (treeOf n ds)))
+  last : n - 1 ≡ span t
+  last = omega (arith, tree-of n (edgesOf ks) T .size, T .full)
 
-  pub placed-sizes : n ≤ 1024 → (1 ≤ s .columns) × (s .columns < 4096) × (s .levels < 1024)
-  placed-sizes k = rw (P .width, P .height, last) (sizes (best (treeOf n ds)) (omega (arith, last)) (omega (arith, last)))
+  pub placed-sizes : (1 ≤ s .columns) × (s .columns < 2048) × (s .rows < 2048)
+  placed-sizes =
+      let z : (1 ≤ length (cols (best t) 0 (n - 1))) × (levels (best t) < 1024) = rw last (sizes (best t) (omega (arith, last, T .full)) (omega (arith, last))) in
+      omega (arith, z, P .width, P .height, P .few)
 
-  pub rows-are : RowsAre n (rows (best (treeOf n ds))) ranks
-  rows-are x k = sym (getD-take n ranks x 0 k) ∙ ap (λ (l : List ℕ). getD l x 0) (P .corners)
+  pub count : length (take (s .columns) columns) ≡ s .columns
+  count = length-take-le (s .columns) columns (omega (arith, placed-sizes, P .columns-kept))
 
-  pub placed-chart : bytesOf (layout (n - 1) (s .levels) (rows (best (treeOf n ds))) (edgesOf (take (s .columns) columns)) (edges 0 (treeOf n ds))) ≡ bytesOf (chart (best (treeOf n ds)))
+  pub placed-asks : Sizes n (s .rows) tr (take (s .columns) columns) ranks
+  placed-asks = record {
+    least = omega (arith, T .full);
+    most = most;
+    tall = omega (arith, placed-sizes);
+    edges = omega (arith, P .tree-kept);
+    corners = omega (arith, P .ranks-kept);
+    some = omega (arith, count, placed-sizes);
+    few = omega (arith, count, placed-sizes);
+  }
+
+  pub placed-edges : Edges (2 * n - 3) tr
+  placed-edges = record { keyed = keyed n ks T most tr (P .tree-kept) (P .listed); ascending = rw (P .listed) (edges-ascending 0 t) }
+
+  pub placed-among : Among (2 * n - 3) (take (s .columns) columns)
+  placed-among j h = rw (getD-take (s .columns) columns j 0 (omega (arith, count))) (P .among j (omega (arith, count)))
+
+  pub placed-laid : Laid n (s .rows) tr (take (s .columns) columns) ranks (levels (best t)) (rows (best t)) (cols (best t) 0 (n - 1)) (edges 0 t)
+  placed-laid = record {
+    levels = omega (arith, P .height);
+    corners = λ x k. sym (getD-take n ranks x 0 k) ∙ ap (λ (l : List ℕ). getD l x 0) (P .corners);
+    uprights = sym (P .uprights);
+    edges = sym (P .listed);
+  }
+
+  pub placed-chart : bytesOf (layout (n - 1) (levels (best t)) (rows (best t)) (cols (best t) 0 (n - 1)) (edges 0 t)) ≡ bytesOf (chart (best t))
   unfolding chart
-  placed-chart = rw (P .uprights, P .height, last)
+  placed-chart = rw last

@@ -20,8 +20,11 @@ use bar_list::fill_bars;
 use chart_writer::write_chart;
 use codec::Written;
 use drawing::place_part;
+use drawing::walk::COLUMNS;
+use levels::CORNERS;
 use sheet::Read;
 use sheet::reader::read_sheet;
+use tree::PLACES;
 
 pub mod line;
 pub mod program;
@@ -38,11 +41,12 @@ fn draw_part(keys: &[u32], n: usize, out: &mut [u8]) -> Written
     requires { ⌜ (3 ≤ n) × (n ≤ 1024) ⌝ }
     ensures { λ r. ⌜ answered r (now (out .exit)) ≡ written (write (bytesOf (chart (best (treeOf n (edgesOf (now (keys .entry)))))))) (now (out .entry)) ⌝ }
 {
-    let mut columns = [0u32; 4096];
-    let mut rows = [0u16; 1024];
-    let size = place_part(keys, n, &mut columns, &mut rows);
+    let mut tree = [0u32; PLACES];
+    let mut columns = [0u16; COLUMNS];
+    let mut rows = [0u16; CORNERS];
+    let size = place_part(keys, n, &mut tree, &mut columns, &mut rows);
     let w = size.columns;
-    write_chart(n, size.levels as usize, keys, &columns[..w], &rows, out)
+    write_chart(n, size.rows, &tree, &columns[..w], &rows, out)
 }
 
 // Writes the chart of a sheet, if the output is long enough and `room` records hold its bars.

@@ -32,7 +32,7 @@ use Rattle.drawing.proofs.OnLines.{OnLine}
 use Rattle.drawing.proofs.Planned.{columns-best}
 use Rattle.drawing.proofs.Ranked.{rows-best}
 use Rattle.drawing.proofs.Walking.{ranks-length}
-use Rattle.drawing.proofs.Following.{walked-end}
+use Rattle.drawing.proofs.Following.{walked-end, walked-columns, walked-rows}
 
 -- on the line of row 0, downwards
 abbrev pub top : Line
@@ -84,7 +84,11 @@ module _ {n : ℕ} {t : Tree} {tr ds : List ℕ} {p : Piece} (F : Filled n t tr 
         listed = F .listed;
         among = λ j h. within n (getD o₁ j 0) tr (F .rest) (rw (sym (getD-take w o₁ j 0 h) ∙ ap (λ (l : List ℕ). getD l j 0) f) (at-all 0 (D .held) j (omega (arith, D .end))));
         uprights = ap (map (edgeAt tr)) f ∙ (D .are ∙ a);
+        few = omega (arith, walked-end (F .whole .shows) W, F .whole .lower, F .whole .upper);
         width = D .end ∙ (zero-add (length places) ∙ (sym (length-map places (edgeAt tr)) ∙ (ap length (D .are) ∙ ap length a)));
         corners = corners-are t (n - 1) n q q₁ v-is (omega arith) (omega arith) (omega arith) lq (W .ranked ∙ rw (F .whole .lower));
         height = omega (arith, levels-are, computed-has t);
+        tree-kept = F .kept;
+        columns-kept = walked-columns (F .whole .shows) W ∙ lo;
+        ranks-kept = walked-rows (F .whole .shows) W ∙ (length-set (set q 0 0) (n - 1) 0 ∙ (length-set q 0 0 ∙ lq));
       }

@@ -17,6 +17,10 @@ pub record Placed (n : ℕ) (t : Tree) (tr columns ranks : List ℕ) (s : Size) 
   pub listed : edgesOf (take (2 * n - 3) tr) ≡ edges 0 t
   pub among : (j : ℕ) → j < s .columns → getD columns j 0 < 2 * n - 3
   pub uprights : map (edgeAt tr) (take (s .columns) columns) ≡ cols (best t) 0 (n - 1)
+  pub few : s .columns < 2 * n
   pub width : s .columns ≡ length (cols (best t) 0 (n - 1))
   pub corners : take n ranks ≡ 0 ∷ (rows (best t) ++ (0 ∷ []))
   pub height : s .rows ≡ suc (2 * levels (best t))
+  pub tree-kept : length tr ≡ 3072
+  pub columns-kept : length columns ≡ 2048
+  pub ranks-kept : length ranks ≡ 1024

@@ -2,7 +2,7 @@
 use mathlib.Core.Path.{_≡_}
 use mathlib.Core.List.{List}
 use Prim.Native.Nat.{ℕ, suc, _+_, _*_, _-_, _≤_, _<_, max, min}
-use lib.ListN.{getD, set, take}
+use lib.ListN.{length, getD, set, take}
 use Rattle.polygon.specs.Tree.{Tree, leaf, node}
 use Rattle.umbrella.specs.Numbers.{ud, handle, fanA, fanB, partA, partB}
 use Rattle.polygon.specs.Edges.{edges}
@@ -59,6 +59,7 @@ pub record Known (tr ds : List ℕ) (e u v : ℕ) (t : Tree) : Type 0 where
 
 -- the tables of a part with n corners and the tree t, p being the whole part
 pub record Filled (n : ℕ) (t : Tree) (tr ds : List ℕ) (p : Piece) : Type 0 where
+  pub kept : length tr ≡ 3072
   pub listed : edgesOf (take (2 * n - 3) tr) ≡ edges 0 t
   pub rest : (j : ℕ) → 2 * n - 3 ≤ j → j < 2048 → getD tr j 0 ≡ 0
   pub whole : Whole n t tr p

@@ -41,7 +41,7 @@ module _ (n : ℕ) (chords : List ℕ) (size : ℕ) (out : List ℕ) (i k x y : 
   pub chord-next : y ≤ x → Merging (sides (n - 1)) chords size (set out k y) i (k + 1)
   chord-next h =
       let l : k - i < length chords = go (decLt (k - i) (length chords)) in
-      rw (N .chord-is l) (merging-second (sides (n - 1)) chords size out i k M room l (λ p. omega (arith, N .chord-is l, N .side-is, side-at (n - 1) i (omega (arith, sides-count (n - 1))))))
+      rw (N .chord-is l) (merging-second M room l (λ p. omega (arith, N .chord-is l, N .side-is, side-at (n - 1) i (omega (arith, sides-count (n - 1))))))
     where
       go : Dec (k - i < length chords) → k - i < length chords
       go (yes p) = p
@@ -61,4 +61,4 @@ module _ (n : ℕ) (chords : List ℕ) (size : ℕ) (out : List ℕ) (i k x y : 
   side-next l h =
       let e : getD (sides (n - 1)) i 0 ≡ x = side-at (n - 1) i l ∙ sym (N .side-is) in
       subst (λ (z : ℕ). Merging (sides (n - 1)) chords size (set out k z) (i + 1) (k + 1)) e
-      (merging-first (sides (n - 1)) chords size out i k M room (omega (arith, sides-count (n - 1))) (λ p. omega (arith, e, N .chord-is p)))
+      (merging-first M room (omega (arith, sides-count (n - 1))) (λ p. omega (arith, e, N .chord-is p)))

@@ -86,7 +86,7 @@ returns c =
     let start = c .before .before .before .before in
     let chords = start .args .chords .now in
     let e : c .before .loop .k ≡ start .args .n - 1 + length chords = omega arith in
-    (rw (← e) (merged (sides (start .args .n - 1)) chords _ (c .before .loop .listed) (c .before .loop .i) (c .before .loop .k) (c .before .loop .inv .3) (e ∙ omega (arith, sides-count (start .args .n - 1)))), rw (← c .before .loop .inv .1) (c .before .loop .inv .4))
+    (rw (← e) (merged (c .before .loop .inv .3) (e ∙ omega (arith, sides-count (start .args .n - 1)))), rw (← c .before .loop .inv .1) (c .before .loop .inv .4))
 
 pub merge-sides-spec : {M : Type 1} → statement M
 merge-sides-spec = tie.close (tie.spec Inv-loop μ-loop sub-size add-size loop-holds side-requires sub-key-at key-at-requires mul-listed slice-write-listed mul-listed-2 slice-write-listed-2 add-i add-k loop-less loop-again same-length returns)
