@@ -6,7 +6,7 @@ use Prim.Native.Nat.{ℕ, suc, _+_, _*_, _-_, _<_, _≤_}
 use native.Mathlib.Omega.{arith}
 use native.Mathlib.Decide.{decLt}
 use lib.ListN.{length, getD, length-map, List·getD-map}
-use Rattle.polygon.specs.Lists.{Mem, head, tail, All, all-nil, all-cons, Sorted, sorted-cons, below, choose}
+use Rattle.polygon.specs.Lists.{Mem, head, tail, All, all-nil, all-cons, sorted-cons, below, choose}
 use Rattle.polygon.specs.Polygon.{Edge, _—_, Ascending, Linked, Triangulated}
 use Rattle.polygon.specs.Order.{Distinct, sort}
 use Rattle.polygon.specs.Tree.{treeOf}
@@ -17,7 +17,7 @@ use Rattle.polygon.proofs.TreeTheorem.{TreeIs, tree-of}
 use Rattle.keys.specs.Keys.{keyOf, edgeOf, edgesOf}
 use Rattle.keys.specs.Sort.{insertKey, sortKeys, merge}
 use Rattle.keys.proofs.Insert.{merge-sorts}
-use Rattle.keys.proofs.InOrder.{edge-of-key, sort-edges, ascends-same, ascends-sorted, edges-ascend}
+use Rattle.keys.proofs.InOrder.{edge-of-key, sort-edges, ascends-same, edges-ascend}
 use Rattle.keys.proofs.Crosses.{all-at, at-all}
 use Rattle.polygon.specs.Edges.{edges}
 use Rattle.polygon.proofs.Edges.{edges-linked, edges-ascending}
@@ -96,9 +96,6 @@ module _ (n : ℕ) (ks : List ℕ) (P : Triangulated n (edgesOf ks)) (small : n 
   -- the diagonals and the root edge come before a side at the last corner
   pub chords-low : All (λ k. k < side (n - 1)) (insertKey (n - 1) ks)
   chords-low = all-insert (n - 1) (omega (arith, P .full)) (all-at 0 ks (λ j h. let d = edge-at ks (P .diagonals) j h in omega (arith, d .forth, d .corner)))
-
-  pub in-keys-order : Sorted _<_ ks
-  in-keys-order = ascends-sorted ks (edges-ascend ks (P .ascending))
 
   -- the sides merged with them are the edges of the tree
   pub edges-listed : edgesOf (merge (sides (n - 1)) (insertKey (n - 1) ks)) ≡ edges 0 (treeOf n (edgesOf ks))

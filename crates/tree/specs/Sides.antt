@@ -1,6 +1,7 @@
 -- The sides of a part as keys.
-use mathlib.Core.List.{List, map}
+use mathlib.Core.List.{List, _∷_, _++_, map}
 use Prim.Native.Nat.{ℕ, suc}
+use lib.ListN.{take, drop}
 use Rattle.polygon.specs.Lists.{below}
 use Rattle.polygon.specs.Polygon.{_—_}
 use Rattle.keys.specs.Keys.{keyOf}
@@ -11,3 +12,7 @@ side i = keyOf (i — suc i)
 
 abbrev pub sides : ℕ → List ℕ
 sides k = map side (below k)
+
+-- the keys with x among them, behind the first z
+abbrev pub withKey : ℕ → ℕ → List ℕ → List ℕ
+withKey z x ks = take z ks ++ (x ∷ drop z ks)

@@ -1,28 +1,30 @@
 -- The loop's invariant is `Merging`, of the sides and the chords.
-use mathlib.Core.Path.{_≡_, refl, sym, _∙_}
-use mathlib.Core.Logic.{⊎-elim}
+use mathlib.Core.Path.{_≡_, refl, _∙_}
 use Prim.Native.Nat.{ℕ, _+_, _-_, _≤_, _<_}
 use borrow.Author.Needs.{needs}
 use native.Mathlib.Omega.{arith}
-use lib.ListN.{length, drop, getD}
+use lib.ListN.{length, drop, set}
 use lib.Seq.{drop-set-lt}
-use Rattle.tree.specs.Sides.{side, sides}
 use Rattle.keys.proofs.Merging.{Merging, merged}
-use Rattle.tree.proofs.Sides.{sides-count, Next, chord-next, side-left, side-next}
+use Rattle.tree.specs.Sides.{sides, withKey}
+use Rattle.tree.proofs.Sides.{sides-count, with-length, Next, either-next}
 use Rattle.tree.proofs.edges.merge_sides.Statement.{statement}
 use Rattle.tree.proofs.edges.merge_sides.Tie as tie
 
 abbrev Inv-loop : tie.InvT-loop
-Inv-loop chords n listed₀ size i₀ k₀ listed i k = (k ≤ size) × (size ≡ n - 1 + length chords) × (i ≤ n - 1) × Merging (sides (n - 1)) chords (length listed₀) listed i k × (drop size listed ≡ drop size listed₀)
+Inv-loop keys z n listed₀ size root i₀ k₀ listed i k = (k ≤ size) × (size ≡ n + length keys) × (i ≤ n - 1) × Merging (sides (n - 1)) (withKey z (n - 1) keys) (length listed₀) listed i k × (drop size listed ≡ drop size listed₀)
 
 abbrev μ-loop : tie.MeasureT-loop
-μ-loop chords n listed₀ size i₀ k₀ listed i k = size - k
-
-sub-size : tie.Need-sub-size Inv-loop μ-loop
-sub-size c = omega arith
+μ-loop keys z n listed₀ size root i₀ k₀ listed i k = size - k
 
 add-size : tie.Need-add-size Inv-loop μ-loop
 add-size c = omega arith
+
+sub-root : tie.Need-sub-root Inv-loop μ-loop
+sub-root c = omega arith
+
+cast-root : tie.Need-cast-root Inv-loop μ-loop
+cast-root c = omega arith
 
 loop-holds : tie.Need-loop-holds Inv-loop μ-loop
 loop-holds c = (omega arith, refl, omega arith, record { first = omega arith; both = omega arith; second = omega arith; kept = refl; rest = refl }, refl)
@@ -30,11 +32,14 @@ loop-holds c = (omega arith, refl, omega arith, record { first = omega arith; bo
 side-requires : tie.Need-side-requires Inv-loop μ-loop
 side-requires c κs = omega arith
 
-sub-key-at : tie.Need-sub-key-at Inv-loop μ-loop
-sub-key-at c = omega (arith, c .before .before .loop .inv .3)
+sub-chord-at : tie.Need-sub-chord-at Inv-loop μ-loop
+sub-chord-at c = omega (arith, c .before .before .loop .inv .3 .both)
 
-key-at-requires : tie.Need-key-at-requires Inv-loop μ-loop
-key-at-requires c κs = search needs
+chord-at-requires : tie.Need-chord-at-requires Inv-loop μ-loop
+chord-at-requires c κs = omega arith
+
+smaller-requires : tie.Need-smaller-requires Inv-loop μ-loop
+smaller-requires c κs = search needs
 
 mul-listed : tie.Need-mul-listed Inv-loop μ-loop
 mul-listed c = omega arith
@@ -42,14 +47,27 @@ mul-listed c = omega arith
 slice-write-listed : tie.Need-slice-write-listed Inv-loop μ-loop
 slice-write-listed c = omega (arith, c .before .before .before .before .loop .inv .3 .kept)
 
-mul-listed-2 : tie.Need-mul-listed-2 Inv-loop μ-loop
-mul-listed-2 c = omega arith
+side-first-requires : tie.Need-side-first-requires Inv-loop μ-loop
+side-first-requires c κs = search needs
 
-slice-write-listed-2 : tie.Need-slice-write-listed-2 Inv-loop μ-loop
-slice-write-listed-2 c = omega (arith, c .before .before .before .before .loop .inv .3 .kept)
+-- the next of the two
+turn : (c : tie.After-side-first Inv-loop μ-loop) → let at-loop = c .before .before .before .before .before in let start = at-loop .before .before .before in
+    (at-loop .loop .i + c .side-first .result ≤ start .args .n - 1)
+    × Merging (sides (start .args .n - 1)) (withKey (start .args .z) (start .args .n - 1) (start .args .keys .now)) (length (start .args .listed .now)) (set (at-loop .loop .listed) (at-loop .loop .k) (c .before .smaller .result)) (at-loop .loop .i + c .side-first .result) (at-loop .loop .k + 1)
+turn c =
+    let at-chord = c .before .before in
+    let at-loop = at-chord .before .before .before in
+    let start = at-loop .before .before .before in
+    let n = start .args .n in
+    let keys = start .args .keys .now in
+    let chords = withKey (start .args .z) (n - 1) keys in
+    let size : length chords ≡ length keys + 1 = with-length (start .args .z) (n - 1) keys (omega (arith, start .pre .0)) in
+    let N : Next chords (at-loop .loop .i) (at-loop .loop .k - at-loop .loop .i) (at-chord .before .side .result) (at-chord .chord-at .result) = record { side-is = at-chord .before .side .ensures; chord-is = λ h. at-chord .chord-at .ensures .0 (omega (arith, size)); none-left = λ h. at-chord .chord-at .ensures .1 (omega (arith, size)) } in
+    rw (c .before .smaller .ensures, c .side-first .ensures)
+    (either-next n chords _ (at-loop .loop .listed) (at-loop .loop .i) (at-loop .loop .k) _ _ (omega arith) (omega arith) (at-loop .loop .inv .3) (omega (arith, start .pre .0)) N (λ j h. start .pre .1 j (omega (arith, size))) (omega (arith, size)))
 
 add-i : tie.Need-add-i Inv-loop μ-loop
-add-i c = omega arith
+add-i c = omega (arith, turn c .0)
 
 add-k : tie.Need-add-k Inv-loop μ-loop
 add-k c = omega arith
@@ -57,26 +75,11 @@ add-k c = omega arith
 loop-less : tie.Need-loop-less Inv-loop μ-loop
 loop-less c = omega arith
 
-next : (c : tie.After-key-at Inv-loop μ-loop) → Next (c .before .before .before .before .before .before .args .chords .now) (c .before .before .before .loop .i) (c .before .before .before .loop .k - c .before .before .before .loop .i) (c .before .side .result) (c .key-at .result)
-next c = record { side-is = c .before .side .ensures; chord-is = c .key-at .ensures .0; none-left = c .key-at .ensures .1 }
-
 loop-again : tie.Need-loop-again Inv-loop μ-loop
 loop-again c =
-    let at-loop = c .before .before .before .before in
+    let at-loop = c .before .before .before .before .before in
     let start = at-loop .before .before .before in
-    let n = start .args .n in
-    let chords = start .args .chords .now in
-    let i = at-loop .loop .i in
-    let k = at-loop .loop .k in
-    let M = at-loop .loop .inv .3 in
-    let size = n - 1 + length chords in
-    let room : k < length (start .args .listed .now) = omega (arith, start .pre .0) in
-    ⊎-elim
-    (λ w. rw (w .1, w .2) (omega arith, at-loop .loop .inv .1, omega arith, chord-next n chords _ (at-loop .loop .listed) i k _ _ (omega arith) (omega arith) M room (next (c .before)) (w .0 .taken), drop-set-lt size (at-loop .loop .listed) k _ (omega arith) ∙ at-loop .loop .inv .4))
-    (λ w.
-    let l : i < n - 1 = side-left n chords _ (at-loop .loop .listed) i k _ _ (omega arith) (omega arith) M room (next (c .before)) (start .pre .1) (omega arith) (w .0 .left) in
-    rw (w .1, w .2) (omega arith, at-loop .loop .inv .1, omega (arith, l), side-next n chords _ (at-loop .loop .listed) i k _ _ (omega arith) (omega arith) M room (next (c .before)) l (w .0 .left), drop-set-lt size (at-loop .loop .listed) k _ (omega arith) ∙ at-loop .loop .inv .4))
-    (c .if1 .came)
+    (omega arith, at-loop .loop .inv .1, turn c .0, turn c .1, drop-set-lt (start .args .n + length (start .args .keys .now)) (at-loop .loop .listed) (at-loop .loop .k) (c .before .smaller .result) (omega arith) ∙ at-loop .loop .inv .4)
 
 same-length : tie.Need-same-length Inv-loop μ-loop
 same-length c = c .before .loop .inv .3 .kept
@@ -84,9 +87,10 @@ same-length c = c .before .loop .inv .3 .kept
 returns : tie.Need-returns Inv-loop μ-loop
 returns c =
     let start = c .before .before .before .before in
-    let chords = start .args .chords .now in
-    let e : c .before .loop .k ≡ start .args .n - 1 + length chords = omega arith in
-    (rw (← e) (merged (c .before .loop .inv .3) (e ∙ omega (arith, sides-count (start .args .n - 1)))), rw (← c .before .loop .inv .1) (c .before .loop .inv .4))
+    let n = start .args .n in
+    let keys = start .args .keys .now in
+    let e : c .before .loop .k ≡ n + length keys = omega arith in
+    (rw (← e) (merged (c .before .loop .inv .3) (e ∙ omega (arith, sides-count (n - 1), with-length (start .args .z) (n - 1) keys (omega (arith, start .pre .0)), start .pre .0))), rw (← c .before .loop .inv .1) (c .before .loop .inv .4))
 
 pub merge-sides-spec : {M : Type 1} → statement M
-merge-sides-spec = tie.close (tie.spec Inv-loop μ-loop sub-size add-size loop-holds side-requires sub-key-at key-at-requires mul-listed slice-write-listed mul-listed-2 slice-write-listed-2 add-i add-k loop-less loop-again same-length returns)
+merge-sides-spec = tie.close (tie.spec Inv-loop μ-loop add-size sub-root cast-root loop-holds side-requires sub-chord-at chord-at-requires smaller-requires mul-listed slice-write-listed side-first-requires add-i add-k loop-less loop-again same-length returns)
