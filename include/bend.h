@@ -38,6 +38,9 @@
  *
  * The inputs are only read. No output may overlap an input or another output.
  * No pointer may be null, not even with a length of 0.
+ *
+ * No function needs more than 128 KiB of stack, and none allocates memory. That
+ * is measured (tests/c/stack.c, on parts of 1,024 corners) and not proved.
  */
 #ifndef BEND_H
 #define BEND_H

@@ -145,6 +145,23 @@ stairs() {
     for ((i = 1; i < 1024; i++)); do printf 01; hex16 0 $i $((2 * i - 1)); done
     for ((i = 1; i < 1023; i++)); do printf 01; hex16 $i $((i + 1)) $((2 * i)); done
 }
+fan_above() { hex16 1024; for ((k = 1; k < 1022; k++)); do hex16 $k 1023; done; }
+zigzag() { hex16 1024; for ((k = 1; k < 512; k++)); do hex16 $k $((1024 - k)) $k $((1023 - k)); done | head -c 8168; }
+# within 128 KiB of stack: fans at either corner, strips to and fro, and the 1,024 corners of every shape, whole and halved and drawn at random
+narrow() {
+    rm -f bend.chart
+    is "$1, line" "$( (ulimit -s 128; exec "$root/target/bin/bend") <"$2")" "$("$root/target/bin/bend" <"$2")"
+    is "$1, chart" "$( (ulimit -s 128; exec "$root/target/bin/bend") <"$2" | head -c 5) $(head -c 6 bend.chart | tail -c 2 | od -An -tx1 | tr -d ' ')" 'part  0400'
+}
+bytes "03$(fan)" >fan.sheet
+bytes "03$(fan_above)" >fan_above.sheet
+bytes "03$(zigzag)" >zigzag.sheet
+for shape in fan fan_above zigzag; do narrow "$shape" "$shape.sheet"; done
+mkdir sheets
+CARGO_TARGET_DIR="${CARGO_TARGET_DIR:-$root/target/cargo}" cargo run --quiet --release --manifest-path "$root/tests/Cargo.toml" --bin sheets -- sheets
+for sheet in sheets/*_1024.sheet; do narrow "$(basename "$sheet")" "$sheet"; done
+rm -r sheets fan.sheet fan_above.sheet zigzag.sheet bend.chart
+
 bytes "07$(fan)0000002a" >longest.sheet
 is 'longest sheet, bytes' "$(wc -c <longest.sheet)" 4091
 is 'longest sheet' "$("$bend" <longest.sheet)" 'part 42 corners 1024 levels 1 umbrellas 1 stems 0 rows 3 columns 1023'
