@@ -1,26 +1,26 @@
 -- A corner added in the code's table: renumbered, and the new diagonal put in.
-use mathlib.Core.Path.{_≡_, ap, _∙_}
-use mathlib.Core.List.{List, map}
+use mathlib.Core.Path.{_≡_, _∙_}
+use mathlib.Core.List.{List, [], _∷_, map}
 use Prim.Native.Nat.{ℕ, suc, _+_, _-_, _≤_, _<_}
 use native.Mathlib.Decide.{ℕ-discrete}
 use native.Mathlib.Omega.{arith}
 use native.Mathlib.Numerals.{add-one}
 use lib.ListN.{length, take}
-use Rattle.polygon.specs.Lists.{Sorted}
-use Rattle.polygon.specs.Polygon.{_—_}
+use lib.Seq.{length-take-le}
+use Rattle.polygon.specs.Polygon.{Edge, _—_, Diagonal}
 use Rattle.polygon.proofs.Lists.{choose-yes, choose-no, all-imp}
 use Rattle.keys.specs.Keys.{keyOf, edgesOf}
-use Rattle.keys.specs.Sort.{insertKey}
+use Rattle.keys.specs.Sort.{merge}
 use Rattle.sheet.specs.declared.Head.{Head}
 use Rattle.sheet.specs.Sheet.{refused}
 use Rattle.sheet.specs.declared.Read.the-variants.{Held}
 use Rattle.sheet.specs.Held.{polygonOf, InHand, Reads}
 use Rattle.sheet.proofs.Asks.{ask-yes, ask-no}
-use Rattle.edit.specs.Rules.{addEar, rule, up, both, entering, earAdded}
+use Rattle.sheet.proofs.Hand.{keys-count}
+use Rattle.edit.specs.Rules.{addEar, rule, both, entering, earAdded}
 use Rattle.edit.specs.declared.shift.Shift.the-variants.{Up}
-use Rattle.edit.specs.Tables.{AllMovable, moved as shifted}
-use Rattle.edit.proofs.Add.{moved-ascending}
-use Rattle.edit.proofs.InHand.{edited, keys-sorted, inserted}
+use Rattle.edit.specs.Tables.{Movable, AllMovable, moved as shifted}
+use Rattle.edit.proofs.InHand.{edited, inserted}
 use Rattle.edit.proofs.Shifting.{up-one}
 
 -- the pair that enters
@@ -53,22 +53,20 @@ module _ {h : Head} {ks : List ℕ} (P : InHand h ks) (i : ℕ) where
       small : h .n ≤ 1023
       small = omega (arith, P .valid .most, space)
 
-      pub can-rise : AllMovable (Up i 1) (h .n - 3) ks
-      can-rise = all-imp (λ e d. ((omega (arith, d .forth, d .corner, small), λ l. omega (arith, d .forth, d .corner, small)), (omega (arith, d .corner, small), λ l. omega (arith, d .corner, small)))) (P .valid .triangulated .diagonals)
+      pub can-rise : AllMovable (Up i 1) (take (h .n - 3) ks)
+      can-rise = all-imp rises (P .valid .triangulated .diagonals)
+        where
+          rises : (e : Edge) → Diagonal (h .n) e → Movable (Up i 1) (e .0) × Movable (Up i 1) (e .1)
+          rises e d = ((omega (arith, d .forth, d .corner, small), λ l. omega (arith, d .forth, d .corner, small)), (omega (arith, d .corner, small), λ l. omega (arith, d .corner, small)))
 
-      module _ (moved : List ℕ) (R : edgesOf (take (h .n - 3) moved) ≡ map (both (shifted (Up i 1))) (edgesOf (take (h .n - 3) ks))) where
-        M : edgesOf (take (h .n - 3) moved) ≡ map (both (up i)) (edgesOf (take (h .n - 3) ks))
-        M = R ∙ ap (λ (f : ℕ → ℕ). map (both f) (edgesOf (take (h .n - 3) ks))) (up-one i)
+      -- the table `moved` begins with the renumbered keys, and `after` with them and the key that enters
+      module _ (moved : List ℕ) (R : edgesOf (take (length (take (h .n - 3) ks)) moved) ≡ map (both (shifted (Up i 1))) (edgesOf (take (h .n - 3) ks))) (room : h .n - 3 ≤ length moved)
+          {k : ℕ} (E : k ≡ keyOf (entering (h .n) i)) (after : List ℕ) (I : take (1 + length (take (h .n - 3) moved)) after ≡ merge (k ∷ []) (take (h .n - 3) moved)) (long : 1021 ≤ length after) where
+        edges : edgesOf (take (h .n + 1 - 3) after) ≡ earAdded (h .n) i (edgesOf (take (h .n - 3) ks))
+        unfolding earAdded
+        edges =
+            let e : h .n + 1 - 3 ≡ 1 + length (take (h .n - 3) moved) = omega (arith, P .valid .least, length-take-le (h .n - 3) moved room) in
+            rw (e, I, inserted k (entering (h .n) i) (take (h .n - 3) moved) E (entering-low (h .n) i inside small), rw (keys-count P) at R, up-one i)
 
-        pub moved-sorted : Sorted _<_ (take (h .n - 3) moved)
-        moved-sorted = keys-sorted (take (h .n - 3) moved) (rw M (moved-ascending (h .n) i (edgesOf (take (h .n - 3) ks)) (P .valid .triangulated) inside))
-
-        module _ {k : ℕ} (E : k ≡ keyOf (entering (h .n) i)) (after : List ℕ) (I : take (h .n - 3 + 1) after ≡ insertKey k (take (h .n - 3) moved)) (long : 1021 ≤ length after) where
-          edges : edgesOf (take (h .n + 1 - 3) after) ≡ earAdded (h .n) i (edgesOf (take (h .n - 3) ks))
-          unfolding earAdded
-          edges =
-              let e : h .n + 1 - 3 ≡ h .n - 3 + 1 = omega (arith, P .valid .least) in
-              rw (e, I, inserted k (entering (h .n) i) (take (h .n - 3) moved) E (entering-low (h .n) i inside small), M)
-
-          pub added : Reads (rule (addEar i) (polygonOf h ks)) (Held (record { n = h .n + 1; numbered = h .numbered; number = h .number })) after
-          added = edited (addEar i) P (inside, space) (rw (edges, add-one (h .n))) long
+        pub added : Reads (rule (addEar i) (polygonOf h ks)) (Held (record { n = h .n + 1; numbered = h .numbered; number = h .number })) after
+        added = edited (addEar i) P (inside, space) (rw (edges, add-one (h .n))) long

@@ -5,7 +5,7 @@ use Prim.Native.Nat.{ℕ, _-_, _≤_, _<_}
 use native.Mathlib.Omega.{arith}
 use lib.ListN.{length, take}
 use Rattle.polygon.specs.Lists.{All}
-use Rattle.polygon.specs.Polygon.{_—_}
+use Rattle.polygon.specs.Polygon.{Edge, _—_, Diagonal}
 use Rattle.polygon.proofs.Lists.{all-imp}
 use Rattle.polygon.proofs.Order.{remove-all}
 use Rattle.keys.specs.Keys.{keyOf, edgesOf}
@@ -17,7 +17,7 @@ use Rattle.sheet.specs.Held.{polygonOf, InHand, Reads}
 use Rattle.sheet.proofs.Asks.{ask-yes, ask-no}
 use Rattle.edit.specs.Rules.{removeEar, rule, down, both, neighbours, Away, earRemoved}
 use Rattle.edit.specs.declared.shift.Shift.the-variants.{Down}
-use Rattle.edit.specs.Tables.{AllMovable, moved}
+use Rattle.edit.specs.Tables.{Movable, AllMovable, moved}
 use Rattle.edit.proofs.Rule.{Takes}
 use Rattle.edit.proofs.Remove.{ear-diagonal}
 use Rattle.edit.proofs.InHand.{edited, Without, taken-out}
@@ -39,17 +39,22 @@ module _ {h : Head} {ks : List ℕ} (P : InHand h ks) (c : ℕ) where
 
   -- a corner that can be taken off
   module _ (t : Takes (removeEar c) (polygonOf h ks)) where
-    pub ear-out : {a b k : ℕ} → a ≡ neighbours (h .n) c .0 → b ≡ neighbours (h .n) c .1 → k ≡ keyOf (a — b) → (out : List ℕ) {r : ℕ}
-        → take r out ≡ removeKey k (take (h .n - 3) ks) → r ≡ length (removeKey k (take (h .n - 3) ks)) → 1021 ≤ length out → Without h ks (neighbours (h .n) c) out
-    ear-out {a} {b} A B K = let e : keyOf (a — b) ≡ keyOf (neighbours (h .n) c) = rw (A, B) in taken-out P (neighbours (h .n) c) (ear-diagonal (polygonOf h ks) c (P .valid) t) (K ∙ e)
+    pub ear-out : {a b k : ℕ} → a ≡ neighbours (h .n) c .0 → b ≡ neighbours (h .n) c .1 → k ≡ keyOf (a — b) → {rest : List ℕ}
+        → rest ≡ removeKey k (take (h .n - 3) ks) → Without h ks (neighbours (h .n) c) rest
+    ear-out {a} {b} A B K =
+        let e : keyOf (a — b) ≡ keyOf (neighbours (h .n) c) = rw (A, B) in
+        taken-out P (neighbours (h .n) c) (ear-diagonal (polygonOf h ks) c (P .valid) t) (K ∙ e)
 
-    module _ {out : List ℕ} (W : Without h ks (neighbours (h .n) c) out) where
-      pub can-fall : (h .n - 3 - 1 ≤ length out) × AllMovable (Down c 1) (h .n - 3 - 1) out
-      can-fall = (omega (arith, W .room, P .valid .most), rw (W .left) (remove-all (neighbours (h .n) c) (all-imp (λ e d. ((omega (arith, d .forth, d .corner, P .valid .most), λ l. omega arith), (omega (arith, d .corner, P .valid .most), λ l. omega arith))) (P .valid .triangulated .diagonals))))
+    module _ {rest : List ℕ} (W : Without h ks (neighbours (h .n) c) rest) where
+      pub can-fall : AllMovable (Down c 1) rest
+      can-fall = rw (W .left) (remove-all (neighbours (h .n) c) (all-imp falls (P .valid .triangulated .diagonals)))
+        where
+          falls : (e : Edge) → Diagonal (h .n) e → Movable (Down c 1) (e .0) × Movable (Down c 1) (e .1)
+          falls e d = ((omega (arith, d .forth, d .corner, P .valid .most), λ l. omega arith), (omega (arith, d .corner, P .valid .most), λ l. omega arith))
 
-      pub shrunk : (after : List ℕ) → edgesOf (take (h .n - 3 - 1) after) ≡ map (both (moved (Down c 1))) (edgesOf (take (h .n - 3 - 1) out)) → 1021 ≤ length after
+      pub shrunk : (after : List ℕ) → edgesOf (take (length rest) after) ≡ map (both (moved (Down c 1))) (edgesOf rest) → 1021 ≤ length after
           → Reads (rule (removeEar c) (polygonOf h ks)) (Held (record { n = h .n - 1; numbered = h .numbered; number = h .number })) after
       unfolding earRemoved down
       shrunk after S long =
-          let e : h .n - 1 - 3 ≡ h .n - 3 - 1 = omega arith in
+          let e : h .n - 1 - 3 ≡ length rest = omega (arith, W .size) in
           edited (removeEar c) P t (rw (e, S, W .left)) long

@@ -10,9 +10,8 @@ use Rattle.polygon.specs.Lists.{Mem, head, tail, all-cons, Sorted, sorted-cons}
 use Rattle.polygon.specs.Polygon.{Edge, _—_}
 use Rattle.polygon.specs.Order.{insert, remove, lower-first}
 use Rattle.polygon.proofs.Lists.{here, there, not-empty, keep-sorted, below-sorted}
-use Rattle.polygon.proofs.Order.{remove-ascending}
 use Rattle.keys.specs.Keys.{keyOf, edgeOf, edgesOf}
-use Rattle.keys.specs.Sort.{insertKey}
+use Rattle.keys.specs.Sort.{merge}
 use Rattle.keys.specs.Change.{removeKey}
 use Rattle.keys.proofs.InOrder.{edge-of-key}
 use Rattle.keys.proofs.Removal.{mem-edges, edges-mem}
@@ -27,7 +26,7 @@ use Rattle.edit.specs.Tables.{Near, Common}
 use Rattle.edit.proofs.Reading.{common-reads}
 use Rattle.edit.proofs.Quad.{across, joined-corners}
 use Rattle.edit.proofs.Flipped.{common-is, flipped-is}
-use Rattle.edit.proofs.InHand.{edited, keys-sorted, inserted, Without, taken-out}
+use Rattle.edit.proofs.InHand.{edited, inserted, Without, taken-out}
 
 -- two tables of near corners, and the first and second corner marked in both
 module _ (n a b : ℕ) (ds : List Edge) (p q : List ℕ) (A : Near n ds a p) (B : Near n ds b q) (x y : ℕ) (two : common n ds (a — b) ≡ x ∷ (y ∷ [])) where
@@ -97,26 +96,21 @@ module _ {h : Head} {ks : List ℕ} (P : InHand h ks) (a b : ℕ) where
     unfolding rule
     turn-lacks f = ask-yes 9 _ _ (omega arith, inside) ∙ ask-no 13 _ _ (λ m. f (edges-mem k (take (h .n - 3) ks) (rw (edge-k, ← in-order a b up) m)))
 
-    pub turn-out : Mem k (take (h .n - 3) ks) → (out : List ℕ) {r : ℕ} → take r out ≡ removeKey k (take (h .n - 3) ks) → r ≡ length (removeKey k (take (h .n - 3) ks)) → 1021 ≤ length out
-        → Without h ks (a — b) out
+    pub turn-out : Mem k (take (h .n - 3) ks) → {rest : List ℕ} → rest ≡ removeKey k (take (h .n - 3) ks) → Without h ks (a — b) rest
     turn-out M = taken-out P (a — b) (rw edge-k at (mem-edges k (take (h .n - 3) ks) M)) K
 
-  module _ {out : List ℕ} (W : Without h ks (a — b) out) where
-    pub out-sorted : Sorted _<_ (take (h .n - 3 - 1) out)
-    out-sorted = keys-sorted (take (h .n - 3 - 1) out) (rw (W .left) (remove-ascending (a — b) (P .valid .triangulated .ascending)))
-
-    pub flipped-over : a ≤ b → b < h .n → {other : ℕ} → ((x y : ℕ) → common (h .n) (edgesOf (take (h .n - 3) ks)) (a — b) ≡ x ∷ (y ∷ []) → other ≡ keyOf (x — y)) → (after : List ℕ)
-        → take (h .n - 3 - 1 + 1) after ≡ insertKey other (take (h .n - 3 - 1) out) → 1021 ≤ length after → Reads (rule (flip a b) (polygonOf h ks)) (Held h) after
-    flipped-over up inside {other} O after I long =
-        let T = P .valid .triangulated in
-        let (f, A) = across (h .n) (edgesOf (take (h .n - 3) ks)) T (a — b) (W .member) in
-        let low : f .1 < 1024 = omega (arith, joined-corners (h .n) (edgesOf (take (h .n - 3) ks)) T _ _ (A .low-high) .1, P .valid .most) in
-        let new : other ≡ keyOf f = O (f .0) (f .1) (common-is (h .n) (edgesOf (take (h .n - 3) ks)) T (a — b) f A) in
-        let m : h .n - 3 ≡ h .n - 3 - 1 + 1 = omega (arith, W .some) in
-        let edges : edgesOf (take (h .n - 3) after) ≡ insert f (remove (a — b) (edgesOf (take (h .n - 3) ks))) =
-        ap (λ (j : ℕ). edgesOf (take j after)) m ∙ (ap edgesOf I ∙ (inserted other f (take (h .n - 3 - 1) out) new low ∙ ap (insert f) (W .left))) in
-        let there : Mem (lower-first (a, b)) (edgesOf (take (h .n - 3) ks)) = rw (in-order a b up) (W .member) in
-        edited (flip a b) P ((omega arith, inside), there) (rw (edges, in-order a b up, flipped-is (h .n) (edgesOf (take (h .n - 3) ks)) T (a — b) f A)) long
+  pub flipped-over : a ≤ b → b < h .n → {rest : List ℕ} → Without h ks (a — b) rest → {other : ℕ} → ((x y : ℕ) → common (h .n) (edgesOf (take (h .n - 3) ks)) (a — b) ≡ x ∷ (y ∷ []) → other ≡ keyOf (x — y))
+      → (after : List ℕ) → take (1 + length rest) after ≡ merge (other ∷ []) rest → 1021 ≤ length after → Reads (rule (flip a b) (polygonOf h ks)) (Held h) after
+  flipped-over up inside {rest} W {other} O after I long =
+      let T = P .valid .triangulated in
+      let ds : List Edge = edgesOf (take (h .n - 3) ks) in
+      let (f, A) = across (h .n) ds T (a — b) (W .member) in
+      let low : f .1 < 1024 = omega (arith, joined-corners (h .n) ds T _ _ (A .low-high) .1, P .valid .most) in
+      let new : other ≡ keyOf f = O (f .0) (f .1) (common-is (h .n) ds T (a — b) f A) in
+      let m : h .n - 3 ≡ 1 + length rest = omega (arith, W .size) in
+      let edges : edgesOf (take (h .n - 3) after) ≡ insert f (remove (a — b) ds) = ap (λ (j : ℕ). edgesOf (take j after)) m ∙ (ap edgesOf I ∙ (inserted other f rest new low ∙ ap (insert f) (W .left))) in
+      let there : Mem (lower-first (a, b)) ds = rw (in-order a b up) (W .member) in
+      edited (flip a b) P ((omega arith, inside), there) (rw (edges, in-order a b up, flipped-is (h .n) ds T (a — b) f A)) long
 
 -- a blank table has no mark
 pub blank : (n x : ℕ) → _≡_ {A = ℕ} (getD (replicate n 0) x 0) 0

@@ -4,7 +4,7 @@ use mathlib.Core.Logic.{_⊎_}
 use mathlib.Core.List.{List}
 use Prim.Native.Nat.{ℕ, _+_, _-_, _<_, _≤_}
 use native.Mathlib.Decide.{decLt}
-use lib.ListN.{take, getD}
+use lib.ListN.{getD}
 use Rattle.polygon.specs.Lists.{All, choose}
 use Rattle.polygon.specs.Polygon.{Edge, Joined}
 use Rattle.keys.specs.Keys.{edgesOf}
@@ -29,9 +29,9 @@ abbrev pub Movable : Shift → ℕ → Type 0
 Movable (Up at by) x = (x < 1024) × (at < x → x + by < 1024)
 Movable (Down at by) x = (x < 1024) × (at < x → by ≤ x)
 
--- the corners of the first m keys can be renumbered
-abbrev pub AllMovable : Shift → ℕ → List ℕ → Type 0
-AllMovable s m ks = All (λ e. Movable s (e .0) × Movable s (e .1)) (edgesOf (take m ks))
+-- the corners of the keys can be renumbered
+abbrev pub AllMovable : Shift → List ℕ → Type 0
+AllMovable s ks = All (λ e. Movable s (e .0) × Movable s (e .1)) (edgesOf ks)
 
 -- r is the other end of an edge with an end at c, or 1,024 if neither end is c
 abbrev pub OtherEnd : Edge → ℕ → ℕ → Type 0

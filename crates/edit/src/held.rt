@@ -15,9 +15,9 @@ use crate::near::mark;
 use crate::shift::Shift;
 use crate::shift::renumber;
 use keys::change::has;
-use keys::change::insert;
 use keys::change::remove;
 use keys::key;
+use keys::merge::merge;
 use sheet::Head;
 use sheet::Read;
 
@@ -52,8 +52,10 @@ fn add_to(h: Head, keys: &mut [u32], side: usize) -> Read
         return Read::Refused(10);
     }
     let m = n - 3;
-    renumber(keys, m, Shift::Up(side, 1));
-    insert(keys, m, entering_key(n, side));
+    let mut moved = [0u32; 1021];
+    renumber(&keys[..m], Shift::Up(side, 1), &mut moved);
+    let new = [entering_key(n, side)];
+    merge(&new, &moved[..m], keys);
     Read::Held(Head {
         n: n + 1,
         numbered: h.numbered,
@@ -79,8 +81,9 @@ fn remove_from(h: Head, keys: &mut [u32], corner: usize) -> Read
     }
     let a = low_neighbour(n, corner);
     let b = high_neighbour(n, corner);
-    remove(keys, m, key(a, b));
-    renumber(keys, m - 1, Shift::Down(corner, 1));
+    let mut rest = [0u32; 1021];
+    let left = remove(&keys[..m], key(a, b), &mut rest);
+    renumber(&rest[..left], Shift::Down(corner, 1), keys);
     Read::Held(Head {
         n: n - 1,
         numbered: h.numbered,
@@ -120,9 +123,10 @@ fn turn(h: Head, keys: &mut [u32], a: usize, b: usize) -> Read
     if !has(&keys[..m], k) {
         return Read::Refused(13);
     }
-    let other = turned_key(&keys[..m], n, a, b);
-    remove(keys, m, k);
-    insert(keys, m - 1, other);
+    let turned = [turned_key(&keys[..m], n, a, b)];
+    let mut rest = [0u32; 1021];
+    let left = remove(&keys[..m], k, &mut rest);
+    merge(&turned, &rest[..left], keys);
     Read::Held(h)
 }
 

@@ -27,16 +27,16 @@ fn moved(shift: Shift, x: usize) -> usize
     }
 }
 
-// Renumbers the corners of the first m keys.
-pub fn renumber(keys: &mut [u32], m: usize, shift: Shift)
-    requires { ⌜ (m ≤ length (now keys)) × AllMovable shift m (now keys) ⌝ }
-    ensures { λ _. ⌜ edgesOf (take m (now (keys .exit))) ≡ map (both (moved shift)) (edgesOf (take m (now (keys .entry)))) ⌝ }
+// Puts the keys with their corners renumbered at the front of `out`.
+pub fn renumber(keys: &[u32], shift: Shift, out: &mut [u32])
+    requires { ⌜ (length (now keys) ≤ length (now out)) × AllMovable shift (now keys) ⌝ }
+    ensures { λ _. ⌜ edgesOf (take (length (now (keys .entry))) (now (out .exit))) ≡ map (both (moved shift)) (edgesOf (now (keys .entry))) ⌝ }
 {
-    let mut j = 0;
-    while j < m {
+    let mut j: usize = 0;
+    while j < keys.len() {
         let a = moved(shift, low(keys[j]));
         let b = moved(shift, high(keys[j]));
-        keys[j] = key(a, b);
+        out[j] = key(a, b);
         j += 1;
     }
 }

@@ -8,4 +8,3 @@ pub mod Counting
 pub mod Apexes
 pub mod Crosses
 pub mod InOrder
-pub mod Carry

@@ -5,8 +5,8 @@ use Prim.Native.Nat.{ℕ, zero, suc, _+_, _<_, _≤_}
 use native.Mathlib.Decide.{ℕ-discrete}
 use native.Mathlib.Numerals.{add-one}
 use native.Mathlib.Omega.{arith}
-use lib.ListN.{length, take, drop, set, getD, length-set}
-use lib.Seq.{take-suc, take-suc-set, drop-set-lt, drop-drop, drop-cons, length-take-le}
+use lib.ListN.{length, take, set, getD, length-set}
+use lib.Seq.{take-suc, take-suc-set, take-all, length-take-le}
 use Rattle.polygon.specs.Lists.{Mem, head, tail, put, keep, not?}
 use Rattle.polygon.specs.Polygon.{Edge}
 use Rattle.polygon.specs.Order.{same?, remove}
@@ -40,56 +40,41 @@ module _ (k : ℕ) (xs : List ℕ) (y : ℕ) where
       go (yes p) = absurd (f p)
       go (no p) = refl
 
--- what the loop keeps: the first `left` keys are those before j without k, and from j on nothing has changed
-pub record Removing (k m : ℕ) (first keys : List ℕ) (left j : ℕ) : Type 0 where
-  pub upto : j ≤ m
+-- what the loop keeps: the first `left` keys of `out` are those before j without k
+pub record Removing (k : ℕ) (keys : List ℕ) (size : ℕ) (out : List ℕ) (left j : ℕ) : Type 0 where
+  pub upto : j ≤ length keys
   pub low : left ≤ j
-  pub kept : length keys ≡ length first
-  pub done : take left keys ≡ removeKey k (take j first)
-  pub rest : drop j keys ≡ drop j first
+  pub kept : length out ≡ size
+  pub done : take left out ≡ removeKey k (take j keys)
 
-pub removing-begin : (k m : ℕ) (keys : List ℕ) → Removing k m keys keys 0 0
+pub removing-begin : (k : ℕ) (keys out : List ℕ) → Removing k keys (length out) out 0 0
 unfolding removeKey keep
-removing-begin k m keys = record { upto = omega arith; low = omega arith; kept = refl; done = refl; rest = refl }
+removing-begin k keys out = record { upto = omega arith; low = omega arith; kept = refl; done = refl }
 
-module _ (k m : ℕ) (first keys : List ℕ) (left j : ℕ) (R : Removing k m first keys left j) (fits : m ≤ length first) (more : j < m) where
-  same-key : getD keys j 0 ≡ getD first j 0
-  same-key = ap first-of (sym (drop-cons keys j 0 (omega (arith, R .kept))) ∙ (R .rest ∙ drop-cons first j 0 (omega arith)))
-    where
-      first-of : List ℕ → ℕ
-      first-of [] = 0
-      first-of (x ∷ xs) = x
+module _ {k : ℕ} {keys : List ℕ} {size : ℕ} {out : List ℕ} {left j : ℕ} (R : Removing k keys size out left j) (fits : length keys ≤ size) where
+  module _ (more : j < length keys) where
+    pub removing-same : getD keys j 0 ≡ k → Removing k keys size out left (j + 1)
+    removing-same e = record {
+      upto = omega arith;
+      low = omega (arith, R .low);
+      kept = R .kept;
+      done = R .done ∙ rw (add-one j, take-suc keys j 0 more) (sym (remove-same k (take j keys) (getD keys j 0) e));
+    }
 
-  next-rest : drop (suc j) keys ≡ drop (suc j) first
-  next-rest =
-      let e : j + 1 ≡ suc j = add-one j in
-      rw (← e, ← drop-drop 1 j keys, ← drop-drop 1 j first, R .rest)
+    pub removing-other : ¬ (getD keys j 0 ≡ k) → Removing k keys size (set out left (getD keys j 0)) (left + 1) (j + 1)
+    removing-other f = record {
+      upto = omega arith;
+      low = omega (arith, R .low);
+      kept = simp length-set (R .kept);
+      done =
+          rw (add-one j, add-one left, take-suc-set out left (getD keys j 0) (omega (arith, R .low, R .kept)), R .done, take-suc keys j 0 more)
+          (sym (remove-other k (take j keys) (getD keys j 0) f));
+    }
 
-  pub removing-same : getD keys j 0 ≡ k → Removing k m first keys left (j + 1)
-  removing-same h = record {
-    upto = omega arith;
-    low = omega (arith, R .low);
-    kept = R .kept;
-    done = R .done ∙ rw (add-one j, take-suc first j 0 (omega arith)) (sym (remove-same k (take j first) (getD first j 0) (sym same-key ∙ h)));
-    rest = rw (add-one j) next-rest;
-  }
-
-  pub removing-other : ¬ (getD keys j 0 ≡ k) → Removing k m first (set keys left (getD keys j 0)) (left + 1) (j + 1)
-  removing-other f = record {
-    upto = omega arith;
-    low = omega (arith, R .low);
-    kept = simp length-set (R .kept);
-    done =
-        rw (add-one j, add-one left, take-suc-set keys left (getD keys j 0) (omega (arith, R .low, R .kept)), R .done, take-suc first j 0 (omega arith), same-key)
-        (sym (remove-other k (take j first) (getD first j 0) (λ e. f (same-key ∙ e))));
-    rest = rw (add-one j, drop-set-lt (suc j) keys left (getD keys j 0) (omega (arith, R .low))) next-rest;
-  }
-
-pub removing-end : (k m : ℕ) (first keys : List ℕ) (left j : ℕ) → Removing k m first keys left j → m ≤ length first → m ≤ j → (take left keys ≡ removeKey k (take m first)) × (left ≡ length (removeKey k (take m first)))
-removing-end k m first keys left j R fits h =
-    let e : j ≡ m = omega (arith, R .upto) in
-    let d : take left keys ≡ removeKey k (take m first) = rw e at (R .done) in
-    (d, sym (length-take-le left keys (omega (arith, R .low, R .kept))) ∙ ap length d)
+  pub removing-end : length keys ≤ j → (take left out ≡ removeKey k keys) × (left ≡ length (removeKey k keys))
+  removing-end h =
+      let d : take left out ≡ removeKey k keys = R .done ∙ ap (removeKey k) (take-all j keys h) in
+      (d, sym (length-take-le left out (omega (arith, R .low, R .upto, R .kept))) ∙ ap length d)
 
 -- edges are the same only if their keys are
 key-of-edge : (x y : ℕ) → edgeOf x ≡ edgeOf y → x ≡ y

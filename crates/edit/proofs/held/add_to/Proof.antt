@@ -1,11 +1,22 @@
 -- Refused by the rule's tests, or renumbered and entered, by the laws of Adding.antt.
+use mathlib.Core.Path.{_≡_, sym}
+use Prim.Native.Nat.{_-_, _≤_}
 use borrow.Author.Needs.{needs}
 use native.Mathlib.Omega.{arith}
+use lib.ListN.{length, take}
+use lib.Seq.{length-take-le}
 use Rattle.sheet.specs.Held.{refuses}
-use Rattle.sheet.proofs.Hand.{keys-lie}
-use Rattle.edit.proofs.Adding.{add-outside, add-full, can-rise, moved-sorted, added}
+use Rattle.sheet.proofs.Hand.{keys-count}
+use Rattle.edit.proofs.Adding.{add-outside, add-full, can-rise, added}
 use Rattle.edit.proofs.held.add_to.Statement.{statement}
 use Rattle.edit.proofs.held.add_to.Tie as tie
+
+-- the table of the renumbered keys
+moved-room : (c : tie.After-renumber) → c .before .before .before .before .before .before .args .h .n - 3 ≤ length (c .renumber .last .1 .1 .0)
+moved-room c = omega (arith, c .renumber .kept .1 .1 .0, c .before .before .before .before .before .before .pre .valid .most)
+
+moved-count : (c : tie.After-renumber) → length (take (c .before .before .before .before .before .before .args .h .n - 3) (c .renumber .last .1 .1 .0)) ≡ c .before .before .before .before .before .before .args .h .n - 3
+moved-count c = length-take-le _ (c .renumber .last .1 .1 .0) (moved-room c)
 
 returns : tie.Need-returns
 returns c = refuses (add-outside (c .before .before .pre) (c .before .before .args .side) (omega arith))
@@ -16,33 +27,48 @@ returns-2 c = refuses (add-full (c .before .before .before .pre) (c .before .bef
 sub-m : tie.Need-sub-m
 sub-m c = search needs
 
+slice-reshare-prefix-renumber : tie.Need-slice-reshare-prefix-renumber
+slice-reshare-prefix-renumber c = search needs
+
+slice-aggregate-renumber : tie.Need-slice-aggregate-renumber
+slice-aggregate-renumber c = sym (keys-count (c .before .before .before .before .pre))
+
+slice-aggregate-renumber-2 : tie.Need-slice-aggregate-renumber-2
+slice-aggregate-renumber-2 c = search needs
+
 renumber-requires : tie.Need-renumber-requires
-renumber-requires c κs = (keys-lie (c .before .before .before .before .pre), can-rise (c .before .before .before .before .pre) (c .before .before .before .before .args .side) (omega arith) (c .before .if2 .left))
+renumber-requires c κs =
+    let start = c .before .before .before .before .before in
+    (omega (arith, keys-count (start .pre), start .pre .valid .most), can-rise (start .pre) (start .args .side) (omega arith) (c .before .before .if2 .left))
 
 entering-key-requires : tie.Need-entering-key-requires
 entering-key-requires c κs = search needs
 
-insert-requires : tie.Need-insert-requires
-insert-requires c κs =
-    let at-renumber = c .before .before .before .before in
-    let at-if2 = at-renumber .before .before in
-    let start = at-if2 .before .before .before in
-    (omega (arith, at-renumber .renumber .kept .0, start .pre .room), moved-sorted (start .pre) (start .args .side) (omega arith) (at-if2 .if2 .left) (at-renumber .renumber .last .0) (at-renumber .renumber .ensures))
+slice-aggregate-merge : tie.Need-slice-aggregate-merge
+slice-aggregate-merge c = search needs
 
-add-t14 : tie.Need-add-t14
-add-t14 c = search needs
+array-share-prefix-moved : tie.Need-array-share-prefix-moved
+array-share-prefix-moved c = search needs
+
+slice-aggregate-merge-2 : tie.Need-slice-aggregate-merge-2
+slice-aggregate-merge-2 c = sym (moved-count (c .before .before .before .before))
+
+merge-requires : tie.Need-merge-requires
+merge-requires c κs = omega (arith, moved-count (c .before .before .before .before .before), c .before .before .before .before .before .before .before .before .before .before .before .pre .room, c .before .before .before .before .before .before .before .before .before .before .before .pre .valid .most)
+
+add-t22 : tie.Need-add-t22
+add-t22 c = search needs
 
 same-length : tie.Need-same-length
 same-length c = search needs
 
 returns-3 : tie.Need-returns-3
 returns-3 c =
-    let at-insert = c .before .before in
-    let at-renumber = at-insert .before .before .before .before .before in
-    let at-if2 = at-renumber .before .before in
-    let start = at-if2 .before .before .before in
-    added (start .pre) (start .args .side) (omega arith) (at-if2 .if2 .left) (at-renumber .renumber .last .0) (at-renumber .renumber .ensures)
-    (at-insert .before .entering-key .ensures) (at-insert .insert .last .0) (at-insert .insert .ensures) (omega (arith, at-insert .insert .kept .0, at-renumber .renumber .kept .0, start .pre .room))
+    let at-merge = c .before .before in
+    let at-renumber = c .before .before .before .before .before .before .before .before in
+    let start = c .before .before .before .before .before .before .before .before .before .before .before .before .before .before in
+    added (start .pre) (start .args .side) (omega arith) (c .before .before .before .before .before .before .before .before .before .before .before .if2 .left) (at-renumber .renumber .last .1 .1 .0) (at-renumber .renumber .ensures) (moved-room at-renumber)
+    (c .before .before .before .before .before .before .entering-key .ensures) (at-merge .merge .last .1 .1 .0) (at-merge .merge .ensures) (omega (arith, at-merge .merge .kept .1 .1 .0, start .pre .room))
 
 pub add-to-spec : {M : Type 1} → statement M
-add-to-spec = tie.close (tie.spec returns returns-2 sub-m renumber-requires entering-key-requires insert-requires add-t14 same-length returns-3)
+add-to-spec = tie.close (tie.spec returns returns-2 sub-m slice-reshare-prefix-renumber slice-aggregate-renumber slice-aggregate-renumber-2 renumber-requires entering-key-requires slice-aggregate-merge array-share-prefix-moved slice-aggregate-merge-2 merge-requires add-t22 same-length returns-3)

@@ -1,8 +1,9 @@
 -- Refused by the rule's tests, or taken out and renumbered, by the laws of Removing.antt.
-use mathlib.Core.Path.{sym}
+use mathlib.Core.Path.{_≡_, ap, sym, _∙_}
 use borrow.Author.Needs.{needs}
 use borrow.Author.Tests.{not-true, not-false}
 use native.Mathlib.Omega.{arith}
+use lib.ListN.{length, take}
 use Rattle.sheet.specs.Held.{polygonOf, refuses}
 use Rattle.sheet.proofs.Hand.{keys-count}
 use Rattle.edit.specs.Rules.{removeEar, neighbours}
@@ -19,13 +20,12 @@ start c = c .before .before .before .before .before .before
 takes : (c : tie.Else3) → Takes (removeEar (start c .args .corner)) (polygonOf (start c .args .h) (start c .args .keys .now))
 takes c = (omega arith, c .before .before .before .if2 .left, c .before .is-ear .ensures .0 (not-false _ (c .if3 .left)))
 
--- the table without the ear's diagonal
-ear : (c : tie.After-remove) → let s = start (c .before .before .before .before .before) in Without (s .args .h) (s .args .keys .now) (neighbours (s .args .h .n) (s .args .corner)) (c .remove .last .0)
-ear c =
-    let at-if3 = c .before .before .before .before .before in
-    let s = start at-if3 in
-    ear-out (s .pre) (s .args .corner) (takes at-if3) (c .before .before .before .before .low-neighbour .ensures .0) (c .before .before .before .high-neighbour .ensures .0) (c .before .key .ensures)
-    (c .remove .last .0) (c .remove .ensures .0) (c .remove .ensures .1) (omega (arith, c .remove .kept .0, s .pre .room))
+-- the keys without the one of the ear's diagonal
+ear : (c : tie.After-remove) → let s = start (c .before .before .before .before .before .before) in Without (s .args .h) (s .args .keys .now) (neighbours (s .args .h .n) (s .args .corner)) (take (c .remove .result) (c .remove .last .1 .1 .0))
+ear c = ear-out (start (c .before .before .before .before .before .before) .pre) (start (c .before .before .before .before .before .before) .args .corner) (takes (c .before .before .before .before .before .before)) (c .before .before .before .before .before .low-neighbour .ensures .0) (c .before .before .before .before .high-neighbour .ensures .0) (c .before .before .key .ensures) (c .remove .ensures .0)
+
+count : (c : tie.After-remove) → c .remove .result ≡ length (take (c .remove .result) (c .remove .last .1 .1 .0))
+count c = c .remove .ensures .1 ∙ ap length (sym (c .remove .ensures .0))
 
 returns : tie.Need-returns
 returns c = refuses (remove-outside (c .before .before .pre) (c .before .before .args .corner) (omega arith))
@@ -49,7 +49,9 @@ same-length : tie.Need-same-length
 same-length c = search needs
 
 returns-3 : tie.Need-returns-3
-returns-3 c = refuses (remove-no-ear (c .before .before .before .before .before .before .pre) (c .before .before .before .before .before .before .args .corner) (omega arith) (c .before .before .before .if2 .left) (c .before .is-ear .ensures .1 (not-true _ (c .if3 .taken))))
+returns-3 c =
+    let start = c .before .before .before .before .before .before in
+    refuses (remove-no-ear (start .pre) (start .args .corner) (omega arith) (c .before .before .before .if2 .left) (c .before .is-ear .ensures .1 (not-true _ (c .if3 .taken))))
 
 low-neighbour-requires : tie.Need-low-neighbour-requires
 low-neighbour-requires c κs = search needs
@@ -57,31 +59,42 @@ low-neighbour-requires c κs = search needs
 high-neighbour-requires : tie.Need-high-neighbour-requires
 high-neighbour-requires c κs = search needs
 
+slice-reshare-prefix-remove : tie.Need-slice-reshare-prefix-remove
+slice-reshare-prefix-remove c = search needs
+
+slice-aggregate-remove : tie.Need-slice-aggregate-remove
+slice-aggregate-remove c = sym (keys-count (c .before .before .before .before .before .before .before .before .before .pre))
+
 key-requires : tie.Need-key-requires
 key-requires c κs = search needs
 
-remove-requires : tie.Need-remove-requires
-remove-requires c κs = search needs
+slice-aggregate-remove-2 : tie.Need-slice-aggregate-remove-2
+slice-aggregate-remove-2 c = search needs
 
-sub-renumber : tie.Need-sub-renumber
-sub-renumber c = search needs
+remove-requires : tie.Need-remove-requires
+remove-requires c κs = omega (arith, keys-count (c .before .before .before .before .before .before .before .before .before .before .before .pre), c .before .before .before .before .before .before .before .before .before .before .before .pre .valid .most)
+
+array-share-prefix-rest : tie.Need-array-share-prefix-rest
+array-share-prefix-rest c = omega (arith, count (c .before), ear (c .before) .size, c .before .remove .kept .1 .1 .0, c .before .before .before .before .before .before .before .before .before .before .before .before .before .pre .valid .most)
+
+slice-aggregate-renumber : tie.Need-slice-aggregate-renumber
+slice-aggregate-renumber c = count (c .before .before)
 
 renumber-requires : tie.Need-renumber-requires
 renumber-requires c κs =
-    let at-if3 = c .before .before .before .before .before .before .before .before in
-    can-fall (start at-if3 .pre) (start at-if3 .args .corner) (takes at-if3) (ear (c .before .before .before))
+    let start = c .before .before .before .before .before .before .before .before .before .before .before .before .before .before .before in
+    (omega (arith, ear (c .before .before .before) .size, start .pre .room, start .pre .valid .most), can-fall (start .pre) (start .args .corner) (takes (c .before .before .before .before .before .before .before .before .before)) (ear (c .before .before .before)))
 
-sub-t12 : tie.Need-sub-t12
-sub-t12 c = search needs
+sub-t25 : tie.Need-sub-t25
+sub-t25 c = search needs
 
 same-length-2 : tie.Need-same-length-2
 same-length-2 c = search needs
 
 returns-4 : tie.Need-returns-4
 returns-4 c =
-    let at-if3 = c .before .before .before .before .before .before .before .before .before .before .before in
-    shrunk (start at-if3 .pre) (start at-if3 .args .corner) (takes at-if3) (ear (c .before .before .before .before .before .before)) (c .before .before .renumber .last .0) (c .before .before .renumber .ensures)
-    (omega (arith, c .before .before .renumber .kept .0, ear (c .before .before .before .before .before .before) .room))
+    let start = c .before .before .before .before .before .before .before .before .before .before .before .before .before .before .before .before .before .before in
+    shrunk (start .pre) (start .args .corner) (takes (c .before .before .before .before .before .before .before .before .before .before .before .before)) (ear (c .before .before .before .before .before .before)) (c .before .before .renumber .last .1 .1 .0) (c .before .before .renumber .ensures) (omega (arith, c .before .before .renumber .kept .1 .1 .0, start .pre .room))
 
 pub remove-from-spec : {M : Type 1} → statement M
-remove-from-spec = tie.close (tie.spec returns returns-2 sub-m slice-reshare-prefix-is-ear slice-aggregate-is-ear is-ear-requires same-length returns-3 low-neighbour-requires high-neighbour-requires key-requires remove-requires sub-renumber renumber-requires sub-t12 same-length-2 returns-4)
+remove-from-spec = tie.close (tie.spec returns returns-2 sub-m slice-reshare-prefix-is-ear slice-aggregate-is-ear is-ear-requires same-length returns-3 low-neighbour-requires high-neighbour-requires slice-reshare-prefix-remove slice-aggregate-remove key-requires slice-aggregate-remove-2 remove-requires array-share-prefix-rest slice-aggregate-renumber renumber-requires sub-t25 same-length-2 returns-4)

@@ -1,25 +1,28 @@
 -- Refused if the diagonal is not there, or turned, by the laws of Turning.antt.
-use mathlib.Core.Path.{sym}
+use mathlib.Core.Path.{_≡_, ap, sym, _∙_}
 use borrow.Author.Needs.{needs}
 use borrow.Author.Tests.{not-true, not-false}
 use native.Mathlib.Omega.{arith}
+use lib.ListN.{length, take}
 use Rattle.polygon.specs.Polygon.{_—_}
 use Rattle.sheet.specs.Held.{refuses}
 use Rattle.sheet.proofs.Hand.{keys-count, keys-small}
 use Rattle.edit.proofs.InHand.{Without}
-use Rattle.edit.proofs.Turning.{turn-lacks, turn-out, out-sorted, flipped-over}
+use Rattle.edit.proofs.Turning.{turn-lacks, turn-out, flipped-over}
 use Rattle.edit.proofs.held.turn.Statement.{statement}
 use Rattle.edit.proofs.held.turn.Tie as tie
 
 abbrev start : tie.After-remove → tie.Start
-start c = c .before .before .before .before .before .before .before .before .before
+start c = c .before .before .before .before .before .before .before .before .before .before
 
--- the table without the diagonal
-out : (c : tie.After-remove) → Without (start c .args .h) (start c .args .keys .now) (start c .args .a — start c .args .b) (c .remove .last .0)
+-- the keys without the diagonal's
+out : (c : tie.After-remove) → Without (start c .args .h) (start c .args .keys .now) (start c .args .a — start c .args .b) (take (c .remove .result) (c .remove .last .1 .1 .0))
 out c =
     let s = start c in
-    turn-out (s .pre .0) (s .args .a) (s .args .b) (s .pre .1 .0) (s .pre .1 .1) (c .before .before .before .before .before .before .before .key .ensures) (c .before .before .before .before .before .has .ensures .0 (not-false _ (c .before .before .before .before .if1 .left)))
-    (c .remove .last .0) (c .remove .ensures .0) (c .remove .ensures .1) (omega (arith, c .remove .kept .0, s .pre .0 .room))
+    turn-out (s .pre .0) (s .args .a) (s .args .b) (s .pre .1 .0) (s .pre .1 .1) (c .before .before .before .before .before .before .before .before .key .ensures) (c .before .before .before .before .before .before .has .ensures .0 (not-false _ (c .before .before .before .before .before .if1 .left))) (c .remove .ensures .0)
+
+count : (c : tie.After-remove) → c .remove .result ≡ length (take (c .remove .result) (c .remove .last .1 .1 .0))
+count c = c .remove .ensures .1 ∙ ap length (sym (c .remove .ensures .0))
 
 sub-m : tie.Need-sub-m
 sub-m c = search needs
@@ -55,25 +58,37 @@ turned-key-requires c κs =
     let start = c .before .before .before .before .before .before in
     (start .pre .0 .valid .least, start .pre .0 .valid .most, omega (arith, start .pre .1), start .pre .1 .1, keys-small (start .pre .0))
 
+slice-reshare-prefix-remove : tie.Need-slice-reshare-prefix-remove
+slice-reshare-prefix-remove c = search needs
+
+slice-aggregate-remove : tie.Need-slice-aggregate-remove
+slice-aggregate-remove c = sym (keys-count (c .before .before .before .before .before .before .before .before .pre .0))
+
+slice-aggregate-remove-2 : tie.Need-slice-aggregate-remove-2
+slice-aggregate-remove-2 c = search needs
+
 remove-requires : tie.Need-remove-requires
-remove-requires c κs = search needs
+remove-requires c κs = omega (arith, keys-count (c .before .before .before .before .before .before .before .before .before .pre .0), c .before .before .before .before .before .before .before .before .before .pre .0 .valid .most)
 
-sub-insert : tie.Need-sub-insert
-sub-insert c = omega (arith, out (c .before .before .before) .some)
+slice-aggregate-merge : tie.Need-slice-aggregate-merge
+slice-aggregate-merge c = search needs
 
-insert-requires : tie.Need-insert-requires
-insert-requires c κs =
-    let s = start (c .before .before .before) in
-    (omega (arith, out (c .before .before .before) .room, s .pre .0 .valid .most), out-sorted (s .pre .0) (s .args .a) (s .args .b) (out (c .before .before .before)))
+array-share-prefix-rest : tie.Need-array-share-prefix-rest
+array-share-prefix-rest c = omega (arith, count (c .before .before), out (c .before .before) .size, c .before .before .remove .kept .1 .1 .0, c .before .before .before .before .before .before .before .before .before .before .before .before .pre .0 .valid .most)
+
+slice-aggregate-merge-2 : tie.Need-slice-aggregate-merge-2
+slice-aggregate-merge-2 c = count (c .before .before .before)
+
+merge-requires : tie.Need-merge-requires
+merge-requires c κs = omega (arith, out (c .before .before .before .before) .size, c .before .before .before .before .before .before .before .before .before .before .before .before .before .before .pre .0 .room, c .before .before .before .before .before .before .before .before .before .before .before .before .before .before .pre .0 .valid .most)
 
 same-length-2 : tie.Need-same-length-2
 same-length-2 c = search needs
 
 returns-2 : tie.Need-returns-2
 returns-2 c =
-    let s = start (c .before .before .before .before .before .before) in
-    flipped-over (s .pre .0) (s .args .a) (s .args .b) (out (c .before .before .before .before .before .before)) (s .pre .1 .0) (s .pre .1 .1) (c .before .before .before .before .before .before .before .before .turned-key .ensures)
-    (c .before .before .insert .last .0) (c .before .before .insert .ensures) (omega (arith, c .before .before .insert .kept .0, out (c .before .before .before .before .before .before) .room))
+    let s = c .before .before .before .before .before .before .before .before .before .before .before .before .before .before .before .before .before in
+    flipped-over (s .pre .0) (s .args .a) (s .args .b) (s .pre .1 .0) (s .pre .1 .1) (out (c .before .before .before .before .before .before .before)) (c .before .before .before .before .before .before .before .before .before .before .turned-key .ensures) (c .before .before .merge .last .1 .1 .0) (c .before .before .merge .ensures) (omega (arith, c .before .before .merge .kept .1 .1 .0, s .pre .0 .room))
 
 pub turn-spec : {M : Type 1} → statement M
-turn-spec = tie.close (tie.spec sub-m key-requires slice-reshare-prefix-has slice-aggregate-has has-requires same-length returns slice-reshare-prefix-turned-key slice-aggregate-turned-key turned-key-requires remove-requires sub-insert insert-requires same-length-2 returns-2)
+turn-spec = tie.close (tie.spec sub-m key-requires slice-reshare-prefix-has slice-aggregate-has has-requires same-length returns slice-reshare-prefix-turned-key slice-aggregate-turned-key turned-key-requires slice-reshare-prefix-remove slice-aggregate-remove slice-aggregate-remove-2 remove-requires slice-aggregate-merge array-share-prefix-rest slice-aggregate-merge-2 merge-requires same-length-2 returns-2)
