@@ -56,10 +56,12 @@ put-digits-cast-out-2 : (t : ℕ) → put-digits-lts.Need-cast-out-2 (put-digits
 put-digits-cast-out-2 t c = omega arith
 
 put-digits-slice-write-out-2 : (t : ℕ) → put-digits-lts.Need-slice-write-out-2 (put-digits-Cs t) (put-digits-at t) put-digits.Post
-put-digits-slice-write-out-2 t c = omega (arith, length-step (c .before .before .before .before .before .before .args .n) (c .before .before .before .before .if1 .left) (omega arith), c .before .before .before .before .before .before .pre .1, c .before .before .put-digits .ensures .end, c .before .before .put-digits .kept .0)
+put-digits-slice-write-out-2 t c =
+    omega (arith, length-step (c .before .before .before .before .before .before .args .n) (c .before .before .before .before .if1 .left) (omega arith), c .before .before .before .before .before .before .pre .1, c .before .before .put-digits .ensures .end, c .before .before .put-digits .kept .0)
 
 put-digits-add-result-2 : (t : ℕ) → put-digits-lts.Need-add-result-2 (put-digits-Cs t) (put-digits-at t) put-digits.Post
-put-digits-add-result-2 t c = omega (arith, length-step (c .before .before .before .before .before .before .args .n) (c .before .before .before .before .if1 .left) (omega arith), c .before .before .before .before .before .before .pre .1, c .before .before .put-digits .ensures .end, c .before .before .put-digits .kept .0)
+put-digits-add-result-2 t c =
+    omega (arith, length-step (c .before .before .before .before .before .before .args .n) (c .before .before .before .before .if1 .left) (omega arith), c .before .before .before .before .before .before .pre .1, c .before .before .put-digits .ensures .end, c .before .before .put-digits .kept .0)
 
 put-digits-same-length-2 : (t : ℕ) → put-digits-lts.Need-same-length-2 (put-digits-Cs t) (put-digits-at t) put-digits.Post
 put-digits-same-length-2 t c = length-set (c .before .before .put-digits .last .0) (c .before .before .put-digits .result) _ ∙ c .before .before .put-digits .kept .0

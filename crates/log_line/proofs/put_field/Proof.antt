@@ -18,7 +18,9 @@ same-length c = search needs
 
 returns : tie.Need-returns
 unfolding decimal
-returns c = (put-then (c .before .before .before .before .before .before .put-word .ensures) (c .before .before .put-digits .ensures), omega (arith, c .before .before .put-digits .ensures .end, c .before .before .before .before .before .before .put-word .ensures .end, digits-length 20 (c .before .before .before .before .before .before .before .before .before .before .args .n)))
+returns c =
+    let at-put-word = c .before .before .before .before .before .before in
+    (put-then (at-put-word .put-word .ensures) (c .before .before .put-digits .ensures), omega (arith, c .before .before .put-digits .ensures .end, at-put-word .put-word .ensures .end, digits-length 20 (at-put-word .before .before .before .before .args .n)))
 
 pub put-field-spec : {M : Type 1} → statement M
 put-field-spec = tie.close (tie.spec put-word-requires put-digits-requires same-length returns)

@@ -1,10 +1,18 @@
 -- Word after word.
+use mathlib.Core.Path.{_≡_}
+use mathlib.Core.List.{List}
+use Prim.Native.Nat.{ℕ, _≤_}
 use borrow.Author.Needs.{needs}
 use native.Mathlib.Omega.{arith}
+use lib.ListN.{length}
 use Rattle.log_line.specs.Put.{factsOf}
 use Rattle.log_line.proofs.Putting.{put-then, line-put}
 use Rattle.log_line.proofs.put_line.Statement.{statement}
 use Rattle.log_line.proofs.put_line.Tie as tie
+
+-- the line so far ends at r, at most n, and the table is as long as at first
+abbrev Free : ℕ → ℕ → List ℕ → List ℕ → Type 0
+Free r n o o₀ = (r ≤ n) × (length o ≡ length o₀) × (256 ≤ length o₀)
 
 slice-aggregate-put-word : tie.Need-slice-aggregate-put-word
 slice-aggregate-put-word c = search needs
@@ -12,107 +20,77 @@ slice-aggregate-put-word c = search needs
 put-word-requires : tie.Need-put-word-requires
 put-word-requires c κs = search needs
 
+put-word-end : (c : tie.After-put-word) → Free (c .put-word .result) 5 (c .put-word .last .0) (c .before .before .before .before .args .out .now)
+put-word-end c = omega (arith, c .put-word .ensures .end, c .put-word .kept .0, c .before .before .before .before .pre)
+
 put-number-requires : tie.Need-put-number-requires
-put-number-requires c κs = omega (arith, c .before .before .before .put-word .ensures .end, c .before .before .before .put-word .kept .0, c .before .before .before .before .before .before .before .pre)
+put-number-requires c κs = omega (arith, put-word-end (c .before .before .before))
+
+put-number-end : (c : tie.After-put-number) → Free (c .put-number .result) 25 (c .put-number .last .0) (c .before .before .before .before .before .before .before .before .args .out .now)
+put-number-end c = omega (arith, c .put-number .ensures .1, c .put-number .kept .0, put-word-end (c .before .before .before .before))
 
 slice-aggregate-put-field : tie.Need-slice-aggregate-put-field
 slice-aggregate-put-field c = search needs
 
 put-field-requires : tie.Need-put-field-requires
-put-field-requires c κs = omega (arith, c .before .before .before .before .before .before .before .before .put-word .ensures .end, c .before .before .before .before .before .before .before .before .put-word .kept .0, c .before .before .before .before .put-number .ensures .1, c .before .before .before .before .put-number .kept .0, c .before .before .before .before .before .before .before .before .before .before .before .before .pre)
+put-field-requires c κs = omega (arith, put-number-end (c .before .before .before .before))
+
+put-field-end : (c : tie.After-put-field) → Free (c .put-field .result) 54 (c .put-field .last .0) (c .before .before .before .before .before .before .before .before .before .before .before .before .before .args .out .now)
+put-field-end c = omega (arith, c .put-field .ensures .1, c .put-field .kept .0, put-number-end (c .before .before .before .before .before))
 
 slice-aggregate-put-field-2 : tie.Need-slice-aggregate-put-field-2
 slice-aggregate-put-field-2 c = search needs
 
 put-field-requires-2 : tie.Need-put-field-requires-2
-put-field-requires-2 c κs =
-    let at-put-field = c .before .before .before .before in
-    let at-put-number = at-put-field .before .before .before .before .before in
-    let at-put-word = at-put-number .before .before .before .before in
-    let start = at-put-word .before .before .before .before in
-    omega (arith, at-put-word .put-word .ensures .end, at-put-word .put-word .kept .0, at-put-number .put-number .ensures .1, at-put-number .put-number .kept .0, at-put-field .put-field .ensures .1, at-put-field .put-field .kept .0, start .pre)
+put-field-requires-2 c κs = omega (arith, put-field-end (c .before .before .before .before))
+
+put-field2-end : (c : tie.After-put-field2) → Free (c .put-field2 .result) 82 (c .put-field2 .last .0) (c .before .before .before .before .before .before .before .before .before .before .before .before .before .before .before .before .before .before .args .out .now)
+put-field2-end c = omega (arith, c .put-field2 .ensures .1, c .put-field2 .kept .0, put-field-end (c .before .before .before .before .before))
 
 slice-aggregate-put-field-3 : tie.Need-slice-aggregate-put-field-3
 slice-aggregate-put-field-3 c = search needs
 
 put-field-requires-3 : tie.Need-put-field-requires-3
-put-field-requires-3 c κs =
-    let at-put-field2 = c .before .before .before .before in
-    let at-put-field = at-put-field2 .before .before .before .before .before in
-    let at-put-number = at-put-field .before .before .before .before .before in
-    let at-put-word = at-put-number .before .before .before .before in
-    let start = at-put-word .before .before .before .before in
-    omega (arith, at-put-word .put-word .ensures .end, at-put-word .put-word .kept .0, at-put-number .put-number .ensures .1, at-put-number .put-number .kept .0, at-put-field .put-field .ensures .1, at-put-field .put-field .kept .0, at-put-field2 .put-field2 .ensures .1, at-put-field2 .put-field2 .kept .0, start .pre)
+put-field-requires-3 c κs = omega (arith, put-field2-end (c .before .before .before .before))
+
+put-field3-end : (c : tie.After-put-field3) → Free (c .put-field3 .result) 113 (c .put-field3 .last .0) (c .before .before .before .before .before .before .before .before .before .before .before .before .before .before .before .before .before .before .before .before .before .before .before .args .out .now)
+put-field3-end c = omega (arith, c .put-field3 .ensures .1, c .put-field3 .kept .0, put-field2-end (c .before .before .before .before .before))
 
 slice-aggregate-put-field-4 : tie.Need-slice-aggregate-put-field-4
 slice-aggregate-put-field-4 c = search needs
 
 put-field-requires-4 : tie.Need-put-field-requires-4
-put-field-requires-4 c κs =
-    let at-put-field3 = c .before .before .before .before in
-    let at-put-field2 = at-put-field3 .before .before .before .before .before in
-    let at-put-field = at-put-field2 .before .before .before .before .before in
-    let at-put-number = at-put-field .before .before .before .before .before in
-    let at-put-word = at-put-number .before .before .before .before in
-    let start = at-put-word .before .before .before .before in
-    omega (arith, at-put-word .put-word .ensures .end, at-put-word .put-word .kept .0, at-put-number .put-number .ensures .1, at-put-number .put-number .kept .0, at-put-field .put-field .ensures .1, at-put-field .put-field .kept .0, at-put-field2 .put-field2 .ensures .1, at-put-field2 .put-field2 .kept .0, at-put-field3 .put-field3 .ensures .1, at-put-field3 .put-field3 .kept .0, start .pre)
+put-field-requires-4 c κs = omega (arith, put-field3-end (c .before .before .before .before))
+
+put-field4-end : (c : tie.After-put-field4) → Free (c .put-field4 .result) 140 (c .put-field4 .last .0) (c .before .before .before .before .before .before .before .before .before .before .before .before .before .before .before .before .before .before .before .before .before .before .before .before .before .before .before .before .args .out .now)
+put-field4-end c = omega (arith, c .put-field4 .ensures .1, c .put-field4 .kept .0, put-field3-end (c .before .before .before .before .before))
 
 slice-aggregate-put-field-5 : tie.Need-slice-aggregate-put-field-5
 slice-aggregate-put-field-5 c = search needs
 
 put-field-requires-5 : tie.Need-put-field-requires-5
-put-field-requires-5 c κs =
-    let at-put-field4 = c .before .before .before .before in
-    let at-put-field3 = at-put-field4 .before .before .before .before .before in
-    let at-put-field2 = at-put-field3 .before .before .before .before .before in
-    let at-put-field = at-put-field2 .before .before .before .before .before in
-    let at-put-number = at-put-field .before .before .before .before .before in
-    let at-put-word = at-put-number .before .before .before .before in
-    let start = at-put-word .before .before .before .before in
-    omega (arith, at-put-word .put-word .ensures .end, at-put-word .put-word .kept .0, at-put-number .put-number .ensures .1, at-put-number .put-number .kept .0, at-put-field .put-field .ensures .1, at-put-field .put-field .kept .0, at-put-field2 .put-field2 .ensures .1, at-put-field2 .put-field2 .kept .0, at-put-field3 .put-field3 .ensures .1, at-put-field3 .put-field3 .kept .0, at-put-field4 .put-field4 .ensures .1, at-put-field4 .put-field4 .kept .0, start .pre)
+put-field-requires-5 c κs = omega (arith, put-field4-end (c .before .before .before .before))
+
+put-field5-end : (c : tie.After-put-field5) → Free (c .put-field5 .result) 166 (c .put-field5 .last .0) (c .before .before .before .before .before .before .before .before .before .before .before .before .before .before .before .before .before .before .before .before .before .before .before .before .before .before .before .before .before .before .before .before .before .args .out .now)
+put-field5-end c = omega (arith, c .put-field5 .ensures .1, c .put-field5 .kept .0, put-field4-end (c .before .before .before .before .before))
 
 slice-aggregate-put-field-6 : tie.Need-slice-aggregate-put-field-6
 slice-aggregate-put-field-6 c = search needs
 
 put-field-requires-6 : tie.Need-put-field-requires-6
-put-field-requires-6 c κs =
-    let at-put-field5 = c .before .before .before .before in
-    let at-put-field4 = at-put-field5 .before .before .before .before .before in
-    let at-put-field3 = at-put-field4 .before .before .before .before .before in
-    let at-put-field2 = at-put-field3 .before .before .before .before .before in
-    let at-put-field = at-put-field2 .before .before .before .before .before in
-    let at-put-number = at-put-field .before .before .before .before .before in
-    let at-put-word = at-put-number .before .before .before .before in
-    let start = at-put-word .before .before .before .before in
-    omega (arith, at-put-word .put-word .ensures .end, at-put-word .put-word .kept .0, at-put-number .put-number .ensures .1, at-put-number .put-number .kept .0, at-put-field .put-field .ensures .1, at-put-field .put-field .kept .0, at-put-field2 .put-field2 .ensures .1, at-put-field2 .put-field2 .kept .0, at-put-field3 .put-field3 .ensures .1, at-put-field3 .put-field3 .kept .0, at-put-field4 .put-field4 .ensures .1, at-put-field4 .put-field4 .kept .0, at-put-field5 .put-field5 .ensures .1, at-put-field5 .put-field5 .kept .0, start .pre)
+put-field-requires-6 c κs = omega (arith, put-field5-end (c .before .before .before .before))
+
+put-field6-end : (c : tie.After-put-field6) → Free (c .put-field6 .result) 195 (c .put-field6 .last .0) (c .before .before .before .before .before .before .before .before .before .before .before .before .before .before .before .before .before .before .before .before .before .before .before .before .before .before .before .before .before .before .before .before .before .before .before .before .before .before .args .out .now)
+put-field6-end c = omega (arith, c .put-field6 .ensures .1, c .put-field6 .kept .0, put-field5-end (c .before .before .before .before .before))
 
 slice-aggregate-put-word-2 : tie.Need-slice-aggregate-put-word-2
 slice-aggregate-put-word-2 c = search needs
 
 put-word-requires-2 : tie.Need-put-word-requires-2
-put-word-requires-2 c κs =
-    let at-put-field6 = c .before .before .before .before in
-    let at-put-field5 = at-put-field6 .before .before .before .before .before in
-    let at-put-field4 = at-put-field5 .before .before .before .before .before in
-    let at-put-field3 = at-put-field4 .before .before .before .before .before in
-    let at-put-field2 = at-put-field3 .before .before .before .before .before in
-    let at-put-field = at-put-field2 .before .before .before .before .before in
-    let at-put-number = at-put-field .before .before .before .before .before in
-    let at-put-word = at-put-number .before .before .before .before in
-    let start = at-put-word .before .before .before .before in
-    omega (arith, at-put-word .put-word .ensures .end, at-put-word .put-word .kept .0, at-put-number .put-number .ensures .1, at-put-number .put-number .kept .0, at-put-field .put-field .ensures .1, at-put-field .put-field .kept .0, at-put-field2 .put-field2 .ensures .1, at-put-field2 .put-field2 .kept .0, at-put-field3 .put-field3 .ensures .1, at-put-field3 .put-field3 .kept .0, at-put-field4 .put-field4 .ensures .1, at-put-field4 .put-field4 .kept .0, at-put-field5 .put-field5 .ensures .1, at-put-field5 .put-field5 .kept .0, at-put-field6 .put-field6 .ensures .1, at-put-field6 .put-field6 .kept .0, start .pre)
+put-word-requires-2 c κs = omega (arith, put-field6-end (c .before .before .before .before))
 
 same-length : tie.Need-same-length
-same-length c =
-    let at-put-field6 = c .before .before .before .before .before .before .before in
-    let at-put-field5 = at-put-field6 .before .before .before .before .before in
-    let at-put-field4 = at-put-field5 .before .before .before .before .before in
-    let at-put-field3 = at-put-field4 .before .before .before .before .before in
-    let at-put-field2 = at-put-field3 .before .before .before .before .before in
-    let at-put-field = at-put-field2 .before .before .before .before .before in
-    let at-put-number = at-put-field .before .before .before .before .before in
-    let at-put-word = at-put-number .before .before .before .before in
-    omega (arith, c .before .before .put-word2 .kept .0, at-put-word .put-word .ensures .end, at-put-word .put-word .kept .0, at-put-number .put-number .ensures .1, at-put-number .put-number .kept .0, at-put-field .put-field .ensures .1, at-put-field .put-field .kept .0, at-put-field2 .put-field2 .ensures .1, at-put-field2 .put-field2 .kept .0, at-put-field3 .put-field3 .ensures .1, at-put-field3 .put-field3 .kept .0, at-put-field4 .put-field4 .ensures .1, at-put-field4 .put-field4 .kept .0, at-put-field5 .put-field5 .ensures .1, at-put-field5 .put-field5 .kept .0, at-put-field6 .put-field6 .ensures .1, at-put-field6 .put-field6 .kept .0)
+same-length c = omega (arith, c .before .before .put-word2 .kept .0, put-field6-end (c .before .before .before .before .before .before .before))
 
 returns : tie.Need-returns
 returns c =
@@ -126,7 +104,8 @@ returns c =
     let at-put-word = at-put-number .before .before .before .before in
     let start = at-put-word .before .before .before .before in
     line-put (factsOf (start .args .f))
-    (put-then (at-put-word .put-word .ensures) (put-then (at-put-number .put-number .ensures .0) (put-then (at-put-field .put-field .ensures .0) (put-then (at-put-field2 .put-field2 .ensures .0) (put-then (at-put-field3 .put-field3 .ensures .0) (put-then (at-put-field4 .put-field4 .ensures .0) (put-then (at-put-field5 .put-field5 .ensures .0) (put-then (at-put-field6 .put-field6 .ensures .0) (c .before .before .put-word2 .ensures)))))))))
+    (put-then (at-put-word .put-word .ensures) (put-then (at-put-number .put-number .ensures .0) (put-then (at-put-field .put-field .ensures .0) (put-then (at-put-field2 .put-field2 .ensures .0)
+    (put-then (at-put-field3 .put-field3 .ensures .0) (put-then (at-put-field4 .put-field4 .ensures .0) (put-then (at-put-field5 .put-field5 .ensures .0) (put-then (at-put-field6 .put-field6 .ensures .0) (c .before .before .put-word2 .ensures)))))))))
 
 pub put-line-spec : {M : Type 1} → statement M
 put-line-spec = tie.close (tie.spec slice-aggregate-put-word put-word-requires put-number-requires slice-aggregate-put-field put-field-requires slice-aggregate-put-field-2 put-field-requires-2 slice-aggregate-put-field-3 put-field-requires-3 slice-aggregate-put-field-4 put-field-requires-4 slice-aggregate-put-field-5 put-field-requires-5 slice-aggregate-put-field-6 put-field-requires-6 slice-aggregate-put-word-2 put-word-requires-2 same-length returns)

@@ -33,7 +33,9 @@ loop-less : tie.Need-loop-less Inv-loop μ-loop
 loop-less c = omega arith
 
 loop-again : tie.Need-loop-again Inv-loop μ-loop
-loop-again c = (omega arith, simp length-set (c .before .before .loop .inv .1), rw (c .before .before .loop .inv .2) (word-next (c .before .before .before .args .word .now) (c .before .before .before .args .out .now) (c .before .before .before .args .at) (c .before .before .loop .i) (c .before .loop-test .taken)))
+loop-again c =
+    let at-loop = c .before .before in
+    (omega arith, simp length-set (at-loop .loop .inv .1), rw (at-loop .loop .inv .2) (word-next (at-loop .before .args .word .now) (at-loop .before .args .out .now) (at-loop .before .args .at) (at-loop .loop .i) (c .before .loop-test .taken)))
 
 add-result : tie.Need-add-result Inv-loop μ-loop
 add-result c = omega arith

@@ -35,7 +35,9 @@ lies-requires : tie.Need-lies-requires Inv-loop μ-loop
 lies-requires c κs = omega (arith, c .before .before .before .before .before .pre .room)
 
 returns : tie.Need-returns Inv-loop μ-loop
-returns c = (λ h. absurd (false≢true h), λ h a. c .before .lies .ensures .1 (not-true _ (c .if1 .taken)) (rw (c .before .before .before .before .before .get16 .ensures .0, c .before .before .before .before .get162 .ensures .0) (below-at a (c .before .before .before .loop .x) (c .before .before .loop-test .taken))))
+returns c =
+    let at-loop = c .before .before .before in
+    (λ h. absurd (false≢true h), λ h a. c .before .lies .ensures .1 (not-true _ (c .if1 .taken)) (rw (at-loop .before .before .get16 .ensures .0, at-loop .before .get162 .ensures .0) (below-at a (at-loop .loop .x) (c .before .before .loop-test .taken))))
 
 add-x : tie.Need-add-x Inv-loop μ-loop
 add-x c = omega (arith, c .before .before .before .before .before .before .before .pre .room)

@@ -15,7 +15,9 @@ all-apart-requires : tie.Need-all-apart-requires
 all-apart-requires c κs = search needs
 
 returns-2 : tie.Need-returns-2
-returns-2 c = (λ h. ((rw (c .before .before .before .before .pre .count) at (c .before .before .all-lie .ensures .0 (not-false _ (c .before .if1 .left)))), (rw (c .before .before .before .before .pre .count) at (c .all-apart .ensures .0 h))), λ h R. (rw (c .before .before .before .before .pre .count) at (c .all-apart .ensures .1 h)) (R .1))
+returns-2 c =
+    let start = c .before .before .before .before in
+    (λ h. ((rw (start .pre .count) at (c .before .before .all-lie .ensures .0 (not-false _ (c .before .if1 .left)))), (rw (start .pre .count) at (c .all-apart .ensures .0 h))), λ h R. (rw (start .pre .count) at (c .all-apart .ensures .1 h)) (R .1))
 
 pub bars-keep-spec : {M : Type 1} → statement M
 bars-keep-spec = tie.close (tie.spec all-lie-requires returns all-apart-requires returns-2)

@@ -32,7 +32,8 @@ returns-3 c =
     let at-get162 = c .before .before .before in
     let at-get16 = at-get162 .before in
     let start = at-get16 .before .before in
-    (λ h. omega (arith, at-get16 .get16 .ensures, at-get162 .get162 .ensures, c .get163 .ensures, ltb-true (c .get163 .result) (start .args .rows) h), λ h L. omega (arith, L, at-get16 .get16 .ensures, at-get162 .get162 .ensures, c .get163 .ensures, ltb-false (c .get163 .result) (start .args .rows) h))
+    let rows = start .args .rows in
+    (λ h. omega (arith, at-get16 .get16 .ensures, at-get162 .get162 .ensures, c .get163 .ensures, ltb-true (c .get163 .result) rows h), λ h L. omega (arith, L, at-get16 .get16 .ensures, at-get162 .get162 .ensures, c .get163 .ensures, ltb-false (c .get163 .result) rows h))
 
 pub lies-spec : {M : Type 1} → statement M
 lies-spec = tie.close (tie.spec add-get16 get16-requires add-get16-2 get16-requires-2 returns returns-2 get16-requires-3 returns-3)

@@ -35,10 +35,14 @@ slice-relend-prefix-stroke-places : tie.Need-slice-relend-prefix-stroke-places
 slice-relend-prefix-stroke-places c = search needs
 
 slice-aggregate-stroke-places : tie.Need-slice-aggregate-stroke-places
-slice-aggregate-stroke-places c = sym (room-is (c .before .before .before .before .before .before .before .args .chart .now) (c .before .before .before .get16 .result) (c .before .before .before .get16 .ensures .0) (c .before .before .before .before .before .before .before .args .at .now) (c .before .before .before .before .before .before .before .pre) (c .before .before .if2 .left) (c .before .if3 .left))
+slice-aggregate-stroke-places c =
+    let start = c .before .before .before .before .before .before .before in
+    sym (room-is (start .args .chart .now) (c .before .before .before .get16 .result) (c .before .before .before .get16 .ensures .0) (start .args .at .now) (start .pre) (c .before .before .if2 .left) (c .before .if3 .left))
 
 stroke-places-requires : tie.Need-stroke-places-requires
-stroke-places-requires c κs = omega (arith, room-is (c .before .before .before .before .before .before .before .args .chart .now) (c .before .before .before .get16 .result) (c .before .before .before .get16 .ensures .0) (c .before .before .before .before .before .before .before .args .at .now) (c .before .before .before .before .before .before .before .pre) (c .before .before .if2 .left) (c .before .if3 .left))
+stroke-places-requires c κs =
+    let start = c .before .before .before .before .before .before .before in
+    omega (arith, room-is (start .args .chart .now) (c .before .before .before .get16 .result) (c .before .before .before .get16 .ensures .0) (start .args .at .now) (start .pre) (c .before .before .if2 .left) (c .before .if3 .left))
 
 same-length : tie.Need-same-length
 same-length c = search needs
@@ -63,7 +67,8 @@ returns-5 c =
     let at-get16 = at-if2 .before in
     let at-if1 = at-get16 .before in
     let start = at-if1 .before .before .before in
-    (λ h. absurd (omega arith), λ f. framed (start .args .chart .now) (at-get16 .get16 .result) (at-get16 .get16 .ensures .0) (start .args .at .now) (start .pre) (at-if2 .if2 .left) (at-if3 .if3 .left) (at-stroke-places .stroke-places .last .1 .1 .0) (at-if1 .if1 .left) (at-stroke-places .stroke-places .ensures .0 (not-false _ (c .if4 .left))) (at-stroke-places .stroke-places .kept .1 .1 .0))
+    (λ h. absurd (omega arith),
+    λ f. framed (start .args .chart .now) (at-get16 .get16 .result) (at-get16 .get16 .ensures .0) (start .args .at .now) (start .pre) (at-if2 .if2 .left) (at-if3 .if3 .left) (at-stroke-places .stroke-places .last .1 .1 .0) (at-if1 .if1 .left) (at-stroke-places .stroke-places .ensures .0 (not-false _ (c .if4 .left))) (at-stroke-places .stroke-places .kept .1 .1 .0))
 
 pub frame-spec : {M : Type 1} → statement M
 frame-spec = tie.close (tie.spec returns get16-requires returns-2 returns-3 mul-m sub-m mul-stroke-places add-stroke-places slice-relend-prefix-stroke-places slice-aggregate-stroke-places stroke-places-requires same-length returns-4 same-length-2 returns-5)

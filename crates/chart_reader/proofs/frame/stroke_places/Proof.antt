@@ -22,7 +22,9 @@ same-length : tie.Need-same-length Inv-loop μ-loop
 same-length c = c .before .before .loop .inv .size
 
 returns : tie.Need-returns Inv-loop μ-loop
-returns c = (λ h. absurd (false≢true h), λ h. past-end (c .before .before .before .args .chart .now) (c .before .before .before .args .from) (length (c .before .before .before .args .at .now)) (c .before .before .loop .at) (c .before .before .loop .i) (c .before .before .loop .p) (c .before .before .loop .inv) (omega (arith, c .before .before .loop .inv .size)) (c .if1 .taken))
+returns c =
+    let at-loop = c .before .before in
+    (λ h. absurd (false≢true h), λ h. past-end (at-loop .before .args .chart .now) (at-loop .before .args .from) (length (at-loop .before .args .at .now)) (at-loop .loop .at) (at-loop .loop .i) (at-loop .loop .p) (at-loop .loop .inv) (omega (arith, at-loop .loop .inv .size)) (c .if1 .taken))
 
 shared-slice-read-map : tie.Need-shared-slice-read-map Inv-loop μ-loop
 shared-slice-read-map c = omega (arith, c .before .before .before .loop .inv)
@@ -71,8 +73,15 @@ same-length-3 c = c .before .loop .inv .size
 
 returns-3 : tie.Need-returns-3 Inv-loop μ-loop
 returns-3 c =
-    let start = c .before .before in
-    (λ h. placed (start .args .chart .now) (start .args .from) (length (start .args .at .now)) (c .before .loop .at) (c .before .loop .i) (c .before .loop .p) (c .before .loop .inv) (omega (arith, c .before .loop .inv .size)) (eqb-true _ _ h), λ h. not-ending (start .args .chart .now) (start .args .from) (length (start .args .at .now)) (c .before .loop .at) (c .before .loop .i) (c .before .loop .p) (c .before .loop .inv) (omega (arith, c .before .loop .inv .size)) (eqb-false (c .before .loop .p) (length (start .args .chart .now)) h))
+    let at-loop = c .before in
+    let start = at-loop .before in
+    let chart = start .args .chart .now in
+    let at = start .args .at .now in
+    let from = start .args .from in
+    let p = at-loop .loop .p in
+    let i = at-loop .loop .i in
+    (λ h. placed chart from (length at) (at-loop .loop .at) i p (at-loop .loop .inv) (omega (arith, at-loop .loop .inv .size)) (eqb-true _ _ h),
+    λ h. not-ending chart from (length at) (at-loop .loop .at) i p (at-loop .loop .inv) (omega (arith, at-loop .loop .inv .size)) (eqb-false p (length chart) h))
 
 pub stroke-places-spec : {M : Type 1} → statement M
 stroke-places-spec = tie.close (tie.spec Inv-loop μ-loop loop-holds same-length returns shared-slice-read-map same-length-2 returns-2 mul-at slice-write-at cast-p mul-p add-p add-p-2 add-i loop-less loop-again same-length-3 returns-3)

@@ -51,7 +51,9 @@ loop-again : tie.Need-loop-again Inv-loop μ-loop
 loop-again c = (omega arith, below-more _ _ (c .before .before .before .before .loop .inv .1) (c .before .clear .ensures .0 (not-false _ (c .if1 .left))))
 
 returns-2 : tie.Need-returns-2 Inv-loop μ-loop
-returns-2 c = (λ h. strokes-all (c .before .before .before .before .before .args .chart .now) (c .before .before .before .before .before .args .n) (c .before .before .before .before .before .args .at .now) (c .before .before .before .before .before .pre .0) (λ k i. c .before .loop .inv .1 k (omega arith)), λ h. absurd (true≢false h))
+returns-2 c =
+    let start = c .before .before .before .before .before in
+    (λ h. strokes-all (start .args .chart .now) (start .args .n) (start .args .at .now) (start .pre .0) (λ k i. c .before .loop .inv .1 k (omega arith)), λ h. absurd (true≢false h))
 
 pub all-clear-spec : {M : Type 1} → statement M
 all-clear-spec = tie.close (tie.spec Inv-loop μ-loop loop-holds mul-clear shared-slice-read-clear clear-requires returns add-i loop-less loop-again returns-2)

@@ -22,7 +22,12 @@ returns-2 : tie.Need-returns-2
 returns-2 c =
     let at-if1 = c .before .before in
     let start = at-if1 .before .before .before .before in
-    (λ h. upright-clear (start .args .chart .now) (start .args .at) (start .pre .0 .bit) (at-if1 .if1 .left) (c .before .stroke-ends .result) (c .before .stroke-ends .ensures) (start .args .gaps .now) (start .args .g) (c .bar-between .ensures .1 (not-true _ h)), λ h. upright-met (start .args .chart .now) (start .args .at) (start .pre .0 .bit) (at-if1 .if1 .left) (c .before .stroke-ends .result) (c .before .stroke-ends .ensures) (start .args .gaps .now) (start .args .g) (c .bar-between .ensures .0 (not-false _ h)))
+    let chart = start .args .chart .now in
+    let gaps = start .args .gaps .now in
+    let at = start .args .at in
+    let g = start .args .g in
+    (λ h. upright-clear chart at (start .pre .0 .bit) (at-if1 .if1 .left) (c .before .stroke-ends .result) (c .before .stroke-ends .ensures) gaps g (c .bar-between .ensures .1 (not-true _ h)),
+    λ h. upright-met chart at (start .pre .0 .bit) (at-if1 .if1 .left) (c .before .stroke-ends .result) (c .before .stroke-ends .ensures) gaps g (c .bar-between .ensures .0 (not-false _ h)))
 
 pub clear-spec : {M : Type 1} → statement M
 clear-spec = tie.close (tie.spec shared-slice-read-if1 returns stroke-ends-requires bar-between-requires returns-2)

@@ -11,7 +11,9 @@ slice-aggregate-put-gaps : tie.Need-slice-aggregate-put-gaps
 slice-aggregate-put-gaps c = search needs
 
 put-gaps-requires : tie.Need-put-gaps-requires
-put-gaps-requires c κs = (c .before .before .before .pre .0, c .before .before .before .pre .2 .0, omega (arith, strokes-room (c .before .before .before .args .chart .now) (c .before .before .before .args .n) (c .before .before .before .args .at .now) (c .before .before .before .pre .0), c .before .before .before .pre .0 .count, c .before .before .before .pre .0 .formed .most))
+put-gaps-requires c κs =
+    let start = c .before .before .before in
+    (start .pre .0, start .pre .2 .0, omega (arith, strokes-room (start .args .chart .now) (start .args .n) (start .args .at .now) (start .pre .0), start .pre .0 .count, start .pre .0 .formed .most))
 
 slice-aggregate-all-clear : tie.Need-slice-aggregate-all-clear
 slice-aggregate-all-clear c = search needs
@@ -29,7 +31,9 @@ returns : tie.Need-returns
 returns c =
     let at-put-gaps = c .before .before .before in
     let start = at-put-gaps .before .before .before .before in
-    (λ h. clear-rule (chartIn (start .args .chart .now)) (gapped (chartIn (start .args .chart .now)) (start .pre .1) (start .pre .2)) (at-put-gaps .put-gaps .last .1 .1 .1 .0) (at-put-gaps .put-gaps .result) (at-put-gaps .put-gaps .ensures .0) (c .all-clear .ensures .0 h), λ h R. c .all-clear .ensures .1 h (rule-clear (chartIn (start .args .chart .now)) (gapped (chartIn (start .args .chart .now)) (start .pre .1) (start .pre .2)) (at-put-gaps .put-gaps .last .1 .1 .1 .0) (at-put-gaps .put-gaps .result) (at-put-gaps .put-gaps .ensures .0) R))
+    let chart = start .args .chart .now in
+    (λ h. clear-rule (chartIn chart) (gapped (chartIn chart) (start .pre .1) (start .pre .2)) (at-put-gaps .put-gaps .last .1 .1 .1 .0) (at-put-gaps .put-gaps .result) (at-put-gaps .put-gaps .ensures .0) (c .all-clear .ensures .0 h),
+    λ h R. c .all-clear .ensures .1 h (rule-clear (chartIn chart) (gapped (chartIn chart) (start .pre .1) (start .pre .2)) (at-put-gaps .put-gaps .last .1 .1 .1 .0) (at-put-gaps .put-gaps .result) (at-put-gaps .put-gaps .ensures .0) R))
 
 pub gaps-keep-spec : {M : Type 1} → statement M
 gaps-keep-spec = tie.close (tie.spec slice-aggregate-put-gaps put-gaps-requires slice-aggregate-all-clear all-clear-requires returns)

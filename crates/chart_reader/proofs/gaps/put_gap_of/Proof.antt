@@ -33,7 +33,9 @@ mul-put-gap : tie.Need-mul-put-gap
 mul-put-gap c = search needs
 
 put-gap-requires : tie.Need-put-gap-requires
-put-gap-requires c κs = (omega (arith, c .before .before .before .before .before .before .before .before .before .before .before .pre .2), c .before .before .before .before .before .before .stroke-ends .ensures .first-small .0, omega (arith, c .before .if2 .left), c .before .before .before .before .before .before .stroke-ends .ensures .last-small .1)
+put-gap-requires c κs =
+    let at-stroke-ends = c .before .before .before .before .before .before in
+    (omega (arith, at-stroke-ends .before .before .before .before .before .pre .2), at-stroke-ends .stroke-ends .ensures .first-small .0, omega (arith, c .before .if2 .left), at-stroke-ends .stroke-ends .ensures .last-small .1)
 
 add-result : tie.Need-add-result
 add-result c = search needs

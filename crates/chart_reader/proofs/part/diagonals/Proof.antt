@@ -54,7 +54,9 @@ same-length : tie.Need-same-length Inv-loop μ-loop
 same-length c = c .before .loop .inv .size
 
 returns : tie.Need-returns Inv-loop μ-loop
-returns c = (omega (arith, c .before .loop .inv .low, c .before .loop .inv .upto), chosen-all (c .before .before .before .before .args .n) (c .before .before .before .before .args .edges .now) (length (c .before .before .before .before .args .keys .now)) (c .before .loop .keys) (c .before .loop .m) (c .before .loop .i) (c .before .loop .inv) (c .loop-test .left))
+returns c =
+    let start = c .before .before .before .before in
+    (omega (arith, c .before .loop .inv .low, c .before .loop .inv .upto), chosen-all (start .args .n) (start .args .edges .now) (length (start .args .keys .now)) (c .before .loop .keys) (c .before .loop .m) (c .before .loop .i) (c .before .loop .inv) (c .loop-test .left))
 
 pub diagonals-spec : {M : Type 1} → statement M
 diagonals-spec = tie.close (tie.spec Inv-loop μ-loop loop-holds mul-k shared-slice-read-k is-diagonal-requires mul-keys slice-write-keys add-m add-i loop-less loop-again same-length returns)

@@ -28,7 +28,9 @@ returns-2 : tie.Need-returns-2
 returns-2 c = (λ h. absurd (false≢true h), λ h d. omega (arith, d, c .before .before .before .low .ensures, c .before .before .high .ensures))
 
 returns-3 : tie.Need-returns-3
-returns-3 c = (λ h. omega (arith, c .before .before .before .low .ensures, c .before .before .high .ensures, ltb-true (c .before .before .high .result) (c .before .before .before .before .args .n) h), λ h d. omega (arith, d, c .before .before .high .ensures, ltb-false (c .before .before .high .result) (c .before .before .before .before .args .n) h))
+returns-3 c =
+    let at-high = c .before .before in
+    (λ h. omega (arith, at-high .before .low .ensures, at-high .high .ensures, ltb-true (at-high .high .result) (at-high .before .before .args .n) h), λ h d. omega (arith, d, at-high .high .ensures, ltb-false (at-high .high .result) (at-high .before .before .args .n) h))
 
 pub is-diagonal-spec : {M : Type 1} → statement M
 is-diagonal-spec = tie.close (tie.spec low-requires high-requires add-if1 returns add-if2 add-if2-2 returns-2 returns-3)

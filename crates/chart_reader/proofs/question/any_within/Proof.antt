@@ -48,7 +48,9 @@ meets-requires : tie.Need-meets-requires Inv-loop μ-loop
 meets-requires c κs = omega arith
 
 returns-3 : tie.Need-returns-3 Inv-loop μ-loop
-returns-3 c = (λ h. (c .before .before .before .before .before .before .loop .x, c .before .before .before .before .before .loop-test .taken, rw (← c .before .before .before .before .get16 .ensures .0, ← c .before .before .before .get162 .ensures .0, ← c .before .before .get163 .ensures .0) (c .before .meets .ensures .0 (c .if3 .taken))), λ h. absurd (true≢false h))
+returns-3 c =
+    let at-get16 = c .before .before .before .before in
+    (λ h. (at-get16 .before .before .loop .x, at-get16 .before .loop-test .taken, rw (← at-get16 .get16 .ensures .0, ← c .before .before .before .get162 .ensures .0, ← c .before .before .get163 .ensures .0) (c .before .meets .ensures .0 (c .if3 .taken))), λ h. absurd (true≢false h))
 
 add-x : tie.Need-add-x Inv-loop μ-loop
 add-x c = omega arith
@@ -57,7 +59,8 @@ loop-less : tie.Need-loop-less Inv-loop μ-loop
 loop-less c = omega arith
 
 loop-again : tie.Need-loop-again Inv-loop μ-loop
-loop-again c = (omega arith, below-more _ _ (c .before .before .before .before .before .before .loop .inv .1) (rw (← c .before .before .before .before .get16 .ensures .0, ← c .before .before .before .get162 .ensures .0, ← c .before .before .get163 .ensures .0) (c .before .meets .ensures .1 (c .if3 .left))))
+loop-again c =
+    (omega arith, below-more _ _ (c .before .before .before .before .before .before .loop .inv .1) (rw (← c .before .before .before .before .get16 .ensures .0, ← c .before .before .before .get162 .ensures .0, ← c .before .before .get163 .ensures .0) (c .before .meets .ensures .1 (c .if3 .left))))
 
 returns-4 : tie.Need-returns-4 Inv-loop μ-loop
 returns-4 c = (λ h. absurd (false≢true h), λ h k i. c .before .loop .inv .1 k (omega arith))

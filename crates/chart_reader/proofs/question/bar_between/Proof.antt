@@ -11,7 +11,9 @@ any-within-requires : tie.Need-any-within-requires
 any-within-requires c κs = search needs
 
 returns : tie.Need-returns
-returns c = (λ h. some-of (c .before .between .ensures) (c .before .before .before .args .bars .now) (c .before .before .before .args .from) (c .before .before .before .args .m) (c .any-within .ensures .0 h), λ h. none-of (c .before .between .ensures) (c .before .before .before .args .bars .now) (c .before .before .before .args .from) (c .before .before .before .args .m) (c .any-within .ensures .1 h))
+returns c =
+    let start = c .before .before .before in
+    (λ h. some-of (c .before .between .ensures) (start .args .bars .now) (start .args .from) (start .args .m) (c .any-within .ensures .0 h), λ h. none-of (c .before .between .ensures) (start .args .bars .now) (start .args .from) (start .args .m) (c .any-within .ensures .1 h))
 
 pub bar-between-spec : {M : Type 1} → statement M
 bar-between-spec = tie.close (tie.spec between-requires any-within-requires returns)

@@ -37,10 +37,14 @@ returns-2 : tie.Need-returns-2
 returns-2 c = fills-same _ (row-fills (c .before .before .before .before .before .before .before .before .args .p, c .before .before .before .before .before .before .before .before .args .q) (c .before .before .before .before .before .if1 .taken)) (omega arith)
 
 returns-3 : tie.Need-returns-3
-returns-3 c = fills-same _ (column-fills (c .before .before .before .before .before .before .before .before .before .before .before .args .p, c .before .before .before .before .before .before .before .before .before .before .before .args .q) (c .before .before .before .before .before .if3 .taken)) (omega arith)
+returns-3 c =
+    let start = c .before .before .before .before .before .before .before .before .before .before .before in
+    fills-same _ (column-fills (start .args .p, start .args .q) (c .before .before .before .before .before .if3 .taken)) (omega arith)
 
 returns-4 : tie.Need-returns-4
-returns-4 c = fills-same _ (column-fills (c .before .before .before .before .before .before .before .before .before .before .before .args .p, c .before .before .before .before .before .before .before .before .before .before .before .args .q) (c .before .before .before .before .before .if3 .taken)) (omega arith)
+returns-4 c =
+    let start = c .before .before .before .before .before .before .before .before .before .before .before in
+    fills-same _ (column-fills (start .args .p, start .args .q) (c .before .before .before .before .before .if3 .taken)) (omega arith)
 
 returns-5 : tie.Need-returns-5
 returns-5 c = nowhere-fills (c .before .before .before .before .before .before .args .p, c .before .before .before .before .before .before .args .q) (c .before .before .before .if1 .left) (c .if3 .left)

@@ -48,7 +48,8 @@ loop-again : tie.Need-loop-again Inv-loop μ-loop
 loop-again c = (omega arith, below-more _ _ (c .before .before .before .before .loop .inv .1) (c .before .fits2 .ensures .0 (not-false _ (c .if1 .left))))
 
 returns-2 : tie.Need-returns-2 Inv-loop μ-loop
-returns-2 c = (λ h. strokes-all (c .before .before .before .before .args .chart .now) (c .before .before .before .before .args .n) (c .before .before .before .before .args .at .now) (c .before .before .before .before .pre .0) (λ k i. c .before .loop .inv .1 k (omega arith)), λ h. absurd (true≢false h))
+returns-2 c =
+    (λ h. strokes-all (c .before .before .before .before .args .chart .now) (c .before .before .before .before .args .n) (c .before .before .before .before .args .at .now) (c .before .before .before .before .pre .0) (λ k i. c .before .loop .inv .1 k (omega arith)), λ h. absurd (true≢false h))
 
 pub all-fit-spec : {M : Type 1} → statement M
 all-fit-spec = tie.close (tie.spec Inv-loop μ-loop loop-holds mul-fits shared-slice-read-fits fits-requires returns add-i loop-less loop-again returns-2)

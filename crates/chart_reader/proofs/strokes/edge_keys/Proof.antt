@@ -24,16 +24,24 @@ shared-slice-read-p : tie.Need-shared-slice-read-p Inv-loop μ-loop
 shared-slice-read-p c = omega arith
 
 add-get16 : tie.Need-add-get16 Inv-loop μ-loop
-add-get16 c = omega (arith, place-room (c .before .before .before .before .before .before .args .chart .now) (c .before .before .before .before .before .before .args .n) (c .before .before .before .before .before .before .args .at .now) (c .before .before .before .before .before .before .pre .0) (c .before .before .loop .i) (c .before .loop-test .taken))
+add-get16 c =
+    let start = c .before .before .before .before .before .before in
+    omega (arith, place-room (start .args .chart .now) (start .args .n) (start .args .at .now) (start .pre .0) (c .before .before .loop .i) (c .before .loop-test .taken))
 
 get16-requires : tie.Need-get16-requires Inv-loop μ-loop
-get16-requires c κs = omega (arith, place-room (c .before .before .before .before .before .before .args .chart .now) (c .before .before .before .before .before .before .args .n) (c .before .before .before .before .before .before .args .at .now) (c .before .before .before .before .before .before .pre .0) (c .before .before .loop .i) (c .before .loop-test .taken))
+get16-requires c κs =
+    let start = c .before .before .before .before .before .before in
+    omega (arith, place-room (start .args .chart .now) (start .args .n) (start .args .at .now) (start .pre .0) (c .before .before .loop .i) (c .before .loop-test .taken))
 
 add-get16-2 : tie.Need-add-get16-2 Inv-loop μ-loop
-add-get16-2 c = omega (arith, place-room (c .before .before .before .before .before .before .before .args .chart .now) (c .before .before .before .before .before .before .before .args .n) (c .before .before .before .before .before .before .before .args .at .now) (c .before .before .before .before .before .before .before .pre .0) (c .before .before .before .loop .i) (c .before .before .loop-test .taken))
+add-get16-2 c =
+    let start = c .before .before .before .before .before .before .before in
+    omega (arith, place-room (start .args .chart .now) (start .args .n) (start .args .at .now) (start .pre .0) (c .before .before .before .loop .i) (c .before .before .loop-test .taken))
 
 get16-requires-2 : tie.Need-get16-requires-2 Inv-loop μ-loop
-get16-requires-2 c κs = omega (arith, place-room (c .before .before .before .before .before .before .before .args .chart .now) (c .before .before .before .before .before .before .before .args .n) (c .before .before .before .before .before .before .before .args .at .now) (c .before .before .before .before .before .before .before .pre .0) (c .before .before .before .loop .i) (c .before .before .loop-test .taken))
+get16-requires-2 c κs =
+    let start = c .before .before .before .before .before .before .before in
+    omega (arith, place-room (start .args .chart .now) (start .args .n) (start .args .at .now) (start .pre .0) (c .before .before .before .loop .i) (c .before .before .loop-test .taken))
 
 same-length : tie.Need-same-length Inv-loop μ-loop
 same-length c = c .before .before .before .before .before .loop .inv .size
@@ -44,7 +52,8 @@ returns c =
     let at-loop-test = at-get16 .before .before in
     let at-loop = at-loop-test .before in
     let start = at-loop .before .before .before .before in
-    (λ h. absurd (false≢true h), λ h. not-named (start .args .chart .now) (start .args .n) (start .args .at .now) (length (start .args .keys .now)) (at-loop .loop .keys) (at-loop .loop .i) (at-loop .loop .inv) (start .pre .0) (at-loop-test .loop-test .taken) (at-get16 .get16 .result) (c .before .get162 .result) (at-get16 .get16 .ensures .0) (c .before .get162 .ensures .0) (λ q. omega arith))
+    (λ h. absurd (false≢true h),
+    λ h. not-named (start .args .chart .now) (start .args .n) (start .args .at .now) (length (start .args .keys .now)) (at-loop .loop .keys) (at-loop .loop .i) (at-loop .loop .inv) (start .pre .0) (at-loop-test .loop-test .taken) (at-get16 .get16 .result) (c .before .get162 .result) (at-get16 .get16 .ensures .0) (c .before .get162 .ensures .0) (λ q. omega arith))
 
 same-length-2 : tie.Need-same-length-2 Inv-loop μ-loop
 same-length-2 c = c .before .before .before .before .before .before .loop .inv .size
@@ -56,7 +65,8 @@ returns-2 c =
     let at-loop-test = at-get16 .before .before in
     let at-loop = at-loop-test .before in
     let start = at-loop .before .before .before .before in
-    (λ h. absurd (false≢true h), λ h. not-named (start .args .chart .now) (start .args .n) (start .args .at .now) (length (start .args .keys .now)) (at-loop .loop .keys) (at-loop .loop .i) (at-loop .loop .inv) (start .pre .0) (at-loop-test .loop-test .taken) (at-get16 .get16 .result) (at-get162 .get162 .result) (at-get16 .get16 .ensures .0) (at-get162 .get162 .ensures .0) (λ q. omega arith))
+    (λ h. absurd (false≢true h),
+    λ h. not-named (start .args .chart .now) (start .args .n) (start .args .at .now) (length (start .args .keys .now)) (at-loop .loop .keys) (at-loop .loop .i) (at-loop .loop .inv) (start .pre .0) (at-loop-test .loop-test .taken) (at-get16 .get16 .result) (at-get162 .get162 .result) (at-get16 .get16 .ensures .0) (at-get162 .get162 .ensures .0) (λ q. omega arith))
 
 key-requires : tie.Need-key-requires Inv-loop μ-loop
 key-requires c κs = omega (arith, c .before .before .before .before .before .before .before .before .before .before .pre .0 .count, c .before .before .before .before .before .before .before .before .before .before .pre .0 .formed .most)
@@ -89,8 +99,14 @@ same-length-3 c = c .before .loop .inv .size
 
 returns-3 : tie.Need-returns-3 Inv-loop μ-loop
 returns-3 c =
-    let start = c .before .before .before .before .before in
-    (λ h. (all-named (start .args .chart .now) (start .args .n) (start .args .at .now) (length (start .args .keys .now)) (c .before .loop .keys) (c .before .loop .i) (c .before .loop .inv) (start .pre .0) (c .loop-test .left), all-keyed (start .args .chart .now) (start .args .n) (start .args .at .now) (length (start .args .keys .now)) (c .before .loop .keys) (c .before .loop .i) (c .before .loop .inv) (start .pre .0) (c .loop-test .left) (start .pre .1)), λ h. absurd (true≢false h))
+    let at-loop = c .before in
+    let start = at-loop .before .before .before .before in
+    let at = start .args .at .now in
+    let chart = start .args .chart .now in
+    let keys = start .args .keys .now in
+    let n = start .args .n in
+    let i = at-loop .loop .i in
+    (λ h. (all-named chart n at (length keys) (at-loop .loop .keys) i (at-loop .loop .inv) (start .pre .0) (c .loop-test .left), all-keyed chart n at (length keys) (at-loop .loop .keys) i (at-loop .loop .inv) (start .pre .0) (c .loop-test .left) (start .pre .1)), λ h. absurd (true≢false h))
 
 pub edge-keys-spec : {M : Type 1} → statement M
 edge-keys-spec = tie.close (tie.spec Inv-loop μ-loop loop-holds mul-p shared-slice-read-p add-get16 get16-requires add-get16-2 get16-requires-2 same-length returns same-length-2 returns-2 key-requires mul-keys slice-write-keys add-i loop-less loop-again same-length-3 returns-3)

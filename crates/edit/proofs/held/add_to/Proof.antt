@@ -54,7 +54,8 @@ slice-aggregate-merge-2 : tie.Need-slice-aggregate-merge-2
 slice-aggregate-merge-2 c = sym (moved-count (c .before .before .before .before))
 
 merge-requires : tie.Need-merge-requires
-merge-requires c κs = omega (arith, moved-count (c .before .before .before .before .before), c .before .before .before .before .before .before .before .before .before .before .before .pre .room, c .before .before .before .before .before .before .before .before .before .before .before .pre .valid .most)
+merge-requires c κs =
+    omega (arith, moved-count (c .before .before .before .before .before), c .before .before .before .before .before .before .before .before .before .before .before .pre .room, c .before .before .before .before .before .before .before .before .before .before .before .pre .valid .most)
 
 add-t22 : tie.Need-add-t22
 add-t22 c = search needs

@@ -22,7 +22,10 @@ takes c = (omega arith, c .before .before .before .if2 .left, c .before .is-ear 
 
 -- the keys without the one of the ear's diagonal
 ear : (c : tie.After-remove) → let s = start (c .before .before .before .before .before .before) in Without (s .args .h) (s .args .keys .now) (neighbours (s .args .h .n) (s .args .corner)) (take (c .remove .result) (c .remove .last .1 .1 .0))
-ear c = ear-out (start (c .before .before .before .before .before .before) .pre) (start (c .before .before .before .before .before .before) .args .corner) (takes (c .before .before .before .before .before .before)) (c .before .before .before .before .before .low-neighbour .ensures .0) (c .before .before .before .before .high-neighbour .ensures .0) (c .before .before .key .ensures) (c .remove .ensures .0)
+ear c =
+    let at-key = c .before .before in
+    let at-low-neighbour = at-key .before .before .before in
+    ear-out (start (at-low-neighbour .before) .pre) (start (at-low-neighbour .before) .args .corner) (takes (at-low-neighbour .before)) (at-low-neighbour .low-neighbour .ensures .0) (at-key .before .before .high-neighbour .ensures .0) (at-key .key .ensures) (c .remove .ensures .0)
 
 count : (c : tie.After-remove) → c .remove .result ≡ length (take (c .remove .result) (c .remove .last .1 .1 .0))
 count c = c .remove .ensures .1 ∙ ap length (sym (c .remove .ensures .0))
@@ -93,8 +96,10 @@ same-length-2 c = search needs
 
 returns-4 : tie.Need-returns-4
 returns-4 c =
-    let start = c .before .before .before .before .before .before .before .before .before .before .before .before .before .before .before .before .before .before in
-    shrunk (start .pre) (start .args .corner) (takes (c .before .before .before .before .before .before .before .before .before .before .before .before)) (ear (c .before .before .before .before .before .before)) (c .before .before .renumber .last .1 .1 .0) (c .before .before .renumber .ensures) (omega (arith, c .before .before .renumber .kept .1 .1 .0, start .pre .room))
+    let at-renumber = c .before .before in
+    let start = at-renumber .before .before .before .before .before .before .before .before .before .before .before .before .before .before .before .before in
+    shrunk (start .pre) (start .args .corner) (takes (at-renumber .before .before .before .before .before .before .before .before .before .before)) (ear (at-renumber .before .before .before .before)) (at-renumber .renumber .last .1 .1 .0) (at-renumber .renumber .ensures)
+    (omega (arith, at-renumber .renumber .kept .1 .1 .0, start .pre .room))
 
 pub remove-from-spec : {M : Type 1} → statement M
 remove-from-spec = tie.close (tie.spec returns returns-2 sub-m slice-reshare-prefix-is-ear slice-aggregate-is-ear is-ear-requires same-length returns-3 low-neighbour-requires high-neighbour-requires slice-reshare-prefix-remove slice-aggregate-remove key-requires slice-aggregate-remove-2 remove-requires array-share-prefix-rest slice-aggregate-renumber renumber-requires sub-t25 same-length-2 returns-4)

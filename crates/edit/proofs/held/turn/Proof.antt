@@ -18,8 +18,9 @@ start c = c .before .before .before .before .before .before .before .before .bef
 -- the keys without the diagonal's
 out : (c : tie.After-remove) → Without (start c .args .h) (start c .args .keys .now) (start c .args .a — start c .args .b) (take (c .remove .result) (c .remove .last .1 .1 .0))
 out c =
+    let at-if1 = c .before .before .before .before .before in
     let s = start c in
-    turn-out (s .pre .0) (s .args .a) (s .args .b) (s .pre .1 .0) (s .pre .1 .1) (c .before .before .before .before .before .before .before .before .key .ensures) (c .before .before .before .before .before .before .has .ensures .0 (not-false _ (c .before .before .before .before .before .if1 .left))) (c .remove .ensures .0)
+    turn-out (s .pre .0) (s .args .a) (s .args .b) (s .pre .1 .0) (s .pre .1 .1) (at-if1 .before .before .before .key .ensures) (at-if1 .before .has .ensures .0 (not-false _ (at-if1 .if1 .left))) (c .remove .ensures .0)
 
 count : (c : tie.After-remove) → c .remove .result ≡ length (take (c .remove .result) (c .remove .last .1 .1 .0))
 count c = c .remove .ensures .1 ∙ ap length (sym (c .remove .ensures .0))
@@ -80,15 +81,20 @@ slice-aggregate-merge-2 : tie.Need-slice-aggregate-merge-2
 slice-aggregate-merge-2 c = count (c .before .before .before)
 
 merge-requires : tie.Need-merge-requires
-merge-requires c κs = omega (arith, out (c .before .before .before .before) .size, c .before .before .before .before .before .before .before .before .before .before .before .before .before .before .pre .0 .room, c .before .before .before .before .before .before .before .before .before .before .before .before .before .before .pre .0 .valid .most)
+merge-requires c κs =
+    let begun = c .before .before .before .before .before .before .before .before .before .before .before .before .before .before in
+    omega (arith, out (c .before .before .before .before) .size, begun .pre .0 .room, begun .pre .0 .valid .most)
 
 same-length-2 : tie.Need-same-length-2
 same-length-2 c = search needs
 
 returns-2 : tie.Need-returns-2
 returns-2 c =
-    let s = c .before .before .before .before .before .before .before .before .before .before .before .before .before .before .before .before .before in
-    flipped-over (s .pre .0) (s .args .a) (s .args .b) (s .pre .1 .0) (s .pre .1 .1) (out (c .before .before .before .before .before .before .before)) (c .before .before .before .before .before .before .before .before .before .before .turned-key .ensures) (c .before .before .merge .last .1 .1 .0) (c .before .before .merge .ensures) (omega (arith, c .before .before .merge .kept .1 .1 .0, s .pre .0 .room))
+    let at-merge = c .before .before in
+    let at-turned-key = at-merge .before .before .before .before .before .before .before .before in
+    let s = at-turned-key .before .before .before .before .before .before .before in
+    flipped-over (s .pre .0) (s .args .a) (s .args .b) (s .pre .1 .0) (s .pre .1 .1) (out (at-merge .before .before .before .before .before)) (at-turned-key .turned-key .ensures) (at-merge .merge .last .1 .1 .0) (at-merge .merge .ensures)
+    (omega (arith, at-merge .merge .kept .1 .1 .0, s .pre .0 .room))
 
 pub turn-spec : {M : Type 1} → statement M
 turn-spec = tie.close (tie.spec sub-m key-requires slice-reshare-prefix-has slice-aggregate-has has-requires same-length returns slice-reshare-prefix-turned-key slice-aggregate-turned-key turned-key-requires slice-reshare-prefix-remove slice-aggregate-remove slice-aggregate-remove-2 remove-requires slice-aggregate-merge array-share-prefix-rest slice-aggregate-merge-2 merge-requires same-length-2 returns-2)

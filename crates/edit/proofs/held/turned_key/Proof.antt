@@ -48,7 +48,9 @@ add-first-common : tie.Need-add-first-common
 add-first-common c = omega (arith, c .before .before .before .before .before .before .before .before .before .before .before .before .before .pre .1, c .before .before .before .first-common .ensures, c .before .before .if1 .left)
 
 first-common-requires-2 : tie.Need-first-common-requires-2
-first-common-requires-2 c κs = omega (arith, c .before .before .before .before .before .before .before .before .before .before .mark .kept .1 .1 .1 .0, c .before .before .before .before .before .before .before .mark2 .kept .1 .1 .1 .0, c .before .before .before .before .before .before .before .before .before .before .before .before .before .pre .1, c .before .before .before .first-common .ensures, c .before .before .if1 .left)
+first-common-requires-2 c κs =
+    let at-mark = c .before .before .before .before .before .before .before .before .before .before in
+    omega (arith, at-mark .mark .kept .1 .1 .1 .0, c .before .before .before .before .before .before .before .mark2 .kept .1 .1 .1 .0, at-mark .before .before .before .pre .1, c .before .before .before .first-common .ensures, c .before .before .if1 .left)
 
 returns-2 : tie.Need-returns-2
 returns-2 c =
@@ -62,7 +64,9 @@ returns-2 c =
     absurd (omega (arith, c .if2 .taken, second-found (start .args .n) (start .args .a) (start .args .b) (edgesOf (start .args .keys .now)) (at-mark .mark .last .1 .1 .1 .0) (at-mark2 .mark2 .last .1 .1 .1 .0) (at-mark .mark .ensures) (at-mark2 .mark2 .ensures) x y e _ C))
 
 key-requires : tie.Need-key-requires
-key-requires c κs = omega (arith, c .before .before .before .before .before .before .before .before .before .before .before .before .before .before .before .pre .1, c .before .before .before .before .before .first-common .ensures, c .before .first-common2 .ensures, c .before .before .before .before .if1 .left, c .if2 .left)
+key-requires c κs =
+    let start = c .before .before .before .before .before .before .before .before .before .before .before .before .before .before .before in
+    omega (arith, start .pre .1, c .before .before .before .before .before .first-common .ensures, c .before .first-common2 .ensures, c .before .before .before .before .if1 .left, c .if2 .left)
 
 returns-3 : tie.Need-returns-3
 returns-3 c =

@@ -33,7 +33,10 @@ loop-less : tie.Need-loop-less Inv-loop μ-loop
 loop-less c = omega arith
 
 loop-again : tie.Need-loop-again Inv-loop μ-loop
-loop-again c = (omega arith, omega arith, between-more (λ y. (getD (c .before .before .before .before .args .p .now) y 0 ≡ 1) × (getD (c .before .before .before .before .args .q .now) y 0 ≡ 1)) (c .before .before .before .before .args .from) (c .before .before .before .loop .x) (c .before .before .before .loop .inv .2) (⊎-elim (λ w. λ h. w .2 .left (h .1)) (λ w. λ h. w .left (h .0)) (c .if1 .came)))
+loop-again c =
+    let at-loop = c .before .before .before in
+    let start = at-loop .before in
+    (omega arith, omega arith, between-more (λ y. (getD (start .args .p .now) y 0 ≡ 1) × (getD (start .args .q .now) y 0 ≡ 1)) (start .args .from) (at-loop .loop .x) (at-loop .loop .inv .2) (⊎-elim (λ w. λ h. w .2 .left (h .1)) (λ w. λ h. w .left (h .0)) (c .if1 .came)))
 
 returns-2 : tie.Need-returns-2 Inv-loop μ-loop
 returns-2 c = record { low = omega arith; high = omega arith; here = λ h. absurd (omega arith); none = c .before .loop .inv .2 }

@@ -30,7 +30,9 @@ low-requires : tie.Need-low-requires Inv-loop μ-loop
 low-requires c κs = omega arith
 
 returns : tie.Need-returns Inv-loop μ-loop
-returns c = (λ h. absurd (false≢true h), λ h a. all-away (c .before .before .before .before .before .before .args .k) (c .before .before .before .before .before .before .args .keys .now) a (c .before .before .before .before .loop .j) (c .before .before .before .loop-test .taken) .0 (sym (c .before .low .ensures) ∙ c .if1 .taken))
+returns c =
+    let start = c .before .before .before .before .before .before in
+    (λ h. absurd (false≢true h), λ h a. all-away (start .args .k) (start .args .keys .now) a (c .before .before .before .before .loop .j) (c .before .before .before .loop-test .taken) .0 (sym (c .before .low .ensures) ∙ c .if1 .taken))
 
 mul-high : tie.Need-mul-high Inv-loop μ-loop
 mul-high c = omega arith
@@ -42,7 +44,9 @@ high-requires : tie.Need-high-requires Inv-loop μ-loop
 high-requires c κs = omega arith
 
 returns-2 : tie.Need-returns-2 Inv-loop μ-loop
-returns-2 c = (λ h. absurd (false≢true h), λ h a. all-away (c .before .before .before .before .before .before .before .before .before .args .k) (c .before .before .before .before .before .before .before .before .before .args .keys .now) a (c .before .before .before .before .before .before .before .loop .j) (c .before .before .before .before .before .before .loop-test .taken) .1 (sym (c .before .high .ensures .0) ∙ c .if2 .taken))
+returns-2 c =
+    let at-loop = c .before .before .before .before .before .before .before in
+    (λ h. absurd (false≢true h), λ h a. all-away (at-loop .before .before .args .k) (at-loop .before .before .args .keys .now) a (at-loop .loop .j) (c .before .before .before .before .before .before .loop-test .taken) .1 (sym (c .before .high .ensures .0) ∙ c .if2 .taken))
 
 add-j : tie.Need-add-j Inv-loop μ-loop
 add-j c = omega arith
