@@ -28,7 +28,8 @@ word-next word out at i h =
 
 -- the words and numbers of a line, grouped as the code writes them, are the line
 pub line-put : (f : Facts) {o₀ o₁ : List ℕ} {a b : ℕ}
-    → Put (partWord ++ (numberWord (f .number) ++ ((cornersWord ++ decimal (f .corners)) ++ ((levelsWord ++ decimal (f .levels)) ++ ((umbrellasWord ++ decimal (f .umbrellas)) ++ ((stemsWord ++ decimal (f .stems)) ++ ((rowsWord ++ decimal (f .rows)) ++ ((columnsWord ++ decimal (f .columns)) ++ (10 ∷ []))))))))) o₀ a o₁ b
+    → Put (partWord ++ (numberWord (f .number) ++ ((cornersWord ++ decimal (f .corners)) ++ ((levelsWord ++ decimal (f .levels))
+    ++ ((umbrellasWord ++ decimal (f .umbrellas)) ++ ((stemsWord ++ decimal (f .stems)) ++ ((rowsWord ++ decimal (f .rows)) ++ ((columnsWord ++ decimal (f .columns)) ++ (10 ∷ []))))))))) o₀ a o₁ b
     → Put (line f) o₀ a o₁ b
 unfolding line
 line-put f p = p

@@ -30,7 +30,8 @@ returns : tie.Need-returns Inv-loop μ-loop
 returns c = (λ h. absurd (false≢true h), λ h a. absurd (omega (arith, c .if1 .taken, c .before .get32 .ensures .0, below-at (count (c .before .before .before .before .before .args .list .now)) a (c .before .before .before .loop .i) (c .before .before .loop-test .taken))))
 
 returns-2 : tie.Need-returns-2 Inv-loop μ-loop
-returns-2 c = (λ h. absurd (false≢true h), λ h a. absurd (omega (arith, c .if2 .taken, c .before .before .get32 .ensures .0, below-at (count (c .before .before .before .before .before .before .args .list .now)) a (c .before .before .before .before .loop .i) (c .before .before .before .loop-test .taken))))
+returns-2 c =
+    (λ h. absurd (false≢true h), λ h a. absurd (omega (arith, c .if2 .taken, c .before .before .get32 .ensures .0, below-at (count (c .before .before .before .before .before .before .args .list .now)) a (c .before .before .before .before .loop .i) (c .before .before .before .loop-test .taken))))
 
 add-i : tie.Need-add-i Inv-loop μ-loop
 add-i c = omega arith

@@ -14,20 +14,27 @@ abbrev μ-loop : tie.MeasureT-loop
 μ-loop first list front₀ back₀ numbers₀ m place₀ size₀ i₀ front back numbers place size i = count list - i
 
 loop-holds : tie.Need-loop-holds Inv-loop μ-loop
-loop-holds c = running-begin (c .before .before .before .before .before .args .first .now) (c .before .before .before .before .before .args .list .now) (c .before .before .before .before .before .args .front .now) (c .before .before .before .before .before .args .back .now) (c .before .before .before .before .before .args .numbers .now)
+loop-holds c =
+    let start = c .before .before .before .before .before in
+    running-begin (start .args .first .now) (start .args .list .now) (start .args .front .now) (start .args .back .now) (start .args .numbers .now)
 
 step-requires : tie.Need-step-requires Inv-loop μ-loop
 step-requires c κs =
     let at-loop-test = c .before .before in
     let at-loop = at-loop-test .before in
     let start = at-loop .before .before .before .before .before .before in
-    (at-loop-test .loop-test .taken, (at-loop .loop .inv .sound .lies, edit-spacious (start .args .first .now) (start .args .list .now) (start .args .front .now) (start .args .back .now) (start .args .numbers .now) (start .pre .0) (deskOf (at-loop .loop .place) (at-loop .loop .size) (at-loop .loop .front) (at-loop .loop .back)) (at-loop .loop .numbers) (at-loop .loop .i) (at-loop .loop .inv) (at-loop-test .loop-test .taken)))
+    let a = start .args in
+    let l = at-loop .loop in
+    let more = at-loop-test .loop-test .taken in
+    (more, (l .inv .sound .lies, edit-spacious (a .first .now) (a .list .now) (a .front .now) (a .back .now) (a .numbers .now) (start .pre .0) (deskOf (l .place) (l .size) (l .front) (l .back)) (l .numbers) (l .i) (l .inv) more))
 
 mul-put16 : tie.Need-mul-put16 Inv-loop μ-loop
 mul-put16 c = omega arith
 
 put16-requires : tie.Need-put16-requires Inv-loop μ-loop
-put16-requires c κs = (omega (arith, c .before .before .before .before .before .before .before .before .before .loop .inv .outs-length, c .before .before .before .before .before .before .before .before .before .before .before .before .before .before .before .pre .1, c .before .before .before .before .before .before .before .before .loop-test .taken), omega (arith, c .before .before .before .before .before .step .ensures .number-fits))
+put16-requires c κs =
+    let at-loop-test = c .before .before .before .before .before .before .before .before in
+    (omega (arith, at-loop-test .before .loop .inv .outs-length, at-loop-test .before .before .before .before .before .before .before .pre .1, at-loop-test .loop-test .taken), omega (arith, c .before .before .before .before .before .step .ensures .number-fits))
 
 add-i : tie.Need-add-i Inv-loop μ-loop
 add-i c = omega arith
@@ -59,8 +66,19 @@ same-length-3 c = c .before .loop .inv .outs-length
 
 returns : tie.Need-returns Inv-loop μ-loop
 returns c =
-    let start = c .before .before .before .before .before .before .before in
-    (running-desk (start .args .first .now) (start .args .list .now) (start .args .front .now) (start .args .back .now) (start .args .numbers .now) (c .before .loop .place) (c .before .loop .size) (c .before .loop .front) (c .before .loop .back) (c .before .loop .numbers) (c .before .loop .i) (c .before .loop .inv) (c .loop-test .left), running-outs (start .args .first .now) (start .args .list .now) (start .args .front .now) (start .args .back .now) (start .args .numbers .now) (c .before .loop .place) (c .before .loop .size) (c .before .loop .front) (c .before .loop .back) (c .before .loop .numbers) (c .before .loop .i) (c .before .loop .inv) (c .loop-test .left) (start .pre .1))
+    let at-loop = c .before in
+    let start = at-loop .before .before .before .before .before .before in
+    let back = start .args .back .now in
+    let first = start .args .first .now in
+    let front = start .args .front .now in
+    let list = start .args .list .now in
+    let numbers = start .args .numbers .now in
+    let i = at-loop .loop .i in
+    let place = at-loop .loop .place in
+    let size = at-loop .loop .size in (
+      running-desk first list front back numbers place size (at-loop .loop .front) (at-loop .loop .back) (at-loop .loop .numbers) i (at-loop .loop .inv) (c .loop-test .left),
+      running-outs first list front back numbers place size (at-loop .loop .front) (at-loop .loop .back) (at-loop .loop .numbers) i (at-loop .loop .inv) (c .loop-test .left) (start .pre .1),
+    )
 
 pub run-all-spec : {M : Type 1} → statement M
 run-all-spec = tie.close (tie.spec Inv-loop μ-loop loop-holds step-requires mul-put16 put16-requires add-i loop-less loop-again same-length same-length-2 same-length-3 returns)

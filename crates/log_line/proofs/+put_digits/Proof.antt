@@ -71,7 +71,12 @@ put-digits-returns-2 t c =
     let at-put-digits = c .before .before in
     let at-if1 = at-put-digits .before .before in
     let start = at-if1 .before .before in
-    record { bytes = rw (at-put-digits .put-digits .ensures .bytes, at-put-digits .put-digits .ensures .end, digits-step (start .args .n) (at-if1 .if1 .left) (omega arith), sets-append (digits 20 ((start .args .n) / 10)) ((48 + (start .args .n) % 10) ∷ []) (start .args .out .now) (start .args .at)); end = omega (arith, length-step (start .args .n) (at-if1 .if1 .left) (omega arith), at-put-digits .put-digits .ensures .end) }
+    let n = start .args .n in
+    let d = at-put-digits .put-digits .ensures in
+    record {
+      bytes = rw (d .bytes, d .end, digits-step n (at-if1 .if1 .left) (omega arith), sets-append (digits 20 (n / 10)) ((48 + n % 10) ∷ []) (start .args .out .now) (start .args .at));
+      end = omega (arith, length-step n (at-if1 .if1 .left) (omega arith), d .end);
+    }
 
 pub +put-digits-spec : {M : Type 1} → statement M
 +put-digits-spec = close μ-put-digits λ t. put-digits-lts.spec (put-digits-Cs t) (put-digits-at t) put-digits.Post (put-digits-add-out t) (put-digits-cast-out t) (put-digits-slice-write-out t) (put-digits-add-result t) (put-digits-same-length t) (put-digits-returns t) (put-digits-put-digits-requires t) (put-digits-add-out-2 t) (put-digits-cast-out-2 t) (put-digits-slice-write-out-2 t) (put-digits-add-result-2 t) (put-digits-same-length-2 t) (put-digits-returns-2 t)

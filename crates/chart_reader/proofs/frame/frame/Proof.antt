@@ -66,9 +66,10 @@ returns-5 c =
     let at-if2 = at-if3 .before in
     let at-get16 = at-if2 .before in
     let at-if1 = at-get16 .before in
-    let start = at-if1 .before .before .before in
-    (λ h. absurd (omega arith),
-    λ f. framed (start .args .chart .now) (at-get16 .get16 .result) (at-get16 .get16 .ensures .0) (start .args .at .now) (start .pre) (at-if2 .if2 .left) (at-if3 .if3 .left) (at-stroke-places .stroke-places .last .1 .1 .0) (at-if1 .if1 .left) (at-stroke-places .stroke-places .ensures .0 (not-false _ (c .if4 .left))) (at-stroke-places .stroke-places .kept .1 .1 .0))
+    let start = at-if1 .before .before .before in (
+      λ h. absurd (omega arith),
+      λ f. framed (start .args .chart .now) (at-get16 .get16 .result) (at-get16 .get16 .ensures .0) (start .args .at .now) (start .pre) (at-if2 .if2 .left) (at-if3 .if3 .left) (at-stroke-places .stroke-places .last .1 .1 .0) (at-if1 .if1 .left) (at-stroke-places .stroke-places .ensures .0 (not-false _ (c .if4 .left))) (at-stroke-places .stroke-places .kept .1 .1 .0),
+    )
 
 pub frame-spec : {M : Type 1} → statement M
 frame-spec = tie.close (tie.spec returns get16-requires returns-2 returns-3 mul-m sub-m mul-stroke-places add-stroke-places slice-relend-prefix-stroke-places slice-aggregate-stroke-places stroke-places-requires same-length returns-4 same-length-2 returns-5)

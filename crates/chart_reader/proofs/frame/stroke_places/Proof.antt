@@ -79,9 +79,10 @@ returns-3 c =
     let at = start .args .at .now in
     let from = start .args .from in
     let p = at-loop .loop .p in
-    let i = at-loop .loop .i in
-    (λ h. placed chart from (length at) (at-loop .loop .at) i p (at-loop .loop .inv) (omega (arith, at-loop .loop .inv .size)) (eqb-true _ _ h),
-    λ h. not-ending chart from (length at) (at-loop .loop .at) i p (at-loop .loop .inv) (omega (arith, at-loop .loop .inv .size)) (eqb-false p (length chart) h))
+    let i = at-loop .loop .i in (
+      λ h. placed chart from (length at) (at-loop .loop .at) i p (at-loop .loop .inv) (omega (arith, at-loop .loop .inv .size)) (eqb-true _ _ h),
+      λ h. not-ending chart from (length at) (at-loop .loop .at) i p (at-loop .loop .inv) (omega (arith, at-loop .loop .inv .size)) (eqb-false p (length chart) h),
+    )
 
 pub stroke-places-spec : {M : Type 1} → statement M
 stroke-places-spec = tie.close (tie.spec Inv-loop μ-loop loop-holds same-length returns shared-slice-read-map same-length-2 returns-2 mul-at slice-write-at cast-p mul-p add-p add-p-2 add-i loop-less loop-again same-length-3 returns-3)

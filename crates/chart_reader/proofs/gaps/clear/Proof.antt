@@ -25,9 +25,10 @@ returns-2 c =
     let chart = start .args .chart .now in
     let gaps = start .args .gaps .now in
     let at = start .args .at in
-    let g = start .args .g in
-    (λ h. upright-clear chart at (start .pre .0 .bit) (at-if1 .if1 .left) (c .before .stroke-ends .result) (c .before .stroke-ends .ensures) gaps g (c .bar-between .ensures .1 (not-true _ h)),
-    λ h. upright-met chart at (start .pre .0 .bit) (at-if1 .if1 .left) (c .before .stroke-ends .result) (c .before .stroke-ends .ensures) gaps g (c .bar-between .ensures .0 (not-false _ h)))
+    let g = start .args .g in (
+      λ h. upright-clear chart at (start .pre .0 .bit) (at-if1 .if1 .left) (c .before .stroke-ends .result) (c .before .stroke-ends .ensures) gaps g (c .bar-between .ensures .1 (not-true _ h)),
+      λ h. upright-met chart at (start .pre .0 .bit) (at-if1 .if1 .left) (c .before .stroke-ends .result) (c .before .stroke-ends .ensures) gaps g (c .bar-between .ensures .0 (not-false _ h)),
+    )
 
 pub clear-spec : {M : Type 1} → statement M
 clear-spec = tie.close (tie.spec shared-slice-read-if1 returns stroke-ends-requires bar-between-requires returns-2)

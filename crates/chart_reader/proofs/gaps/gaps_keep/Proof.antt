@@ -31,9 +31,10 @@ returns : tie.Need-returns
 returns c =
     let at-put-gaps = c .before .before .before in
     let start = at-put-gaps .before .before .before .before in
-    let chart = start .args .chart .now in
-    (λ h. clear-rule (chartIn chart) (gapped (chartIn chart) (start .pre .1) (start .pre .2)) (at-put-gaps .put-gaps .last .1 .1 .1 .0) (at-put-gaps .put-gaps .result) (at-put-gaps .put-gaps .ensures .0) (c .all-clear .ensures .0 h),
-    λ h R. c .all-clear .ensures .1 h (rule-clear (chartIn chart) (gapped (chartIn chart) (start .pre .1) (start .pre .2)) (at-put-gaps .put-gaps .last .1 .1 .1 .0) (at-put-gaps .put-gaps .result) (at-put-gaps .put-gaps .ensures .0) R))
+    let chart = start .args .chart .now in (
+      λ h. clear-rule (chartIn chart) (gapped (chartIn chart) (start .pre .1) (start .pre .2)) (at-put-gaps .put-gaps .last .1 .1 .1 .0) (at-put-gaps .put-gaps .result) (at-put-gaps .put-gaps .ensures .0) (c .all-clear .ensures .0 h),
+      λ h R. c .all-clear .ensures .1 h (rule-clear (chartIn chart) (gapped (chartIn chart) (start .pre .1) (start .pre .2)) (at-put-gaps .put-gaps .last .1 .1 .1 .0) (at-put-gaps .put-gaps .result) (at-put-gaps .put-gaps .ensures .0) R),
+    )
 
 pub gaps-keep-spec : {M : Type 1} → statement M
 gaps-keep-spec = tie.close (tie.spec slice-aggregate-put-gaps put-gaps-requires slice-aggregate-all-clear all-clear-requires returns)

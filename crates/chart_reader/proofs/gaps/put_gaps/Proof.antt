@@ -53,9 +53,10 @@ same-length c = c .before .loop .inv .size
 returns : tie.Need-returns Inv-loop μ-loop
 returns c =
     let at-loop = c .before in
-    let start = at-loop .before .before .before .before in
-    (gapped-all (start .args .chart .now) (start .args .at .now) (start .args .gaps .now) (at-loop .loop .gaps) (at-loop .loop .g) (at-loop .loop .i) (at-loop .loop .inv) (start .args .n) (start .pre .0) (c .loop-test .left) (start .pre .2),
-    omega (arith, at-loop .loop .inv .low, at-loop .loop .inv .upto))
+    let start = at-loop .before .before .before .before in (
+      gapped-all (start .args .chart .now) (start .args .at .now) (start .args .gaps .now) (at-loop .loop .gaps) (at-loop .loop .g) (at-loop .loop .i) (at-loop .loop .inv) (start .args .n) (start .pre .0) (c .loop-test .left) (start .pre .2),
+      omega (arith, at-loop .loop .inv .low, at-loop .loop .inv .upto),
+    )
 
 pub put-gaps-spec : {M : Type 1} → statement M
 put-gaps-spec = tie.close (tie.spec Inv-loop μ-loop loop-holds mul-put-gap-of shared-slice-read-put-gap-of put-gap-of-requires add-i loop-less loop-again same-length returns)

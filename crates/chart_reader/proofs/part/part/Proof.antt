@@ -22,9 +22,10 @@ same-length c = search needs
 returns : tie.Need-returns
 returns c =
     let at-diagonals = c .before .before .before in
-    let start = at-diagonals .before .before .before .before in
-    (λ h. absurd (false≢true h),
-    λ h. wrong-count (start .args .n) (edgesOf (start .args .edges .now)) (start .pre .0) (at-diagonals .diagonals .last .1 .1 .0) (at-diagonals .diagonals .result) (omega (arith, at-diagonals .diagonals .ensures .0, at-diagonals .diagonals .kept .1 .1 .0, start .pre .2)) (at-diagonals .diagonals .ensures .1) (c .if1 .taken))
+    let start = at-diagonals .before .before .before .before in (
+      λ h. absurd (false≢true h),
+      λ h. wrong-count (start .args .n) (edgesOf (start .args .edges .now)) (start .pre .0) (at-diagonals .diagonals .last .1 .1 .0) (at-diagonals .diagonals .result) (omega (arith, at-diagonals .diagonals .ensures .0, at-diagonals .diagonals .kept .1 .1 .0, start .pre .2)) (at-diagonals .diagonals .ensures .1) (c .if1 .taken),
+    )
 
 slice-reshare-prefix-crosses : tie.Need-slice-reshare-prefix-crosses
 slice-reshare-prefix-crosses c = omega (arith, c .before .before .before .diagonals .ensures .0, c .before .before .before .diagonals .kept .1 .1 .0, c .before .before .before .before .before .before .before .pre .2)
@@ -36,9 +37,10 @@ slice-aggregate-crosses c =
 crosses-requires : tie.Need-crosses-requires
 crosses-requires c κs =
     let at-diagonals = c .before .before .before .before in
-    let start = at-diagonals .before .before .before .before in
-    (chosen-diagonals (start .args .n) (edgesOf (start .args .edges .now)) (start .pre .0) (at-diagonals .diagonals .last .1 .1 .0) (at-diagonals .diagonals .result) (omega (arith, at-diagonals .diagonals .ensures .0, at-diagonals .diagonals .kept .1 .1 .0, start .pre .2)) (at-diagonals .diagonals .ensures .1),
-    (start .pre .1, omega (arith, c .before .if1 .left, length-take-le (at-diagonals .diagonals .result) (at-diagonals .diagonals .last .1 .1 .0) (omega (arith, at-diagonals .diagonals .ensures .0, at-diagonals .diagonals .kept .1 .1 .0, start .pre .2)))))
+    let start = at-diagonals .before .before .before .before in (
+      chosen-diagonals (start .args .n) (edgesOf (start .args .edges .now)) (start .pre .0) (at-diagonals .diagonals .last .1 .1 .0) (at-diagonals .diagonals .result) (omega (arith, at-diagonals .diagonals .ensures .0, at-diagonals .diagonals .kept .1 .1 .0, start .pre .2)) (at-diagonals .diagonals .ensures .1),
+      (start .pre .1, omega (arith, c .before .if1 .left, length-take-le (at-diagonals .diagonals .result) (at-diagonals .diagonals .last .1 .1 .0) (omega (arith, at-diagonals .diagonals .ensures .0, at-diagonals .diagonals .kept .1 .1 .0, start .pre .2)))),
+    )
 
 same-length-2 : tie.Need-same-length-2
 same-length-2 c = search needs
@@ -49,9 +51,10 @@ returns-2 c =
     let at-diagonals = at-if1 .before .before .before in
     let start = at-diagonals .before .before .before .before in
     let edges = start .args .edges .now in
-    let n = start .args .n in
-    (λ h. part-of n (edgesOf edges) (start .pre .0) (at-diagonals .diagonals .last .1 .1 .0) (at-diagonals .diagonals .result) (omega (arith, at-diagonals .diagonals .ensures .0, at-diagonals .diagonals .kept .1 .1 .0, start .pre .2)) (at-diagonals .diagonals .ensures .1) (at-if1 .if1 .left) (c .crosses .ensures .0 (not-true _ h)),
-    λ h. none-part n (edgesOf edges) (start .pre .0) (at-diagonals .diagonals .last .1 .1 .0) (at-diagonals .diagonals .result) (omega (arith, at-diagonals .diagonals .ensures .0, at-diagonals .diagonals .kept .1 .1 .0, start .pre .2)) (at-diagonals .diagonals .ensures .1) (at-if1 .if1 .left) (c .crosses .ensures .1 (not-false _ h)))
+    let n = start .args .n in (
+      λ h. part-of n (edgesOf edges) (start .pre .0) (at-diagonals .diagonals .last .1 .1 .0) (at-diagonals .diagonals .result) (omega (arith, at-diagonals .diagonals .ensures .0, at-diagonals .diagonals .kept .1 .1 .0, start .pre .2)) (at-diagonals .diagonals .ensures .1) (at-if1 .if1 .left) (c .crosses .ensures .0 (not-true _ h)),
+      λ h. none-part n (edgesOf edges) (start .pre .0) (at-diagonals .diagonals .last .1 .1 .0) (at-diagonals .diagonals .result) (omega (arith, at-diagonals .diagonals .ensures .0, at-diagonals .diagonals .kept .1 .1 .0, start .pre .2)) (at-diagonals .diagonals .ensures .1) (at-if1 .if1 .left) (c .crosses .ensures .1 (not-false _ h)),
+    )
 
 pub part-spec : {M : Type 1} → statement M
 part-spec = tie.close (tie.spec diagonals-requires add-if1 same-length returns slice-reshare-prefix-crosses slice-aggregate-crosses crosses-requires same-length-2 returns-2)

@@ -24,9 +24,10 @@ returns-2 c =
     let at-joins = c .before .before .before in
     let start = at-joins .before .before in
     let chart = start .args .chart .now in
-    let n = start .args .n in
-    (λ h. (at-joins .joins .ensures .0 (not-false _ (c .before .before .if1 .left)), free-ends (c .before .stroke-ends .ensures) (none-free chart n (start .pre .1 .count) _ (c .bar-between .ensures .1 (not-true _ h)))),
-    λ h F. some-stands chart n (start .pre .1 .count) _ (c .bar-between .ensures .0 (not-false _ h)) (ends-free (c .before .stroke-ends .ensures) (F .1)))
+    let n = start .args .n in (
+      λ h. (at-joins .joins .ensures .0 (not-false _ (c .before .before .if1 .left)), free-ends (c .before .stroke-ends .ensures) (none-free chart n (start .pre .1 .count) _ (c .bar-between .ensures .1 (not-true _ h)))),
+      λ h F. some-stands chart n (start .pre .1 .count) _ (c .bar-between .ensures .0 (not-false _ h)) (ends-free (c .before .stroke-ends .ensures) (F .1)),
+    )
 
 pub fits-spec : {M : Type 1} → statement M
 fits-spec = tie.close (tie.spec joins-requires returns stroke-ends-requires bar-between-requires returns-2)

@@ -35,9 +35,10 @@ returns-2 : tie.Need-returns-2
 returns-2 c =
     let at-if1 = c .before .before .before in
     let at-edge-keys = at-if1 .before .before .before in
-    let start = at-edge-keys .before .before .before .before .before in
-    (λ h. absurd (false≢true h),
-    λ h R. keys-not (take (length (start .args .at .now)) (at-edge-keys .edge-keys .last .1 .1 .1 .0)) _ (c .before .ascends .result) ((at-edge-keys .edge-keys .ensures .0 (not-false _ (at-if1 .if1 .left))) .1) (c .before .ascends .ensures) (not-true _ (c .if2 .taken)) (R .1))
+    let start = at-edge-keys .before .before .before .before .before in (
+      λ h. absurd (false≢true h),
+      λ h R. keys-not (take (length (start .args .at .now)) (at-edge-keys .edge-keys .last .1 .1 .1 .0)) _ (c .before .ascends .result) ((at-edge-keys .edge-keys .ensures .0 (not-false _ (at-if1 .if1 .left))) .1) (c .before .ascends .ensures) (not-true _ (c .if2 .taken)) (R .1),
+    )
 
 all-fit-requires : tie.Need-all-fit-requires
 all-fit-requires c κs = (c .before .before .before .before .before .before .before .before .before .before .before .pre .0, (c .before .before .before .before .before .before .edge-keys .ensures .0 (not-false _ (c .before .before .before .if1 .left))) .0)
@@ -50,9 +51,10 @@ returns-3 c =
     let at-ascends = c .before .before in
     let at-if1 = at-ascends .before .before in
     let at-edge-keys = at-if1 .before .before .before in
-    let start = at-edge-keys .before .before .before .before .before in
-    (λ h. (((at-edge-keys .edge-keys .ensures .0 (not-false _ (at-if1 .if1 .left))) .0, keys-ascend (take (length (start .args .at .now)) (at-edge-keys .edge-keys .last .1 .1 .1 .0)) _ (at-ascends .ascends .result) ((at-edge-keys .edge-keys .ensures .0 (not-false _ (at-if1 .if1 .left))) .1) (at-ascends .ascends .ensures) (not-false _ (c .before .if2 .left)), c .all-fit .ensures .0 h), (at-edge-keys .edge-keys .ensures .0 (not-false _ (at-if1 .if1 .left))) .1),
-    λ h R. c .all-fit .ensures .1 h (R .2))
+    let start = at-edge-keys .before .before .before .before .before in (
+      λ h. (((at-edge-keys .edge-keys .ensures .0 (not-false _ (at-if1 .if1 .left))) .0, keys-ascend (take (length (start .args .at .now)) (at-edge-keys .edge-keys .last .1 .1 .1 .0)) _ (at-ascends .ascends .result) ((at-edge-keys .edge-keys .ensures .0 (not-false _ (at-if1 .if1 .left))) .1) (at-ascends .ascends .ensures) (not-false _ (c .before .if2 .left)), c .all-fit .ensures .0 h), (at-edge-keys .edge-keys .ensures .0 (not-false _ (at-if1 .if1 .left))) .1),
+      λ h R. c .all-fit .ensures .1 h (R .2),
+    )
 
 pub strokes-keep-spec : {M : Type 1} → statement M
 strokes-keep-spec = tie.close (tie.spec edge-keys-requires same-length returns slice-reshare-prefix-ascends slice-aggregate-ascends ascends-requires same-length-2 returns-2 all-fit-requires same-length-3 returns-3)

@@ -34,7 +34,9 @@ same-length : tie.Need-same-length Inv-loop μ-loop
 same-length c = c .before .before .before .loop .inv .1 .size
 
 returns : tie.Need-returns Inv-loop μ-loop
-returns c = (λ h. absurd (false≢true h), λ h a. c .before .pair-key .ensures .none (c .if1 .taken) (all-mem a (pairs-at (c .before .before .before .before .before .before .args .sheet .now) 3 (c .before .before .before .before .before .before .args .n - 3) (c .before .before .before .loop .i) (omega arith))))
+returns c =
+    let start = c .before .before .before .before .before .before in
+    (λ h. absurd (false≢true h), λ h a. c .before .pair-key .ensures .none (c .if1 .taken) (all-mem a (pairs-at (start .args .sheet .now) 3 (start .args .n - 3) (c .before .before .before .loop .i) (omega arith))))
 
 mul-keys : tie.Need-mul-keys Inv-loop μ-loop
 mul-keys c = omega arith
