@@ -3,9 +3,8 @@
 ghost use Prim.Native.Nat.{_+_, _*_, _<_, _≤_};
 ghost use lib.ListN.{length};
 ghost use Rattle.polygon.specs.Lists.{All};
-ghost use Rattle.polygon.specs.Polygon.{Valid};
 ghost use Rattle.sheet.specs.Sheet.{held};
-ghost use Rattle.sheet.specs.Held.{partOf};
+ghost use Rattle.sheet.specs.Held.{polygonOf, InHand};
 ghost use Rattle.log_line.specs.Put.{Put};
 ghost use Rattle.log_line.specs.Line.{line};
 ghost use Rattle.chart_reader.specs.Decode.{barAt, chartIn, Formed};
@@ -20,7 +19,6 @@ use draw::line::counts_line;
 use log_line::put_field;
 use log_line::put_refused;
 use log_line::put_word;
-use plan::Planned;
 use plan::plan_part;
 use sheet::Head;
 use sheet::Read;
@@ -28,27 +26,23 @@ use sheet::Read;
 pub mod program;
 pub mod strokes;
 
-// Writes the line of the part of a head and the keys of its diagonals, in the chart's own rows and columns.
+// Writes the line of a part in hand, in the chart's own rows and columns.
 fn put_head(chart: &[u8], h: Head, keys: &[u32], out: &mut [u8]) -> usize
-    requires { ⌜ Valid (partOf h (now keys)) ⌝ }
-    requires { ⌜ (6 ≤ length (now chart)) × (256 ≤ length (now out)) ⌝ }
-    ensures { λ r. ⌜ Put (line (chartFacts (chartIn (now (chart .entry))) (partOf h (now (keys .entry))))) (now (out .entry)) 0 (now (out .exit)) r ⌝ }
+    requires part { ⌜ InHand h (now keys) ⌝ }
+    requires room { ⌜ (6 ≤ length (now chart)) × (256 ≤ length (now out)) ⌝ }
+    ensures { λ r. ⌜ Put (line (chartFacts (chartIn (now (chart .entry))) (polygonOf h (now (keys .entry)))))
+        (now (out .entry)) 0 (now (out .exit)) r ⌝ }
 {
-    match plan_part(keys, h.n) {
-        Planned::Refused(k) => put_refused(k as usize, out),
-        Planned::Counts(l, u, s) => {
-            let rows = get16(chart, 0);
-            let columns = get16(chart, 2);
-            counts_line(h, l, u, s, rows, columns, out)
-        }
-    }
+    let rows = get16(chart, 0);
+    let columns = get16(chart, 2);
+    counts_line(h, plan_part(h, keys), rows, columns, out)
 }
 
 // Writes the line of a corner, whose bar stands at `bar` in the chart, and says where it ends.
 fn put_corner(out: &mut [u8], at: usize, corner: usize, chart: &[u8], bar: usize) -> usize
     requires { ⌜ (at + 128 ≤ length (now out)) × (corner < 1024) × (bar + 6 ≤ length (now chart)) ⌝ }
-    ensures { λ r. ⌜ Put (cornerLine corner (barAt (now (chart .entry)) bar)) (now (out .entry)) at (now (out .exit)) r ⌝ }
-    ensures { λ r. ⌜ r ≤ at + 45 ⌝ }
+    ensures text { λ r. ⌜ Put (cornerLine corner (barAt (now (chart .entry)) bar)) (now (out .entry)) at (now (out .exit)) r ⌝ }
+    ensures within { λ r. ⌜ r ≤ at + 45 ⌝ }
 {
     let row = get16(chart, bar);
     let left = get16(chart, bar + 2);
@@ -62,10 +56,10 @@ fn put_corner(out: &mut [u8], at: usize, corner: usize, chart: &[u8], bar: usize
 
 // Writes the lines of the n corners of a chart.
 fn put_corners(out: &mut [u8], at: usize, chart: &[u8], n: usize) -> usize
-    requires { ⌜ (at + 45 * n + 128 ≤ length (now out)) × (n ≤ 1024) ⌝ }
-    requires { ⌜ Bars (now chart) n ⌝ }
-    ensures { λ r. ⌜ Put (cornerLines (chartIn (now (chart .entry)))) (now (out .entry)) at (now (out .exit)) r ⌝ }
-    ensures { λ r. ⌜ r ≤ at + 45 * n ⌝ }
+    requires room { ⌜ (at + 45 * n + 128 ≤ length (now out)) × (n ≤ 1024) ⌝ }
+    requires bars { ⌜ Bars (now chart) n ⌝ }
+    ensures text { λ r. ⌜ Put (cornerLines (chartIn (now (chart .entry)))) (now (out .entry)) at (now (out .exit)) r ⌝ }
+    ensures within { λ r. ⌜ r ≤ at + 45 * n ⌝ }
 {
     let mut end = at;
     let mut x = 0;
@@ -76,13 +70,14 @@ fn put_corners(out: &mut [u8], at: usize, chart: &[u8], n: usize) -> usize
     end
 }
 
-// Writes what is said of a chart that was read as the part of a head and the keys of its diagonals.
+// Writes what is said of a chart that was read as a part in hand.
 fn describe_part(chart: &[u8], h: Head, keys: &[u32], out: &mut [u8]) -> usize
-    requires { ⌜ Valid (partOf h (now keys)) ⌝ }
-    requires { ⌜ Formed (now chart) × All (Named (chartIn (now chart))) (chartIn (now chart) .strokes) ⌝ }
-    requires { ⌜ 163840 ≤ length (now out) ⌝ }
-    ensures { λ r. ⌜ Put (describedAs (chartIn (now (chart .entry))) (held (partOf h (now (keys .entry))))) (now (out .entry)) 0 (now (out .exit)) r ⌝ }
-    ensures { λ r. ⌜ r ≤ 163840 ⌝ }
+    requires part { ⌜ InHand h (now keys) ⌝ }
+    requires formed { ⌜ Formed (now chart) × All (Named (chartIn (now chart))) (chartIn (now chart) .strokes) ⌝ }
+    requires room { ⌜ 163840 ≤ length (now out) ⌝ }
+    ensures text { λ r. ⌜ Put (describedAs (chartIn (now (chart .entry))) (held (polygonOf h (now (keys .entry)))))
+        (now (out .entry)) 0 (now (out .exit)) r ⌝ }
+    ensures within { λ r. ⌜ r ≤ 163840 ⌝ }
 {
     let mut at = [0usize; 2045];
     let n = frame(chart, &mut at);
@@ -94,15 +89,12 @@ fn describe_part(chart: &[u8], h: Head, keys: &[u32], out: &mut [u8]) -> usize
 
 // Writes what is said of a chart, and says how long it is.
 pub fn describe(chart: &[u8], out: &mut [u8; 163840]) -> usize
-    ensures { λ r. ⌜ Put (described (now (chart .entry))) (now (out .entry)) 0 (now (out .exit)) r ⌝ }
-    ensures { λ r. ⌜ r ≤ 163840 ⌝ }
+    ensures text { λ r. ⌜ Put (described (now (chart .entry))) (now (out .entry)) 0 (now (out .exit)) r ⌝ }
+    ensures within { λ r. ⌜ r ≤ 163840 ⌝ }
 {
     let mut keys = [0u32; 2045];
     match read_part(chart, &mut keys) {
         Read::Refused(k) => put_refused(k as usize, out),
-        Read::Held(h) => {
-            let m = h.n - 3;
-            describe_part(chart, h, &keys[..m], out)
-        }
+        Read::Held(h) => describe_part(chart, h, &keys, out),
     }
 }

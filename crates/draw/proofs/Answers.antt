@@ -6,14 +6,12 @@ use Prim.Native.Nat.{ℕ, _≤_, _<_}
 use native.Mathlib.Omega.{arith}
 use lib.ListN.{length, replicate, length-map, length-replicate}
 use Rattle.polygon.specs.Polygon.{Triangulated, Polygon}
-use Rattle.polygon.specs.Tree.{treeOf}
 use Rattle.polygon.proofs.TreeTheorem.{tree-of}
 use Rattle.codec.specs.Answer.{Answer, refusal, write, written, answered}
 use Rattle.codec.specs.declared.Written.the-variants as is
 use Rattle.sheet.specs.Sheet.{Reading, refused, held, readSheet}
 use Rattle.sheet.proofs.Size.{read-counted}
 use Rattle.sheet.proofs.Valid.{read-triangulated}
-use Rattle.umbrella.specs.Best.{best}
 use Rattle.chart.specs.Chart.{layout, chart, chartOf}
 use Rattle.chart.specs.Bytes.{bytesOf}
 use Rattle.bar_list.specs.declared.Bar.{Bar}
@@ -36,7 +34,7 @@ corners p T = omega (arith, tree-of (p .n) (p .ds) T .size, T .full)
 -- a part that was read
 module _ (p : Polygon) (T : Triangulated (p .n) (p .ds)) (out : List ℕ) (room : ℕ) where
   abbrev bytes : List ℕ
-  bytes = bytesOf (chart (best (treeOf (p .n) (p .ds))))
+  bytes = bytesOf (chartOf p)
 
   pub for-few : room < p .n → For (held p) out room (Refused 8) out
   unfolding drawnBoth
@@ -45,16 +43,15 @@ module _ (p : Polygon) (T : Triangulated (p .n) (p .ds)) (out : List ℕ) (room 
   -- with records enough: none written, or the chart
   module _ (h : p .n ≤ room) (after : List ℕ) (k : ℕ) where
     pub for-none : refusal k after ≡ written (write bytes) out → For (held p) out room (Refused k) after
-    unfolding chartOf drawnBoth
+    unfolding drawnBoth
     for-none a bars l = none-written (chartOf p) out bars (omega (arith, h, l, corners p T)) after k a
 
     pub for-chart : answered (is.Bytes k) after ≡ written (write bytes) out → For (held p) out room (Chart k (p .n)) after
-    unfolding chartOf drawnBoth
+    unfolding drawnBoth
     for-chart a bars l =
         ap (λ (n : ℕ). drawing (Chart k n) after (filledBy (Chart k n) after bars)) (sym (corners p T)) ∙ both-written (chartOf p) out bars (omega (arith, h, l, corners p T)) after k a
 
     pub chart-fits : answered (is.Bytes k) after ≡ written (write bytes) out → Fits (Chart k (p .n)) room (length out)
-    unfolding chartOf
     chart-fits a = (h, omega (arith, wrote (chartOf p) out after k a, corners p T))
 
 -- room for any part

@@ -5,58 +5,65 @@ use Prim.Native.Nat.{ℕ, suc, _+_, _*_, _-_, _≤_, _<_}
 use native.Mathlib.Omega.{arith}
 use lib.ListN.{length, take, getD}
 use lib.Seq.{getD-take, length-take-le}
-use Rattle.polygon.specs.Polygon.{Edge, Triangulated}
+use Rattle.polygon.specs.Lists.{All}
+use Rattle.polygon.specs.Polygon.{Edge}
 use Rattle.polygon.specs.Edges.{edges}
-use Rattle.polygon.specs.Tree.{Tree, span, treeOf}
-use Rattle.polygon.proofs.Edges.{edges-ascending}
-use Rattle.polygon.proofs.TreeTheorem.{tree-of}
+use Rattle.polygon.specs.Tree.{Tree, span}
+use Rattle.polygon.proofs.Edges.{edges-in, edges-ascending}
 use Rattle.keys.specs.Keys.{edgesOf}
+use Rattle.sheet.proofs.Hand.{edge-at}
 use Rattle.umbrella.specs.Plan.{Plan, levels}
 use Rattle.umbrella.specs.Best.{best}
 use Rattle.umbrella.proofs.Theorems.{umbrellas-bound}
+use Rattle.tree.specs.declared.Piece.{Piece}
 use Rattle.tree.specs.Shows.{edgeAt}
-use Rattle.tree.proofs.Whole.{keyed}
+use Rattle.levels.specs.Numbered.{Filled}
 use Rattle.chart.specs.Places.{cols, rows}
 use Rattle.chart.specs.Chart.{layout, chart}
 use Rattle.chart.specs.Bytes.{bytesOf}
 use Rattle.chart.proofs.Width.{width}
-use Rattle.chart_writer.specs.Tables.{Sizes, Edges, Among, Laid}
+use Rattle.chart_writer.specs.Tables.{Keyed, Sizes, Edges, Among, Laid}
 use Rattle.drawing.specs.Placed.{Placed}
 use Rattle.drawing.specs.declared.Size.{Size}
+use Rattle.drawing.proofs.Whole.{sized}
 
 -- some columns, and few levels
 sizes : {t : Tree} (p : Plan t) → 2 ≤ span t → span t ≤ 1023 → (1 ≤ length (cols p 0 (span t))) × (levels p < 1024)
 sizes {t} p h k = omega (arith, width p 0 (span t), umbrellas-bound p)
 
 -- a part drawn: what its writer asks for, and the chart that comes of it
-module _ {n : ℕ} (ks : List ℕ) (T : Triangulated n (edgesOf ks)) (most : n ≤ 1024) {tr columns ranks : List ℕ} {s : Size} (P : Placed n (treeOf n (edgesOf ks)) tr columns ranks s) where
-  abbrev t : Tree
-  t = treeOf n (edgesOf ks)
-
+module _ {n : ℕ} {t : Tree} {tr ds : List ℕ} {p : Piece} (F : Filled n t tr ds p) (least : 3 ≤ n) {columns ranks : List ℕ} {s : Size} (P : Placed n t tr columns ranks s) where
   last : n - 1 ≡ span t
-  last = omega (arith, tree-of n (edgesOf ks) T .size, T .full)
+  last = omega (arith, sized F)
 
   pub placed-sizes : (1 ≤ s .columns) × (s .columns < 2048) × (s .rows < 2048)
   placed-sizes =
-      let z : (1 ≤ length (cols (best t) 0 (n - 1))) × (levels (best t) < 1024) = rw last (sizes (best t) (omega (arith, last, T .full)) (omega (arith, last))) in
-      omega (arith, z, P .width, P .height, P .few)
+      let z : (1 ≤ length (cols (best t) 0 (n - 1))) × (levels (best t) < 1024) = rw last (sizes (best t) (omega (arith, last)) (omega (arith, sized F))) in
+      omega (arith, z, P .width, P .height, P .few, sized F)
 
   pub count : length (take (s .columns) columns) ≡ s .columns
   count = length-take-le (s .columns) columns (omega (arith, placed-sizes, P .columns-kept))
 
   pub placed-asks : Sizes n (s .rows) tr (take (s .columns) columns) ranks
   placed-asks = record {
-    least = omega (arith, T .full);
-    most = most;
+    least = least;
+    most = sized F .1;
     tall = omega (arith, placed-sizes);
-    edges = omega (arith, P .tree-kept);
-    corners = omega (arith, P .ranks-kept);
+    edges = omega (arith, P .tree-kept, sized F);
+    corners = omega (arith, P .ranks-kept, sized F);
     some = omega (arith, count, placed-sizes);
     few = omega (arith, count, placed-sizes);
   }
 
+  -- the keys are of edges of the part
+  keyed : Keyed (2 * n - 3) tr
+  keyed j h =
+      let inside : All (λ e. (0 ≤ e .0) × (e .0 < e .1) × (e .1 ≤ 0 + span t)) (edgesOf (take (2 * n - 3) tr)) = rw (P .listed) (edges-in 0 t) in
+      let b = edge-at (take (2 * n - 3) tr) inside j (omega (arith, length-take-le (2 * n - 3) tr (omega (arith, P .tree-kept, sized F)))) in
+      omega (arith, b, sized F, getD-take (2 * n - 3) tr j 0 h)
+
   pub placed-edges : Edges (2 * n - 3) tr
-  placed-edges = record { keyed = keyed n ks T most tr (P .tree-kept) (P .listed); ascending = rw (P .listed) (edges-ascending 0 t) }
+  placed-edges = record { keyed = keyed; ascending = rw (P .listed) (edges-ascending 0 t) }
 
   pub placed-among : Among (2 * n - 3) (take (s .columns) columns)
   placed-among j h = rw (getD-take (s .columns) columns j 0 (omega (arith, count))) (P .among j (omega (arith, count)))
@@ -72,3 +79,11 @@ module _ {n : ℕ} (ks : List ℕ) (T : Triangulated n (edgesOf ks)) (most : n �
   pub placed-chart : bytesOf (layout (n - 1) (levels (best t)) (rows (best t)) (cols (best t) 0 (n - 1)) (edges 0 t)) ≡ bytesOf (chart (best t))
   unfolding chart
   placed-chart = rw last
+
+  pub placed-rows : s .rows ≡ chart (best t) .rows
+  unfolding chart layout
+  placed-rows = omega (arith, P .height)
+
+  pub placed-columns : s .columns ≡ chart (best t) .columns
+  unfolding chart layout
+  placed-columns = P .width ∙ rw last

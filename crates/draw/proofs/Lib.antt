@@ -1,4 +1,3 @@
-pub mod Lines
 pub mod Charting
 pub mod Size
 pub mod WithBars

@@ -1,15 +1,13 @@
 -- No chart is longer than 20,465 bytes.
 -- Rests on the count of a chart's strokes and on the size of its bytes (crate chart).
-use mathlib.Core.Path.{_≡_, refl, ap}
+use mathlib.Core.Path.{_≡_, refl}
 use mathlib.Core.List.{List}
 use Prim.Native.Nat.{ℕ, _≤_}
 use native.Mathlib.Omega.{arith}
 use lib.ListN.{length}
-use Rattle.polygon.specs.Polygon.{Polygon}
+use Rattle.polygon.specs.Polygon.{Triangulated, Polygon}
 use Rattle.polygon.proofs.TreeTheorem.{tree-of}
-use Rattle.codec.specs.declared.Written.{Written}
-use Rattle.codec.specs.declared.Written.the-variants.{Bytes}
-use Rattle.codec.specs.Answer.{Answer, answered, written}
+use Rattle.codec.specs.Answer.{written}
 use Rattle.sheet.specs.Sheet.{Reading, refused, held, readSheet}
 use Rattle.sheet.proofs.Size.{read-counted, written-size}
 use Rattle.sheet.proofs.Valid.{read-triangulated}
@@ -20,10 +18,9 @@ use Rattle.chart.proofs.Charts.{chart-size, chart-strokes}
 use Rattle.chart.proofs.Sizes.{bytes-size}
 use Rattle.draw.specs.Answer.{charted, drawn}
 
-pub chart-bytes : (s : List ℕ) (p : Polygon) → readSheet s ≡ held p → length (bytesOf (chartOf p)) ≤ 20465
+pub chart-bytes : (p : Polygon) → Triangulated (p .n) (p .ds) → p .n ≤ 1024 → length (bytesOf (chartOf p)) ≤ 20465
 unfolding chartOf
-chart-bytes s p e =
-    omega (arith, bytes-size (chartOf p) .1, chart-size (planOf p) .0, chart-strokes (planOf p), read-counted s p e .0, tree-of (p .n) (p .ds) (read-triangulated s p e) .size)
+chart-bytes p T most = omega (arith, bytes-size (chartOf p) .1, chart-size (planOf p) .0, chart-strokes (planOf p), most, tree-of (p .n) (p .ds) T .size)
 
 pub drawn-size : (s out : List ℕ) → written (drawn s) out .size ≤ 20465
 unfolding drawn charted written
@@ -31,8 +28,4 @@ drawn-size s out = go (readSheet s) refl
   where
     go : (r : Reading) → readSheet s ≡ r → written (charted (readSheet s)) out .size ≤ 20465
     go (refused k) e = rw e (omega arith)
-    go (held p) e = rw e (omega (arith, written-size (bytesOf (chartOf p)) out, chart-bytes s p e))
-
--- nor is what Draw says that it wrote
-pub drawn-bytes : (s out after : List ℕ) (r : Written) (k : ℕ) → answered r after ≡ written (drawn s) out → r ≡ Bytes k → k ≤ 20465
-drawn-bytes s out after r k e h = omega (arith, ap (λ (w : Written). answered w after .size) h, ap (λ (a : Answer). a .size) e, drawn-size s out)
+    go (held p) e = rw e (omega (arith, written-size (bytesOf (chartOf p)) out, chart-bytes p (read-triangulated s p e) (omega (arith, read-counted s p e .0))))

@@ -2,7 +2,16 @@
 use Prim.Native.Nat.{ℕ}
 use Rattle.sheet.specs.declared.Head.{Head}
 use Rattle.sheet.specs.Held.{numberOf}
+use Rattle.plan.specs.declared.Totals.{Totals}
 use Rattle.log_line.specs.Line.{Facts}
 
-abbrev pub told : Head → ℕ → ℕ → ℕ → ℕ → ℕ → Facts
-told h l u s rows columns = record { number = numberOf (h .numbered) (h .number); corners = h .n; levels = l; umbrellas = u; stems = s; rows = rows; columns = columns }
+abbrev pub told : Head → Totals → ℕ → ℕ → Facts
+told h c rows columns = record {
+  number = numberOf (h .numbered) (h .number);
+  corners = h .n;
+  levels = c .levels;
+  umbrellas = c .umbrellas;
+  stems = c .stems;
+  rows = rows;
+  columns = columns;
+}

@@ -1,30 +1,36 @@
-// The operation Draw: the chart of a sheet's part, and its bars in a lent list of records; and the line that the program prints (line.rt).
+// The operation Draw: the chart of a sheet's part, and its bars in a lent list of records; and what the program does with its input (program.rt, line.rt).
 // The columns and rows come from the crate drawing, the bytes from chart_writer, the records from bar_list. specs/Answer.antt says what the operation answers, specs/WithBars.antt how the code's answer stands for that.
 ghost use mathlib.Core.Path.{_≡_};
 ghost use mathlib.Core.List.{List, map};
 ghost use Prim.Native.Nat.{_≤_};
 ghost use lib.ListN.{length};
-ghost use Rattle.polygon.specs.Polygon.{Triangulated};
-ghost use Rattle.polygon.specs.Tree.{treeOf};
+ghost use Rattle.polygon.specs.Tree.{Tree};
 ghost use Rattle.codec.specs.Answer.{answered, written, write};
-ghost use Rattle.keys.specs.Keys.{edgesOf};
+ghost use Rattle.sheet.specs.Held.{polygonOf, InHand};
 ghost use Rattle.umbrella.specs.Best.{best};
-ghost use Rattle.chart.specs.Chart.{chart};
+ghost use Rattle.levels.specs.Numbered.{Filled};
+ghost use Rattle.chart.specs.Chart.{chart, chartOf};
 ghost use Rattle.chart.specs.Bytes.{bytesOf};
 ghost use Rattle.bar_list.specs.declared.Bar.{Bar};
 ghost use Rattle.bar_list.specs.OfChart.{barOf};
 ghost use Rattle.draw.specs.Answer.{drawn, drawnWithBars};
 ghost use Rattle.draw.specs.WithBars.{drawing, filledBy, Fits};
+ghost use Rattle.draw.specs.Charted.{Wrote};
 use bar_list::Bar;
 use bar_list::fill_bars;
 use chart_writer::write_chart;
 use codec::Written;
-use drawing::place_part;
+use drawing::Size;
+use drawing::place;
 use drawing::walk::COLUMNS;
 use levels::CORNERS;
+use levels::NUMBERS;
+use levels::fill;
+use sheet::Head;
 use sheet::Read;
 use sheet::reader::read_sheet;
 use tree::PLACES;
+use tree::Piece;
 
 pub mod line;
 pub mod program;
@@ -35,35 +41,62 @@ pub enum Drawn {
     Refused(u16),
 }
 
-// Writes the chart of a part of n corners from the keys of its diagonals, if the output is long enough.
-fn draw_part(keys: &[u32], n: usize, out: &mut [u8]) -> Written
-    requires { ⌜ Triangulated n (edgesOf (now keys)) ⌝ }
-    requires { ⌜ (3 ≤ n) × (n ≤ 1024) ⌝ }
-    ensures { λ r. ⌜ answered r (now (out .exit)) ≡ written (write (bytesOf (chart (best (treeOf n (edgesOf (now (keys .entry)))))))) (now (out .entry)) ⌝ }
+// The answer for a chart, and how many columns and rows it has.
+struct Charted {
+    written: Written,
+    size: Size,
+}
+
+// Writes the chart of the part p of n corners, whose tables are filled, if the output is long enough.
+fn write_part(
+    n: usize,
+    tree: &[u32; PLACES],
+    depths: &[u16; NUMBERS],
+    p: Piece,
+    out: &mut [u8],
+) -> Charted
+    requires least { ⌜ 3 ≤ n ⌝ }
+    requires filled { ⌜ ((t : Tree) × Filled n t (now tree) (now depths) p) ⌝ }
+    ensures { λ r. ⌜ ((t : Tree) → Filled n t (now (tree .entry)) (now (depths .entry)) p
+        → Wrote (chart (best t)) (now (out .entry)) (now (out .exit)) r) ⌝ }
 {
-    let mut tree = [0u32; PLACES];
     let mut columns = [0u16; COLUMNS];
     let mut rows = [0u16; CORNERS];
-    let size = place_part(keys, n, &mut tree, &mut columns, &mut rows);
+    let size = place(n, tree, depths, p, &mut columns, &mut rows);
     let w = size.columns;
-    write_chart(n, size.rows, &tree, &columns[..w], &rows, out)
+    Charted {
+        written: write_chart(n, size.rows, tree, &columns[..w], &rows, out),
+        size,
+    }
+}
+
+// Writes the chart of a part in hand, if the output is long enough.
+fn draw_part(h: Head, keys: &[u32], out: &mut [u8]) -> Written
+    requires { ⌜ InHand h (now keys) ⌝ }
+    ensures { λ r. ⌜ answered r (now (out .exit)) ≡ written (write (bytesOf (chartOf (polygonOf h (now (keys .entry)))))) (now (out .entry)) ⌝ }
+{
+    let m = h.n - 3;
+    let mut tree = [0u32; PLACES];
+    let mut depths = [0u16; NUMBERS];
+    let p = fill(&keys[..m], h.n, &mut tree, &mut depths);
+    write_part(h.n, &tree, &depths, p, out).written
 }
 
 // Writes the chart of a sheet, if the output is long enough and `room` records hold its bars.
 pub fn draw_for(sheet: &[u8], out: &mut [u8], room: usize) -> Drawn
-    ensures { λ r. ⌜ ((bars : List Bar) → length bars ≡ room → drawing r (now (out .exit)) (filledBy r (now (out .exit)) bars) ≡ drawnWithBars (now (sheet .entry)) (now (out .entry)) (map barOf bars)) ⌝ }
-    ensures { λ r. ⌜ Fits r room (length (now (out .entry))) ⌝ }
+    ensures answer { λ r. ⌜ ((bars : List Bar) → length bars ≡ room
+        → drawing r (now (out .exit)) (filledBy r (now (out .exit)) bars) ≡ drawnWithBars (now (sheet .entry)) (now (out .entry)) (map barOf bars)) ⌝ }
+    ensures fits { λ r. ⌜ Fits r room (length (now (out .entry))) ⌝ }
 {
     let mut keys = [0u32; 1021];
     match read_sheet(sheet, &mut keys) {
         Read::Refused(k) => Drawn::Refused(k),
         Read::Held(h) => {
             let n = h.n;
-            let m = n - 3;
             if room < n {
                 return Drawn::Refused(8);
             }
-            match draw_part(&keys[..m], n, out) {
+            match draw_part(h, &keys, out) {
                 Written::Refused(k) => Drawn::Refused(k),
                 Written::Bytes(size) => Drawn::Chart(size, n),
             }
@@ -83,7 +116,8 @@ pub fn draw(sheet: &[u8], out: &mut [u8]) -> Written
 
 // Draw, with the bar list.
 pub fn draw_with_bars(sheet: &[u8], out: &mut [u8], bars: &mut [Bar]) -> Drawn
-    ensures { λ r. ⌜ drawing r (now (out .exit)) (now (bars .exit)) ≡ drawnWithBars (now (sheet .entry)) (now (out .entry)) (map barOf (now (bars .entry))) ⌝ }
+    ensures { λ r. ⌜ drawing r (now (out .exit)) (now (bars .exit))
+        ≡ drawnWithBars (now (sheet .entry)) (now (out .entry)) (map barOf (now (bars .entry))) ⌝ }
 {
     let room = bars.len();
     let d = draw_for(sheet, out, room);

@@ -5,16 +5,53 @@ ghost use mathlib.Core.List.{List};
 ghost use Prim.Native.Nat.{ℕ, _≤_};
 ghost use lib.ListN.{length, take};
 ghost use Rattle.codec.specs.Input.{Begins};
-ghost use Rattle.draw.specs.Program.{output, shown, Lengths};
-use crate::draw;
-use crate::line::line;
+ghost use Rattle.sheet.specs.Sheet.{held};
+ghost use Rattle.sheet.specs.Held.{polygonOf, InHand};
+ghost use Rattle.draw.specs.Program.{outputOf, output, shown, Lengths};
+use crate::line::counts_line;
+use crate::write_part;
 use codec::Written;
 use codec::least;
+use levels::NUMBERS;
+use levels::fill;
+use log_line::put_refused;
+use plan::counts_of;
+use sheet::Head;
+use sheet::Read;
+use sheet::reader::read_sheet;
+use tree::PLACES;
 
 // The length of a chart to be saved and that of its line; or that of a refusal's line, with nothing to be saved.
 pub enum Shown {
     Chart(usize, usize),
     Refused(usize),
+}
+
+// What is done with a part in hand: its tables are filled once, for the chart and for the line.
+fn show_part(h: Head, keys: &[u32], chart: &mut [u8], text: &mut [u8]) -> Shown
+    requires part { ⌜ InHand h (now keys) ⌝ }
+    requires room { ⌜ (20465 ≤ length (now chart)) × (256 ≤ length (now text)) ⌝ }
+    ensures done { λ r. ⌜ shown r (now (chart .exit)) (now (text .exit))
+        ≡ outputOf (held (polygonOf h (now (keys .entry)))) (now (chart .entry)) (now (text .entry)) ⌝ }
+    ensures within { λ r. ⌜ Lengths r (now (chart .exit)) (now (text .exit)) ⌝ }
+{
+    let m = h.n - 3;
+    let mut tree = [0u32; PLACES];
+    let mut depths = [0u16; NUMBERS];
+    let p = fill(&keys[..m], h.n, &mut tree, &mut depths);
+    let c = write_part(h.n, &tree, &depths, p, chart);
+    let end = counts_line(
+        h,
+        counts_of(&tree, &depths, p),
+        c.size.rows,
+        c.size.columns,
+        text,
+    );
+    let w = c.written;
+    match w {
+        Written::Refused(_) => Shown::Refused(end),
+        Written::Bytes(k) => Shown::Chart(k, end),
+    }
 }
 
 // What is done with a sheet that is the first `end` of the bytes lent.
@@ -24,11 +61,10 @@ fn draw_first(lent: &[u8], end: usize, chart: &mut [u8], text: &mut [u8]) -> Sho
         ≡ output (take end (now (lent .entry))) (now (chart .entry)) (now (text .entry)) ⌝ }
     ensures within { λ r. ⌜ Lengths r (now (chart .exit)) (now (text .exit)) ⌝ }
 {
-    let sheet = &lent[..end];
-    let m = line(sheet, text);
-    match draw(sheet, chart) {
-        Written::Refused(_) => Shown::Refused(m),
-        Written::Bytes(k) => Shown::Chart(k, m),
+    let mut keys = [0u32; 1021];
+    match read_sheet(&lent[..end], &mut keys) {
+        Read::Refused(k) => Shown::Refused(put_refused(k as usize, text)),
+        Read::Held(h) => show_part(h, &keys, chart, text),
     }
 }
 

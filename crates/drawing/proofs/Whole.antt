@@ -19,7 +19,7 @@ use Rattle.keys.specs.Keys.{edgeOf}
 use Rattle.keys.proofs.Crosses.{at-all}
 use Rattle.tree.specs.declared.Piece.{Piece}
 use Rattle.tree.specs.Shows.{edgeAt}
-use Rattle.tree.proofs.Pieces.{ends}
+use Rattle.tree.proofs.Pieces.{corners, ends}
 use Rattle.levels.specs.Numbered.{Filled}
 use Rattle.chart.specs.Places.{cols, rows}
 use Rattle.drawing.specs.declared.lines.Line.{Line}
@@ -44,7 +44,7 @@ topWay = record { role = Hung; turned = false; d = 0; far = top; near = top }
 on-top : (k : ℕ) → OnLine top (λ r. r) k
 on-top k = record { agrees = λ r h. omega arith; room = λ h. absurd (true≢false h) }
 
-corners-are : (t : Tree) (v n : ℕ) (o o₁ : List ℕ) → v ≡ 0 + span t → n ≡ v + 1 → 2 ≤ v → v < 1024 → length o ≡ 1024 → o₁ ≡ sets (set (set o 0 0) v 0) (0 + 1) (ranks Hung 0 top top t) → take n o₁ ≡ 0 ∷ (rows (best t) ++ (0 ∷ []))
+corners-are : (t : Tree) (v n : ℕ) (o o₁ : List ℕ) → v ≡ 0 + span t → n ≡ v + 1 → 1 ≤ v → v < 1024 → length o ≡ 1024 → o₁ ≡ sets (set (set o 0 0) v 0) (0 + 1) (ranks Hung 0 top top t) → take n o₁ ≡ 0 ∷ (rows (best t) ++ (0 ∷ []))
 corners-are t v n o o₁ whole p h small l e =
     let rs : List ℕ = ranks Hung 0 top top t in
     let b : List ℕ = set (set o 0 0) v 0 in
@@ -68,25 +68,25 @@ within n e tr f H = go (decLt e (2 * n - 3))
     go (yes h) = h
     go (no h) = let z : getD tr e 0 ≡ 0 = f e (omega arith) (omega (arith, H .inside)) in absurd (omega (arith, z, H .lower-first))
 
-module _ {n : ℕ} {t : Tree} {tr ds : List ℕ} {p : Piece} (F : Filled n t tr ds p) (least : 3 ≤ n) (most : n ≤ 1024) where
-  v-is : n - 1 ≡ 0 + span t
-  v-is = omega (arith, ends (F .whole .shows), F .whole .lower, F .whole .upper)
+module _ {n : ℕ} {t : Tree} {tr ds : List ℕ} {p : Piece} (F : Filled n t tr ds p) where
+  pub sized : (2 ≤ n) × (n ≤ 1024) × (n - 1 ≡ 0 + span t)
+  sized = let s = F .whole .shows in omega (arith, corners s, ends s, F .whole .lower, F .whole .upper)
 
   pub part-placed : (o q : List ℕ) {o₁ q₁ : List ℕ} {w d : ℕ} → length o ≡ 2048 → length q ≡ 1024 → Walked tr p topWay t 0 o (set (set q 0 0) (n - 1) 0) o₁ q₁ w → d ≡ ud t → Placed n t tr o₁ q₁ (record { columns = w; rows = 2 * d + 1 })
   part-placed o q {o₁} {q₁} {w} {d} lo lq W levels-are =
       let D = W .drawn in
       let places = D .places in
       let a : columns Hung 0 t (p .u) (p .v) ≡ cols (best t) 0 (n - 1) = rw (F .whole .lower, F .whole .upper) (columns-best t 0 0 (n - 1)) in
-      let fits : 0 + length places ≤ length o = omega (arith, D .end, walked-end (F .whole .shows) W, F .whole .lower, F .whole .upper) in
+      let fits : 0 + length places ≤ length o = omega (arith, D .end, walked-end (F .whole .shows) W, F .whole .lower, F .whole .upper, sized) in
       let e : o₁ ≡ places ++ drop (0 + length places) o = D .outs ∙ sets-eq places o 0 fits in
       let f : take w o₁ ≡ places = ap (take w) e ∙ take-at places (drop (0 + length places) o) w (omega (arith, D .end)) in
       record {
         listed = F .listed;
         among = λ j h. within n (getD o₁ j 0) tr (F .rest) (rw (sym (getD-take w o₁ j 0 h) ∙ ap (λ (l : List ℕ). getD l j 0) f) (at-all 0 (D .held) j (omega (arith, D .end))));
         uprights = ap (map (edgeAt tr)) f ∙ (D .are ∙ a);
-        few = omega (arith, walked-end (F .whole .shows) W, F .whole .lower, F .whole .upper);
+        few = omega (arith, sized, walked-end (F .whole .shows) W, F .whole .lower, F .whole .upper);
         width = D .end ∙ (zero-add (length places) ∙ (sym (length-map places (edgeAt tr)) ∙ (ap length (D .are) ∙ ap length a)));
-        corners = corners-are t (n - 1) n q q₁ v-is (omega arith) (omega arith) (omega arith) lq (W .ranked ∙ rw (F .whole .lower));
+        corners = corners-are t (n - 1) n q q₁ (sized .2) (omega (arith, sized)) (omega (arith, sized)) (omega (arith, sized)) lq (W .ranked ∙ rw (F .whole .lower));
         height = omega (arith, levels-are, computed-has t);
         tree-kept = F .kept;
         columns-kept = walked-columns (F .whole .shows) W ∙ lo;

@@ -12,13 +12,13 @@ use Rattle.levels.specs.Numbered.{six}
 use Rattle.plan.specs.declared.counts.Tally.{Tally}
 use Rattle.plan.specs.declared.Planned.{Planned}
 use Rattle.plan.specs.declared.Planned.the-variants.{Counts, Refused}
-use Rattle.plan.specs.Counts.{counted}
-use Rattle.plan.specs.Answer.{countsOf, plannedOf, packedPlan}
+use Rattle.plan.specs.Counts.{counted, totalsOf}
+use Rattle.plan.specs.Answer.{plannedOf, packedPlan}
 use Rattle.plan.proofs.Counted.{counted-best}
 
 -- the counts of the plan drawn
-pub part-planned : (t : Tree) (d : ℕ) (s : Six) (x : Tally) → s ≡ six t → x ≡ counted Hung d t → plannedOf (Counts (s .ud) (x .umbrellas) (x .stems)) ≡ countsOf (best t)
-part-planned t d s x p q = let k = q ∙ counted-best t d in rw (p, k, ← computed-has t)
+pub totals-are : (t : Tree) (d : ℕ) (s : Six) (x : Tally) → s ≡ six t → x ≡ counted Hung d t → record { levels = s .ud; umbrellas = x .umbrellas; stems = x .stems } ≡ totalsOf (best t)
+totals-are t d s x p q = let k = q ∙ counted-best t d in rw (p, k, ← computed-has t)
 
 -- the two cases in one number
 pub packed-counts : (p : Planned) (l u s : ℕ) → p ≡ Counts l u s → l * 65536 + u * 4294967296 + s * 281474976710656 ≡ packedPlan (plannedOf p)

@@ -5,6 +5,7 @@ use mathlib.Core.Bool.{Bool, true, false}
 use mathlib.Core.List.{List}
 use Prim.Native.Nat.{ℕ, _+_, _-_, _<_, _≤_}
 use Rattle.polygon.specs.Tree.{Tree, leaf, node}
+use Rattle.umbrella.specs.Plan.{Plan, levels, umbrellas, stems}
 use Rattle.umbrella.specs.Numbers.{ud}
 use Rattle.umbrella.specs.declared.roles.Role.{Role}
 use Rattle.umbrella.specs.declared.roles.Role.the-variants.{Hung, LeftRim, RightRim, FromLeft, FromRight}
@@ -12,6 +13,7 @@ use Rattle.umbrella.specs.Roles.{stepOf, levelsUnder}
 use Rattle.umbrella.specs.declared.roles.Step.{Step}
 use Rattle.tree.specs.declared.Piece.{Piece}
 use Rattle.levels.specs.Numbered.{Known}
+use Rattle.plan.specs.declared.Totals.{Totals}
 use Rattle.plan.specs.declared.counts.Tally.{Tally}
 use Rattle.plan.specs.declared.counts.Spot.{Spot}
 use Rattle.plan.specs.declared.counts.Fork.{Fork}
@@ -38,6 +40,10 @@ total x y p d (node l r) =
 
 abbrev pub counted : Role → ℕ → Tree → Tally
 counted p d t = record { umbrellas = total 1 0 p d t; stems = total 0 1 p d t }
+
+-- the counts of a plan
+abbrev pub totalsOf : {t : Tree} → Plan t → Totals
+totalsOf p = record { levels = levels p; umbrellas = umbrellas p; stems = stems p }
 
 -- a piece beyond a triangle, with k levels under the umbrella
 abbrev pub spot : ℕ → Piece → Role → Spot

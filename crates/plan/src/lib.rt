@@ -2,19 +2,22 @@
 // The crates tree and levels hold the part's tree and the numbers of its pieces; counts.rt counts the umbrellas and stems of the plan drawn.
 // The definitions that the contracts cite are in specs/; Answer.antt says what the operation answers.
 ghost use mathlib.Core.Path.{_≡_};
-ghost use Prim.Native.Nat.{_≤_};
-ghost use Rattle.polygon.specs.Polygon.{Triangulated};
-ghost use Rattle.polygon.specs.Tree.{treeOf};
-ghost use Rattle.keys.specs.Keys.{edgesOf};
-ghost use Rattle.umbrella.specs.Best.{best};
-ghost use Rattle.plan.specs.Answer.{plannedOf, countsOf, planned};
+ghost use Prim.Native.Nat.{ℕ};
+ghost use Rattle.polygon.specs.Tree.{Tree};
+ghost use Rattle.sheet.specs.Held.{polygonOf, InHand};
+ghost use Rattle.umbrella.specs.Best.{best, planOf};
+ghost use Rattle.levels.specs.Numbered.{Filled};
+ghost use Rattle.plan.specs.Counts.{totalsOf};
+ghost use Rattle.plan.specs.Answer.{plannedOf, planned};
 use crate::counts::count;
 use levels::NUMBERS;
 use levels::fill;
 use levels::numbers;
+use sheet::Head;
 use sheet::Read;
 use sheet::reader::read_sheet;
 use tree::PLACES;
+use tree::Piece;
 use umbrella::roles::Role;
 
 pub mod counts;
@@ -25,18 +28,37 @@ pub enum Planned {
     Refused(u16),
 }
 
-// The counts of a part of n corners from the keys of its diagonals.
-pub fn plan_part(keys: &[u32], n: usize) -> Planned
-    requires { ⌜ Triangulated n (edgesOf (now keys)) ⌝ }
-    requires { ⌜ n ≤ 1024 ⌝ }
-    ensures { λ r. ⌜ plannedOf r ≡ countsOf (best (treeOf n (edgesOf (now (keys .entry))))) ⌝ }
+// Levels, umbrellas and stems.
+pub struct Totals {
+    pub levels: u16,
+    pub umbrellas: u16,
+    pub stems: u16,
+}
+
+// The counts of a part whose tables are filled.
+pub fn counts_of(tree: &[u32; PLACES], depths: &[u16; NUMBERS], p: Piece) -> Totals
+    requires { ⌜ ((n : ℕ) × (t : Tree) × Filled n t (now tree) (now depths) p) ⌝ }
+    ensures { λ r. ⌜ ((n : ℕ) (t : Tree) → Filled n t (now (tree .entry)) (now (depths .entry)) p → r ≡ totalsOf (best t)) ⌝ }
 {
+    let s = numbers(depths, p.e as usize);
+    let t = count(tree, depths, p, Role::Hung, 0);
+    Totals {
+        levels: s.ud,
+        umbrellas: t.umbrellas,
+        stems: t.stems,
+    }
+}
+
+// The counts of a part in hand.
+pub fn plan_part(h: Head, keys: &[u32]) -> Totals
+    requires { ⌜ InHand h (now keys) ⌝ }
+    ensures { λ r. ⌜ r ≡ totalsOf (planOf (polygonOf h (now (keys .entry)))) ⌝ }
+{
+    let m = h.n - 3;
     let mut tree = [0u32; PLACES];
     let mut depths = [0u16; NUMBERS];
-    let p = fill(keys, n, &mut tree, &mut depths);
-    let s = numbers(&depths, p.e as usize);
-    let t = count(&tree, &depths, p, Role::Hung, 0);
-    Planned::Counts(s.ud, t.umbrellas, t.stems)
+    let p = fill(&keys[..m], h.n, &mut tree, &mut depths);
+    counts_of(&tree, &depths, p)
 }
 
 // Plan.
@@ -47,9 +69,8 @@ pub fn plan(sheet: &[u8]) -> Planned
     match read_sheet(sheet, &mut keys) {
         Read::Refused(k) => Planned::Refused(k),
         Read::Held(h) => {
-            let n = h.n;
-            let m = n - 3;
-            plan_part(&keys[..m], n)
+            let c = plan_part(h, &keys);
+            Planned::Counts(c.levels, c.umbrellas, c.stems)
         }
     }
 }

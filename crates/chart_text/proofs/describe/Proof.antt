@@ -3,17 +3,13 @@ use borrow.Author.Needs.{needs}
 use mathlib.Core.Path.{sym}
 use native.Mathlib.Omega.{arith}
 use Rattle.sheet.specs.Sheet.{Reading}
-use Rattle.sheet.specs.Held.{InHand}
-use Rattle.sheet.proofs.Hand.{read-is, in-hand, keys-lie, keys-count}
+use Rattle.sheet.proofs.Hand.{read-is, in-hand}
 use Rattle.log_line.proofs.Size.{refused-size}
 use Rattle.chart_reader.specs.Decode.{chartIn}
 use Rattle.chart_text.specs.Text.{describedAs, described}
 use Rattle.chart_text.proofs.Described.{read-formed}
 use Rattle.chart_text.proofs.describe.Statement.{statement}
 use Rattle.chart_text.proofs.describe.Tie as tie
-
-part : (c : tie.After-h) → InHand (c .h .given .0 .0) (c .before .before .before .read-part .last .1 .0)
-part c = in-hand (c .before .before .before .read-part .ensures) (c .h .given .1)
 
 slice-aggregate-read-part : tie.Need-slice-aggregate-read-part
 slice-aggregate-read-part c = search needs
@@ -33,20 +29,15 @@ put-refused-requires c κs = search needs
 enum-known-h : tie.Need-enum-known-h
 enum-known-h c = search needs
 
-sub-m : tie.Need-sub-m
-sub-m c = part (c .before .before) .valid .least
-
-array-share-prefix-keys : tie.Need-array-share-prefix-keys
-array-share-prefix-keys c = omega (arith, keys-lie (part (c .before .before)), c .before .before .before .before .before .read-part .kept)
-
 slice-aggregate-describe-part : tie.Need-slice-aggregate-describe-part
-slice-aggregate-describe-part c = sym (keys-count (part (c .before .before .before)))
+slice-aggregate-describe-part c = search needs
 
 describe-part-requires : tie.Need-describe-part-requires
 describe-part-requires c κs =
-    let at-h = c .before .before .before .before in
-    let reads = read-is (λ (q : Reading). q) (at-h .before .before .before .read-part .ensures) (at-h .h .given .1) in
-    (part at-h .valid, (read-formed (at-h .before .before .before .before .before .before .args .chart .now) _ (sym reads), omega arith))
+    let at-h = c .before .before .before in
+    let read = at-h .before .before .before .read-part .ensures in
+    let is = at-h .h .given .1 in
+    (in-hand read is, (read-formed (at-h .before .before .before .before .before .before .args .chart .now) _ (sym (read-is (λ (q : Reading). q) read is)), omega arith))
 
 returns : tie.Need-returns
 unfolding described describedAs
@@ -58,9 +49,9 @@ returns c =
 returns-2 : tie.Need-returns-2
 unfolding described
 returns-2 c =
-    let at-h = c .before .before .before .before .before in
+    let at-h = c .before .before .before .before in
     let said = read-is (describedAs (chartIn (at-h .before .before .before .before .before .before .args .chart .now))) (at-h .before .before .before .read-part .ensures) (at-h .h .given .1) in
     (rw (← said) (c .describe-part .ensures .0), c .describe-part .ensures .1)
 
 pub describe-spec : {M : Type 1} → statement M
-describe-spec = tie.close (tie.spec slice-aggregate-read-part read-part-requires enum-known-k cast-put-refused put-refused-requires enum-known-h sub-m array-share-prefix-keys slice-aggregate-describe-part describe-part-requires returns returns-2)
+describe-spec = tie.close (tie.spec slice-aggregate-read-part read-part-requires enum-known-k cast-put-refused put-refused-requires enum-known-h slice-aggregate-describe-part describe-part-requires returns returns-2)

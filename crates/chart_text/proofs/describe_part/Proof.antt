@@ -7,7 +7,7 @@ use lib.ListN.{length, take}
 use lib.Seq.{length-take-le}
 use Rattle.log_line.proofs.Putting.{put-then}
 use Rattle.log_line.proofs.Size.{line-size}
-use Rattle.sheet.specs.Held.{partOf}
+use Rattle.sheet.specs.Held.{polygonOf}
 use Rattle.chart_reader.specs.Decode.{chartIn}
 use Rattle.chart_reader.specs.Held.{Placed}
 use Rattle.chart_reader.proofs.Stroked.{bars-room}
@@ -31,7 +31,7 @@ head-size : (c : tie.After-put-head)
     → (c .put-head .result ≤ 256) × (length (c .put-head .last .1 .1 .1 .0) ≡ length (c .before .before .before .before .before .before .before .before .args .out .now))
 head-size c =
     let start = c .before .before .before .before .before .before .before .before in
-    (omega (arith, c .put-head .ensures .end, line-size (chartFacts (chartIn (start .args .chart .now)) (partOf (start .args .h) (start .args .keys .now)))), c .put-head .kept .1 .1 .1 .0)
+    (omega (arith, c .put-head .ensures .end, line-size (chartFacts (chartIn (start .args .chart .now)) (polygonOf (start .args .h) (start .args .keys .now)))), c .put-head .kept .1 .1 .1 .0)
 
 slice-aggregate-frame : tie.Need-slice-aggregate-frame
 slice-aggregate-frame c = search needs

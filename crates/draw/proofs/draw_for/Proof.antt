@@ -2,16 +2,13 @@
 use borrow.Author.Needs.{needs}
 use mathlib.Core.Path.{_≡_, ap, sym, _∙_}
 use mathlib.Core.List.{List, map}
-use native.Mathlib.Omega.{arith}
 use Rattle.polygon.specs.Polygon.{Polygon}
-use Rattle.polygon.specs.Tree.{treeOf}
 use Rattle.codec.specs.Answer.{answered, written, write}
 use Rattle.codec.specs.declared.Written.{Written}
 use Rattle.sheet.specs.Sheet.{Reading, held}
 use Rattle.sheet.specs.Held.{polygonOf, InHand}
-use Rattle.sheet.proofs.Hand.{read-is, in-hand, keys-lie, keys-count}
-use Rattle.umbrella.specs.Best.{best}
-use Rattle.chart.specs.Chart.{chart}
+use Rattle.sheet.proofs.Hand.{read-is, in-hand}
+use Rattle.chart.specs.Chart.{chartOf}
 use Rattle.chart.specs.Bytes.{bytesOf}
 use Rattle.bar_list.specs.declared.Bar.{Bar}
 use Rattle.bar_list.specs.OfChart.{barOf}
@@ -47,26 +44,19 @@ enum-known-k c = search needs
 enum-known-h : tie.Need-enum-known-h
 enum-known-h c = search needs
 
-sub-m : tie.Need-sub-m
-sub-m c = part (c .before) .valid .least
-
 returns : tie.Need-returns
 returns c =
     let at-h = c .before .before in
     (λ bars l. for-few (held-part at-h) (part at-h .valid .triangulated) (start at-h .args .out .now) (start at-h .args .room) (c .if1 .taken) bars l ∙ whole at-h bars, tt)
 
-array-share-prefix-keys : tie.Need-array-share-prefix-keys
-array-share-prefix-keys c = omega (arith, keys-lie (part (c .before .before)), c .before .before .before .before .before .read-sheet .kept)
-
 slice-aggregate-draw-part : tie.Need-slice-aggregate-draw-part
-slice-aggregate-draw-part c = sym (keys-count (part (c .before .before .before)))
+slice-aggregate-draw-part c = search needs
 
 draw-part-requires : tie.Need-draw-part-requires
-draw-part-requires c κs = let P = part (c .before .before .before .before) .valid in (P .triangulated, (P .least, P .most))
+draw-part-requires c κs = part (c .before .before .before .before)
 
 -- the answer of draw_part, in its case w
-drew : (c : tie.After-draw-part) (w : Written) → c .draw-part .result ≡ w
-    → answered w (c .draw-part .last .1 .1 .0) ≡ written (write (bytesOf (chart (best (treeOf (held-part (c .before .before .before .before .before) .n) (held-part (c .before .before .before .before .before) .ds)))))) (start (c .before .before .before .before .before) .args .out .now)
+drew : (c : tie.After-draw-part) (w : Written) → c .draw-part .result ≡ w → answered w (c .draw-part .last .1 .1 .0) ≡ written (write (bytesOf (chartOf (held-part (c .before .before .before .before .before))))) (start (c .before .before .before .before .before) .args .out .now)
 drew c w e = ap (λ (v : Written). answered v (c .draw-part .last .1 .1 .0)) (sym e) ∙ c .draw-part .ensures
 
 enum-known-k-2 : tie.Need-enum-known-k-2
@@ -84,23 +74,27 @@ same-length c = search needs
 
 returns-3 : tie.Need-returns-3
 returns-3 c =
-    let at-h = c .before .before .before .before .before .before .before .before .before .before in
-    let s = start at-h in
-    let law = for-none (held-part at-h) (part at-h .valid .triangulated) (s .args .out .now) (s .args .room) (c .before .before .before .before .before .before .before .before .if1 .left) (c .before .before .before .before .before .draw-part .last .1 .1 .0) (c .before .k2 .given .0 .0) in
-    (λ bars l. law (drew (c .before .before .before .before .before) _ (c .before .k2 .given .1)) bars l ∙ whole at-h bars, tt)
+    let at-draw = c .before .before .before .before .before in
+    let at-h = at-draw .before .before .before .before .before in
+    let s = start at-h .args in
+    let law = for-none (held-part at-h) (part at-h .valid .triangulated) (s .out .now) (s .room) (c .before .before .before .before .before .before .before .before .if1 .left) (at-draw .draw-part .last .1 .1 .0) (c .before .k2 .given .0 .0) in
+    (λ bars l. law (drew at-draw _ (c .before .k2 .given .1)) bars l ∙ whole at-h bars, tt)
 
 same-length-2 : tie.Need-same-length-2
 same-length-2 c = search needs
 
 returns-4 : tie.Need-returns-4
 returns-4 c =
-    let at-h = c .before .before .before .before .before .before .before .before .before .before in
-    let s = start at-h in
+    let at-draw = c .before .before .before .before .before in
+    let at-h = at-draw .before .before .before .before .before in
+    let s = start at-h .args in
     let T = part at-h .valid .triangulated in
-    let e = drew (c .before .before .before .before .before) _ (c .before .size .given .1) in (
-      λ bars l. for-chart (held-part at-h) T (s .args .out .now) (s .args .room) (c .before .before .before .before .before .before .before .before .if1 .left) (c .before .before .before .before .before .draw-part .last .1 .1 .0) _ e bars l ∙ whole at-h bars,
-      chart-fits (held-part at-h) T (s .args .out .now) (s .args .room) (c .before .before .before .before .before .before .before .before .if1 .left) (c .before .before .before .before .before .draw-part .last .1 .1 .0) _ e,
+    let enough = c .before .before .before .before .before .before .before .before .if1 .left in
+    let after = at-draw .draw-part .last .1 .1 .0 in
+    let e = drew at-draw _ (c .before .size .given .1) in (
+      λ bars l. for-chart (held-part at-h) T (s .out .now) (s .room) enough after _ e bars l ∙ whole at-h bars,
+      chart-fits (held-part at-h) T (s .out .now) (s .room) enough after _ e,
     )
 
 pub draw-for-spec : {M : Type 1} → statement M
-draw-for-spec = tie.close (tie.spec slice-aggregate-read-sheet read-sheet-requires enum-known-k enum-known-h sub-m returns array-share-prefix-keys slice-aggregate-draw-part draw-part-requires enum-known-k-2 enum-known-size returns-2 same-length returns-3 same-length-2 returns-4)
+draw-for-spec = tie.close (tie.spec slice-aggregate-read-sheet read-sheet-requires enum-known-k enum-known-h returns slice-aggregate-draw-part draw-part-requires enum-known-k-2 enum-known-size returns-2 same-length returns-3 same-length-2 returns-4)

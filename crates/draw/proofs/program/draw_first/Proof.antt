@@ -1,67 +1,71 @@
--- Of the sheet that is the first of the bytes lent, the line and the chart: by the laws of Inputs.antt.
-use borrow.Author.Needs.{needs}
-use mathlib.Core.Path.{sym}
+-- By what was read of the sheet, which is the first of the bytes lent.
+use mathlib.Core.Path.{sym, _∙_}
 use native.Mathlib.Omega.{arith}
-use lib.ListN.{take}
+use borrow.Author.Needs.{needs}
 use lib.Seq.{length-take-le}
-use Rattle.codec.proofs.Answers.{bytes-left}
-use Rattle.draw.proofs.Size.{drawn-bytes}
-use Rattle.draw.proofs.Inputs.{line-front, line-lent, none-saved, chart-saved, output-is}
+use Rattle.sheet.specs.Sheet.{Reading}
+use Rattle.sheet.proofs.Hand.{read-is, in-hand}
+use Rattle.log_line.proofs.Size.{refused-size}
+use Rattle.draw.specs.Program.{outputOf, output}
+use Rattle.draw.proofs.Inputs.{refusal-shown}
 use Rattle.draw.proofs.program.draw_first.Statement.{statement}
 use Rattle.draw.proofs.program.draw_first.Tie as tie
 
-slice-aggregate-sheet : tie.Need-slice-aggregate-sheet
-slice-aggregate-sheet c =
-    let start = c .before .before .before .before in
-    sym (length-take-le (start .args .end) (start .args .lent .now) (omega (arith, start .pre)))
+slice-aggregate-read-sheet : tie.Need-slice-aggregate-read-sheet
+slice-aggregate-read-sheet c = let start = c .before .before .before .before in sym (length-take-le (start .args .end) (start .args .lent .now) (start .pre .0))
 
-line-requires : tie.Need-line-requires
-line-requires c κs = search needs
+slice-aggregate-read-sheet-2 : tie.Need-slice-aggregate-read-sheet-2
+slice-aggregate-read-sheet-2 c = search needs
 
-draw-requires : tie.Need-draw-requires
-draw-requires c κs = search needs
-
-enum-told : tie.Need-enum-told
-enum-told c = search needs
+read-sheet-requires : tie.Need-read-sheet-requires
+read-sheet-requires c κs = search needs
 
 enum-known-k : tie.Need-enum-known-k
 enum-known-k c = search needs
 
+cast-put-refused : tie.Need-cast-put-refused
+cast-put-refused c = search needs
+
+put-refused-requires : tie.Need-put-refused-requires
+put-refused-requires c κs = search needs
+
+enum-known-h : tie.Need-enum-known-h
+enum-known-h c = search needs
+
+slice-aggregate-show-part : tie.Need-slice-aggregate-show-part
+slice-aggregate-show-part c = search needs
+
+show-part-requires : tie.Need-show-part-requires
+show-part-requires c κs =
+    let start = c .before .before .before .before .before .before .before .before .before .before .before .before .before in
+    (in-hand (c .before .before .before .before .before .before .before .read-sheet .ensures) (c .before .before .before .before .h .given .1), (start .pre .1, start .pre .2))
+
 same-length : tie.Need-same-length
 same-length c = search needs
+
+returns : tie.Need-returns
+unfolding output
+returns c =
+    let start = c .before .before .before .before .before .before .before .before .before .before .before .before .before .before in
+    let wrote = c .before .before .put-refused in
+    let k = c .before .before .before .before .before .k .given in (
+      refusal-shown _ _ (start .pre .2) (wrote .ensures) ∙ read-is (λ (q : Reading). outputOf q (start .args .chart .now) (start .args .text .now)) (c .before .before .before .before .before .before .before .before .read-sheet .ensures) (k .1),
+      omega (arith, wrote .ensures .end, refused-size (k .0 .0), wrote .kept .1 .0, start .pre .2),
+    )
 
 same-length-2 : tie.Need-same-length-2
 same-length-2 c = search needs
 
-returns : tie.Need-returns
-returns c =
-    let at-draw = c .before .before .before .before in
-    let at-line = at-draw .before .before .before .before in
-    let start = at-line .before .before .before .before .before .before in
-    let s = take (start .args .end) (start .args .lent .now) in (
-      output-is s _ _ (none-saved s _ _ (at-draw .draw .result) _ (start .pre .1) (at-draw .draw .ensures) (c .enum-told .given .1)) (line-front s (start .pre .2) (at-line .line .ensures .0))
-          (bytes-left (at-draw .draw .result) _ (at-draw .draw .ensures)) (line-lent s (start .pre .2) (at-line .line .ensures .0)),
-      omega (arith, at-line .line .ensures .1, at-line .line .kept .1 .0, start .pre),
-    )
-
 same-length-3 : tie.Need-same-length-3
 same-length-3 c = search needs
 
-same-length-4 : tie.Need-same-length-4
-same-length-4 c = search needs
-
 returns-2 : tie.Need-returns-2
+unfolding output
 returns-2 c =
-    let at-k = c .before in
-    let at-draw = at-k .before .before .before .before in
-    let at-line = at-draw .before .before .before .before in
-    let start = at-line .before .before .before .before .before .before in
-    let s = take (start .args .end) (start .args .lent .now) in (
-      output-is s _ _ (chart-saved s _ _ (at-draw .draw .result) _ (start .pre .1) (at-draw .draw .ensures) (at-k .k .given .1)) (line-front s (start .pre .2) (at-line .line .ensures .0))
-          (bytes-left (at-draw .draw .result) _ (at-draw .draw .ensures)) (line-lent s (start .pre .2) (at-line .line .ensures .0)),
-      (omega (arith, drawn-bytes s _ _ (at-draw .draw .result) _ (at-draw .draw .ensures) (at-k .k .given .1), at-draw .draw .kept .1 .0, start .pre), omega (arith, at-line .line .ensures .1, at-line .line .kept .1 .0, start .pre)),
-    )
+    let start = c .before .before .before .before .before .before .before .before .before .before .before .before .before .before .before .before .before .before in
+    let (done, within) = c .before .before .before .before .show-part .ensures in
+    (done ∙ read-is (λ (q : Reading). outputOf q (start .args .chart .now) (start .args .text .now)) (c .before .before .before .before .before .before .before .before .before .before .before .before .read-sheet .ensures) (c .before .before .before .before .before .before .before .before .before .h .given .1), within)
 
 pub draw-first-spec : {M : Type 1} → statement M
 draw-first-spec =
-    tie.close (tie.spec slice-aggregate-sheet line-requires draw-requires enum-told enum-known-k same-length same-length-2 returns same-length-3 same-length-4 returns-2)
+    tie.close (tie.spec slice-aggregate-read-sheet slice-aggregate-read-sheet-2 read-sheet-requires enum-known-k cast-put-refused put-refused-requires enum-known-h slice-aggregate-show-part show-part-requires same-length returns same-length-2 same-length-3 returns-2)

@@ -1,0 +1,48 @@
+-- By the laws of Charting.antt, of what was placed.
+use mathlib.Core.Path.{ap, sym, _∙_}
+use mathlib.Core.List.{List}
+use Prim.Native.Nat.{ℕ}
+use native.Mathlib.Omega.{arith}
+use Rattle.codec.specs.Answer.{written, write}
+use Rattle.draw.proofs.Charting.{placed-sizes, count, placed-asks, placed-edges, placed-among, placed-laid, placed-chart, placed-rows, placed-columns}
+use borrow.Author.Needs.{needs}
+use Rattle.draw.proofs.write_part.Statement.{statement}
+use Rattle.draw.proofs.write_part.Tie as tie
+
+place-requires : tie.Need-place-requires
+place-requires c κs = search needs
+
+array-share-prefix-columns : tie.Need-array-share-prefix-columns
+array-share-prefix-columns c =
+    let (least, (t, F)) = c .before .before .before .before .before .pre in
+    let P = c .before .place .ensures t F in
+    omega (arith, placed-sizes F least P, P .columns-kept)
+
+slice-aggregate-write-chart : tie.Need-slice-aggregate-write-chart
+slice-aggregate-write-chart c = let (least, (t, F)) = c .before .before .before .before .before .before .pre in sym (count F least (c .before .before .place .ensures t F))
+
+slice-aggregate-write-chart-2 : tie.Need-slice-aggregate-write-chart-2
+slice-aggregate-write-chart-2 c = let (least, (t, F)) = c .before .before .before .before .before .before .before .pre in sym (c .before .before .before .place .ensures t F .ranks-kept)
+
+write-chart-requires : tie.Need-write-chart-requires
+write-chart-requires c κs =
+    let (least, (t, F)) = c .before .before .before .before .before .before .before .before .pre in
+    let P = c .before .before .before .before .place .ensures t F in
+    (placed-asks F least P, (placed-edges F least P, placed-among F least P))
+
+same-length : tie.Need-same-length
+same-length c = search needs
+
+returns : tie.Need-returns
+returns c t F =
+    let start = c .before .before .before .before .before .before .before .before .before .before .before in
+    let least = start .pre .0 in
+    let P = c .before .before .before .before .before .before .before .place .ensures t F in
+    record {
+      answer = c .before .before .write-chart .ensures _ _ _ _ (placed-laid F least P) ∙ ap (λ (bs : List ℕ). written (write bs) (start .args .out .now)) (placed-chart F least P);
+      rows-are = placed-rows F least P;
+      columns-are = placed-columns F least P;
+    }
+
+pub write-part-spec : {M : Type 1} → statement M
+write-part-spec = tie.close (tie.spec place-requires array-share-prefix-columns slice-aggregate-write-chart slice-aggregate-write-chart-2 write-chart-requires same-length returns)
