@@ -41,7 +41,9 @@ rooms-fit-requires : tie.Need-rooms-fit-requires
 rooms-fit-requires c κs = search needs
 
 returns-4 : tie.Need-returns-4
-returns-4 c = (refused-by (c .before .before .before .before .before .before .before .before .before .before .before) 35 (fault-room _ _ _ _ (omega arith) (known (c .before .before .before)) (omega arith) (c .before .rooms-fit .ensures .1 (not-true _ (c .if4 .taken)))) (omega arith), λ p e z. absurd (omega arith))
+returns-4 c =
+    let at-if2 = c .before .before .before in
+    (refused-by (at-if2 .before .before .before .before .before .before .before .before) 35 (fault-room _ _ _ _ (omega arith) (known at-if2) (omega arith) (c .before .rooms-fit .ensures .1 (not-true _ (c .if4 .taken)))) (omega arith), λ p e z. absurd (omega arith))
 
 run-all-requires : tie.Need-run-all-requires
 run-all-requires c κs = ((c .before .before .before .before .rooms-fit .ensures .0 (not-false _ (c .before .before .before .if4 .left))), omega arith)
@@ -63,7 +65,8 @@ returns-5 c =
     let at-if2 = at-if4 .before .before .before in
     let a = at-shared-slice-known .before .args in
     let r = at-run-all .run-all in
-    let none = fault-none (a .list .now) (length (a .front .now)) (length (a .back .now)) (length (a .numbers .now)) (omega (arith, at-if2 .before .before .if1 .left)) (known at-if2) (omega (arith, at-if4 .before .before .if3 .left)) (at-if4 .before .rooms-fit .ensures .0 (not-false _ (at-if4 .if4 .left))) in
+    let fits = at-if4 .before .rooms-fit .ensures .0 (not-false _ (at-if4 .if4 .left)) in
+    let none = fault-none (a .list .now) (length (a .front .now)) (length (a .back .now)) (length (a .numbers .now)) (omega (arith, at-if2 .before .before .if1 .left)) (known at-if2) (omega (arith, at-if4 .before .before .if3 .left)) fits in
     let q = result-done (a .first .now) (a .list .now) (a .front .now) (a .back .now) (a .numbers .now) (r .result .place) (r .result .size) (r .last .1 .1 .0) (r .last .1 .1 .1 .0) (r .last .1 .1 .1 .1 .0) none (r .ensures .0) (r .ensures .1) in
     (q, ran-model (a .first .now) (a .list .now) (a .front .now) (a .back .now) (a .numbers .now) _ q (all-at 0 (a .first .now) (λ i h. omega (arith, at-shared-slice-known .shared-slice-known .given i))))
 

@@ -62,13 +62,14 @@ same-length-2 c = search needs
 returns-5 : tie.Need-returns-5
 returns-5 c =
     let at-stroke-places = c .before .before .before in
+    let places = at-stroke-places .stroke-places in
     let at-if3 = at-stroke-places .before .before in
     let at-if2 = at-if3 .before in
     let at-get16 = at-if2 .before in
     let at-if1 = at-get16 .before in
     let start = at-if1 .before .before .before in (
       λ h. absurd (omega arith),
-      λ f. framed (start .args .chart .now) (at-get16 .get16 .result) (at-get16 .get16 .ensures .0) (start .args .at .now) (start .pre) (at-if2 .if2 .left) (at-if3 .if3 .left) (at-stroke-places .stroke-places .last .1 .1 .0) (at-if1 .if1 .left) (at-stroke-places .stroke-places .ensures .0 (not-false _ (c .if4 .left))) (at-stroke-places .stroke-places .kept .1 .1 .0),
+      λ f. framed (start .args .chart .now) (at-get16 .get16 .result) (at-get16 .get16 .ensures .0) (start .args .at .now) (start .pre) (at-if2 .if2 .left) (at-if3 .if3 .left) (places .last .1 .1 .0) (at-if1 .if1 .left) (places .ensures .0 (not-false _ (c .if4 .left))) (places .kept .1 .1 .0),
     )
 
 pub frame-spec : {M : Type 1} → statement M

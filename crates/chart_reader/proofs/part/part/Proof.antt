@@ -3,7 +3,9 @@ use mathlib.Core.Bool.{false≢true}
 use mathlib.Core.Path.{sym}
 use borrow.Author.Needs.{needs}
 use borrow.Author.Tests.{not-true, not-false}
+use Prim.Native.Nat.{_≤_}
 use native.Mathlib.Omega.{arith}
+use lib.ListN.{length}
 use lib.Seq.{length-take-le}
 use Rattle.keys.specs.Keys.{edgesOf}
 use Rattle.chart_reader.proofs.Choosing.{wrong-count, chosen-diagonals, part-of, none-part}
@@ -19,27 +21,30 @@ add-if1 c = omega (arith, c .before .before .diagonals .ensures .0)
 same-length : tie.Need-same-length
 same-length c = search needs
 
+-- the diagonals lie in the table
+kept : (c : tie.After-diagonals) → c .diagonals .result ≤ length (c .diagonals .last .1 .1 .0)
+kept c = omega (arith, c .diagonals .ensures .0, c .diagonals .kept .1 .1 .0, c .before .before .before .before .pre .2)
+
 returns : tie.Need-returns
 returns c =
     let at-diagonals = c .before .before .before in
     let start = at-diagonals .before .before .before .before in (
       λ h. absurd (false≢true h),
-      λ h. wrong-count (start .args .n) (edgesOf (start .args .edges .now)) (start .pre .0) (at-diagonals .diagonals .last .1 .1 .0) (at-diagonals .diagonals .result) (omega (arith, at-diagonals .diagonals .ensures .0, at-diagonals .diagonals .kept .1 .1 .0, start .pre .2)) (at-diagonals .diagonals .ensures .1) (c .if1 .taken),
+      λ h. wrong-count (start .args .n) (edgesOf (start .args .edges .now)) (start .pre .0) (at-diagonals .diagonals .last .1 .1 .0) (at-diagonals .diagonals .result) (kept at-diagonals) (at-diagonals .diagonals .ensures .1) (c .if1 .taken),
     )
 
 slice-reshare-prefix-crosses : tie.Need-slice-reshare-prefix-crosses
-slice-reshare-prefix-crosses c = omega (arith, c .before .before .before .diagonals .ensures .0, c .before .before .before .diagonals .kept .1 .1 .0, c .before .before .before .before .before .before .before .pre .2)
+slice-reshare-prefix-crosses c = kept (c .before .before .before)
 
 slice-aggregate-crosses : tie.Need-slice-aggregate-crosses
-slice-aggregate-crosses c =
-    sym (length-take-le _ (c .before .before .before .before .diagonals .last .1 .1 .0) (omega (arith, c .before .before .before .before .diagonals .ensures .0, c .before .before .before .before .diagonals .kept .1 .1 .0, c .before .before .before .before .before .before .before .before .pre .2)))
+slice-aggregate-crosses c = sym (length-take-le _ (c .before .before .before .before .diagonals .last .1 .1 .0) (kept (c .before .before .before .before)))
 
 crosses-requires : tie.Need-crosses-requires
 crosses-requires c κs =
     let at-diagonals = c .before .before .before .before in
     let start = at-diagonals .before .before .before .before in (
-      chosen-diagonals (start .args .n) (edgesOf (start .args .edges .now)) (start .pre .0) (at-diagonals .diagonals .last .1 .1 .0) (at-diagonals .diagonals .result) (omega (arith, at-diagonals .diagonals .ensures .0, at-diagonals .diagonals .kept .1 .1 .0, start .pre .2)) (at-diagonals .diagonals .ensures .1),
-      (start .pre .1, omega (arith, c .before .if1 .left, length-take-le (at-diagonals .diagonals .result) (at-diagonals .diagonals .last .1 .1 .0) (omega (arith, at-diagonals .diagonals .ensures .0, at-diagonals .diagonals .kept .1 .1 .0, start .pre .2)))),
+      chosen-diagonals (start .args .n) (edgesOf (start .args .edges .now)) (start .pre .0) (at-diagonals .diagonals .last .1 .1 .0) (at-diagonals .diagonals .result) (kept at-diagonals) (at-diagonals .diagonals .ensures .1),
+      (start .pre .1, omega (arith, c .before .if1 .left, length-take-le (at-diagonals .diagonals .result) (at-diagonals .diagonals .last .1 .1 .0) (kept at-diagonals))),
     )
 
 same-length-2 : tie.Need-same-length-2
@@ -52,8 +57,8 @@ returns-2 c =
     let start = at-diagonals .before .before .before .before in
     let edges = start .args .edges .now in
     let n = start .args .n in (
-      λ h. part-of n (edgesOf edges) (start .pre .0) (at-diagonals .diagonals .last .1 .1 .0) (at-diagonals .diagonals .result) (omega (arith, at-diagonals .diagonals .ensures .0, at-diagonals .diagonals .kept .1 .1 .0, start .pre .2)) (at-diagonals .diagonals .ensures .1) (at-if1 .if1 .left) (c .crosses .ensures .0 (not-true _ h)),
-      λ h. none-part n (edgesOf edges) (start .pre .0) (at-diagonals .diagonals .last .1 .1 .0) (at-diagonals .diagonals .result) (omega (arith, at-diagonals .diagonals .ensures .0, at-diagonals .diagonals .kept .1 .1 .0, start .pre .2)) (at-diagonals .diagonals .ensures .1) (at-if1 .if1 .left) (c .crosses .ensures .1 (not-false _ h)),
+      λ h. part-of n (edgesOf edges) (start .pre .0) (at-diagonals .diagonals .last .1 .1 .0) (at-diagonals .diagonals .result) (kept at-diagonals) (at-diagonals .diagonals .ensures .1) (at-if1 .if1 .left) (c .crosses .ensures .0 (not-true _ h)),
+      λ h. none-part n (edgesOf edges) (start .pre .0) (at-diagonals .diagonals .last .1 .1 .0) (at-diagonals .diagonals .result) (kept at-diagonals) (at-diagonals .diagonals .ensures .1) (at-if1 .if1 .left) (c .crosses .ensures .1 (not-false _ h)),
     )
 
 pub part-spec : {M : Type 1} → statement M

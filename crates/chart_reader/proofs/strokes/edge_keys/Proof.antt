@@ -53,7 +53,7 @@ returns c =
     let at-loop = at-loop-test .before in
     let start = at-loop .before .before .before .before in (
       λ h. absurd (false≢true h),
-      λ h. not-named (start .args .chart .now) (start .args .n) (start .args .at .now) (length (start .args .keys .now)) (at-loop .loop .keys) (at-loop .loop .i) (at-loop .loop .inv) (start .pre .0) (at-loop-test .loop-test .taken) (at-get16 .get16 .result) (c .before .get162 .result) (at-get16 .get16 .ensures .0) (c .before .get162 .ensures .0) (λ q. omega arith),
+      λ h. not-named _ _ _ _ (at-loop .loop .keys) (at-loop .loop .i) (at-loop .loop .inv) (start .pre .0) (at-loop-test .loop-test .taken) (at-get16 .get16 .result) (c .before .get162 .result) (at-get16 .get16 .ensures .0) (c .before .get162 .ensures .0) (λ q. omega arith),
     )
 
 same-length-2 : tie.Need-same-length-2 Inv-loop μ-loop
@@ -67,7 +67,7 @@ returns-2 c =
     let at-loop = at-loop-test .before in
     let start = at-loop .before .before .before .before in (
       λ h. absurd (false≢true h),
-      λ h. not-named (start .args .chart .now) (start .args .n) (start .args .at .now) (length (start .args .keys .now)) (at-loop .loop .keys) (at-loop .loop .i) (at-loop .loop .inv) (start .pre .0) (at-loop-test .loop-test .taken) (at-get16 .get16 .result) (at-get162 .get162 .result) (at-get16 .get16 .ensures .0) (at-get162 .get162 .ensures .0) (λ q. omega arith),
+      λ h. not-named _ _ _ _ (at-loop .loop .keys) (at-loop .loop .i) (at-loop .loop .inv) (start .pre .0) (at-loop-test .loop-test .taken) (at-get16 .get16 .result) (at-get162 .get162 .result) (at-get16 .get16 .ensures .0) (at-get162 .get162 .ensures .0) (λ q. omega arith),
     )
 
 key-requires : tie.Need-key-requires Inv-loop μ-loop

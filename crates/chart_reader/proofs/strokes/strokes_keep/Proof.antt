@@ -51,8 +51,9 @@ returns-3 c =
     let at-ascends = c .before .before in
     let at-if1 = at-ascends .before .before in
     let at-edge-keys = at-if1 .before .before .before in
+    let named = at-edge-keys .edge-keys .ensures .0 (not-false _ (at-if1 .if1 .left)) in
     let start = at-edge-keys .before .before .before .before .before in (
-      λ h. (((at-edge-keys .edge-keys .ensures .0 (not-false _ (at-if1 .if1 .left))) .0, keys-ascend (take (length (start .args .at .now)) (at-edge-keys .edge-keys .last .1 .1 .1 .0)) _ (at-ascends .ascends .result) ((at-edge-keys .edge-keys .ensures .0 (not-false _ (at-if1 .if1 .left))) .1) (at-ascends .ascends .ensures) (not-false _ (c .before .if2 .left)), c .all-fit .ensures .0 h), (at-edge-keys .edge-keys .ensures .0 (not-false _ (at-if1 .if1 .left))) .1),
+      λ h. ((named .0, keys-ascend (take (length (start .args .at .now)) (at-edge-keys .edge-keys .last .1 .1 .1 .0)) _ (at-ascends .ascends .result) (named .1) (at-ascends .ascends .ensures) (not-false _ (c .before .if2 .left)), c .all-fit .ensures .0 h), named .1),
       λ h R. c .all-fit .ensures .1 h (R .2),
     )
 
