@@ -61,11 +61,13 @@ loop-less c = omega arith
 loop-again : tie.Need-loop-again Inv-loop μ-loop
 loop-again c =
     let at-loop = c .before .before .before in
-    let start = at-loop .before .before .before .before .before in (
+    let start = at-loop .before .before .before .before .before in
+    let keys = start .args .keys .now in
+    let j = at-loop .loop .j in (
       omega arith,
       simp length-set (at-loop .loop .inv .1),
-      rw (edges-next (start .args .keys .now) (at-loop .loop .j) (c .before .before .loop-test .taken))
-          (near-next (start .args .n) (start .args .c) (edgesOf (take (at-loop .loop .j) (start .args .keys .now))) (edgeOf (getD (start .args .keys .now) (at-loop .loop .j) 0)) (at-loop .loop .near) (at-loop .loop .inv .2) (start .pre .0 .1) (at-loop .loop .inv .1) (c .other-end .result) (c .other-end .ensures)),
+      rw (edges-next keys j (c .before .before .loop-test .taken))
+          (near-next (start .args .n) (start .args .c) (edgesOf (take j keys)) (edgeOf (getD keys j 0)) (at-loop .loop .near) (at-loop .loop .inv .2) (start .pre .0 .1) (at-loop .loop .inv .1) (c .other-end .result) (c .other-end .ensures)),
     )
 
 same-length : tie.Need-same-length Inv-loop μ-loop

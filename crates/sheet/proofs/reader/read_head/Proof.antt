@@ -35,7 +35,9 @@ agrees-requires : tie.Need-agrees-requires
 agrees-requires c κs = search needs
 
 returns-7 : tie.Need-returns-7
-returns-7 c = disagrees (c .before .before .before .before .before .before .before .before .before .before .before .args .sheet .now) (c .before .before .before .before .get16 .result) (omega arith) (omega arith) (omega arith) (omega arith) (c .before .before .before .before .get16 .ensures .0) (omega arith) (omega arith) (c .before .agrees .ensures .1 (not-true _ (c .if7 .taken)))
+returns-7 c =
+    let start = c .before .before .before .before .before .before .before .before .before .before .before in
+    disagrees (start .args .sheet .now) (c .before .before .before .before .get16 .result) (omega arith) (omega arith) (omega arith) (omega arith) (c .before .before .before .before .get16 .ensures .0) (omega arith) (omega arith) (c .before .agrees .ensures .1 (not-true _ (c .if7 .taken)))
 
 behind-requires : tie.Need-behind-requires
 behind-requires c κs = search needs
@@ -53,16 +55,31 @@ add-if8 : tie.Need-add-if8
 add-if8 c = search needs
 
 returns-8 : tie.Need-returns-8
-returns-8 c = inexact (c .before .before .before .before .before .before .before .before .before .before .before .before .before .args .sheet .now) (c .before .before .before .before .before .before .get16 .result) (omega arith) (omega arith) (omega arith) (omega arith) (c .before .before .before .before .before .before .get16 .ensures .0) (omega arith) (omega arith) (c .before .before .before .agrees .ensures .0 (not-false _ (c .before .before .if7 .left))) (c .before .behind .result) (c .before .behind .ensures .0) (c .if8 .taken)
+returns-8 c =
+    inexact (c .before .before .before .before .before .before .before .before .before .before .before .before .before .args .sheet .now) (c .before .before .before .before .before .before .get16 .result)
+    (omega arith) (omega arith) (omega arith) (omega arith) (c .before .before .before .before .before .before .get16 .ensures .0) (omega arith) (omega arith)
+    (c .before .before .before .agrees .ensures .0 (not-false _ (c .before .before .if7 .left))) (c .before .behind .result) (c .before .behind .ensures .0) (c .if8 .taken)
 
 get32-requires : tie.Need-get32-requires
 get32-requires c κs = search needs
 
 returns-9 : tie.Need-returns-9
-returns-9 c = numbered (c .before .before .before .before .before .before .before .before .before .before .before .before .before .before .before .args .sheet .now) (c .before .before .before .before .before .before .before .before .get16 .result) (omega arith) (omega arith) (omega arith) (omega arith) (c .before .before .before .before .before .before .before .before .get16 .ensures .0) (omega arith) (omega arith) (c .before .before .before .before .before .agrees .ensures .0 (not-false _ (c .before .before .before .before .if7 .left))) (c .before .before .before .behind .result) (c .before .before .before .behind .ensures .0) (c .before .before .if8 .left) (c .before .if9 .taken) _ (c .get32 .ensures .0) (c .get32 .ensures .1)
+returns-9 c =
+    let at-behind = c .before .before .before in
+    let at-if7 = at-behind .before in
+    let at-get16 = at-if7 .before .before .before .before in
+    let start = at-get16 .before .before .before .before .before .before .before in
+    numbered (start .args .sheet .now) (at-get16 .get16 .result) (omega arith) (omega arith) (omega arith) (omega arith) (at-get16 .get16 .ensures .0) (omega arith) (omega arith) (at-if7 .before .agrees .ensures .0 (not-false _ (at-if7 .if7 .left))) (at-behind .behind .result)
+    (at-behind .behind .ensures .0) (c .before .before .if8 .left) (c .before .if9 .taken) _ (c .get32 .ensures .0) (c .get32 .ensures .1)
 
 returns-10 : tie.Need-returns-10
-returns-10 c = unnumbered (c .before .before .before .before .before .before .before .before .before .before .before .before .before .before .args .sheet .now) (c .before .before .before .before .before .before .before .get16 .result) (omega arith) (omega arith) (omega arith) (omega arith) (c .before .before .before .before .before .before .before .get16 .ensures .0) (omega arith) (omega arith) (c .before .before .before .before .agrees .ensures .0 (not-false _ (c .before .before .before .if7 .left))) (c .before .before .behind .result) (c .before .before .behind .ensures .0) (c .before .if8 .left) (c .if9 .left) (c .before .before .behind .ensures .1)
+returns-10 c =
+    let at-behind = c .before .before in
+    let at-if7 = at-behind .before in
+    let at-get16 = at-if7 .before .before .before .before in
+    let start = at-get16 .before .before .before .before .before .before .before in
+    unnumbered (start .args .sheet .now) (at-get16 .get16 .result) (omega arith) (omega arith) (omega arith) (omega arith) (at-get16 .get16 .ensures .0) (omega arith) (omega arith) (at-if7 .before .agrees .ensures .0 (not-false _ (at-if7 .if7 .left))) (at-behind .behind .result)
+    (at-behind .behind .ensures .0) (c .before .if8 .left) (c .if9 .left) (at-behind .behind .ensures .1)
 
 pub read-head-spec : {M : Type 1} → statement M
 read-head-spec = tie.close (tie.spec returns shared-slice-read-map returns-2 returns-3 returns-4 get16-requires returns-5 returns-6 agrees-requires returns-7 behind-requires mul-end add-end mul-if8 add-if8 returns-8 get32-requires returns-9 returns-10)
