@@ -1,9 +1,9 @@
 -- What reading a chart gives, by the first rule that is broken.
-use mathlib.Core.Path.{_≡_, _∙_, subst}
+use mathlib.Core.Path.{_≡_, subst}
 use mathlib.Core.List.{List}
 use Prim.Native.Nat.{ℕ}
 use Rattle.sheet.specs.Sheet.{Reading, refused, held, ask}
-use Rattle.sheet.proofs.Asks.{ask-yes, ask-no}
+use Rattle.sheet.proofs.Asks.{ask-yes, ask-no, past}
 use Rattle.chart_reader.specs.Decode.{chartIn, Formed, formed?}
 use Rattle.chart_reader.specs.Rules.{BarRule, StrokeRule, GapRule, PartRule, partIn}
 use Rattle.chart_reader.specs.Reader.{bars?, strokes?, gaps?, part?, readChart}
@@ -30,9 +30,6 @@ module _ (s : List ℕ) where
       go (yes d) (yes e) (yes f) (no g) h = by-17 d e f g
       go (yes d) (yes e) (yes f) (yes g) (no h) = by-18 d e f g h
       go (yes d) (yes e) (yes f) (yes g) (yes h) = taken d e f g h
-
-  past : {P : Type 0} {t : Reading} (k : ℕ) (d : Dec P) (r : Reading) → P → r ≡ t → ask k d r ≡ t
-  past k d r h e = ask-yes k d r h ∙ e
 
   pub read-by : {r : Reading} → Verdict s r → readChart s ≡ r
   unfolding readChart

@@ -22,7 +22,7 @@ unfolding ask
 ask-no k (yes p) r h = absurd (h p)
 ask-no k (no p) r h = refl
 
-past : {P : Type 0} {t : Reading} (k : ℕ) (d : Dec P) (r : Reading) → P → r ≡ t → ask k d r ≡ t
+pub past : {P : Type 0} {t : Reading} (k : ℕ) (d : Dec P) (r : Reading) → P → r ≡ t → ask k d r ≡ t
 past k d r h e = ask-yes k d r h ∙ e
 
 asked : {P : Type 0} {p : Polygon} (k : ℕ) (d : Dec P) (r : Reading) → ask k d r ≡ held p → P × (r ≡ held p)
