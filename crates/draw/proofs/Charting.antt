@@ -1,12 +1,11 @@
 -- From the edges, columns and rows of the plan drawn to its chart.
 use mathlib.Core.Path.{_≡_, ap, sym, _∙_}
-use mathlib.Core.List.{List, map}
-use Prim.Native.Nat.{ℕ, suc, _+_, _*_, _-_, _≤_, _<_}
+use mathlib.Core.List.{List}
+use Prim.Native.Nat.{ℕ, _+_, _*_, _-_, _≤_, _<_}
 use native.Mathlib.Omega.{arith}
 use lib.ListN.{length, take, getD}
 use lib.Seq.{getD-take, length-take-le}
 use Rattle.polygon.specs.Lists.{All}
-use Rattle.polygon.specs.Polygon.{Edge}
 use Rattle.polygon.specs.Edges.{edges}
 use Rattle.polygon.specs.Tree.{Tree, span}
 use Rattle.polygon.proofs.Edges.{edges-in, edges-ascending}
@@ -16,7 +15,6 @@ use Rattle.umbrella.specs.Plan.{Plan, levels}
 use Rattle.umbrella.specs.Best.{best}
 use Rattle.umbrella.proofs.Theorems.{umbrellas-bound}
 use Rattle.tree.specs.declared.Piece.{Piece}
-use Rattle.tree.specs.Shows.{edgeAt}
 use Rattle.levels.specs.Numbered.{Filled}
 use Rattle.chart.specs.Places.{cols, rows}
 use Rattle.chart.specs.Chart.{layout, chart}

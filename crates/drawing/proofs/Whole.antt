@@ -1,6 +1,6 @@
 -- From what is written into the tables to the columns and rows of the plan drawn.
 -- Rests on Planned.antt, Ranked.antt and Walking.antt.
-use mathlib.Core.Path.{_≡_, refl, ap, sym, _∙_}
+use mathlib.Core.Path.{_≡_, ap, sym, _∙_}
 use mathlib.Core.Bool.{true, false, true≢false}
 use mathlib.Core.List.{List, [], _∷_, _++_, map, map-id, append-assoc}
 use Prim.Native.Nat.{ℕ, suc, _+_, _*_, _-_, _≤_, _<_}
@@ -9,13 +9,11 @@ use native.Mathlib.Nat.{zero-add}
 use native.Mathlib.Omega.{arith}
 use lib.ListN.{length, take, drop, getD, set, length-set, length-append, length-map}
 use lib.Seq.{sets, sets-eq, take-at, take-suc, drop-cons, getD-take, getD-set-same, getD-set-other}
-use Rattle.polygon.specs.Polygon.{Edge}
 use Rattle.polygon.specs.Tree.{Tree, span}
 use Rattle.umbrella.specs.declared.roles.Role.the-variants.{Hung}
 use Rattle.umbrella.specs.Numbers.{ud}
 use Rattle.umbrella.specs.Best.{best}
 use Rattle.umbrella.proofs.Theorems.{computed-has}
-use Rattle.keys.specs.Keys.{edgeOf}
 use Rattle.keys.proofs.Crosses.{at-all}
 use Rattle.tree.specs.declared.Piece.{Piece}
 use Rattle.tree.specs.Shows.{edgeAt}
@@ -26,7 +24,7 @@ use Rattle.drawing.specs.declared.lines.Line.{Line}
 use Rattle.drawing.specs.declared.lines.Way.{Way}
 use Rattle.drawing.specs.Columns.{columns}
 use Rattle.drawing.specs.Lines.{ranks}
-use Rattle.drawing.specs.Walk.{Held, Drawn, Walked}
+use Rattle.drawing.specs.Walk.{Held, Walked}
 use Rattle.drawing.specs.Placed.{Placed}
 use Rattle.drawing.proofs.OnLines.{OnLine}
 use Rattle.drawing.proofs.Planned.{columns-best}

@@ -19,12 +19,9 @@ abbrev pub numberOf : Bool → ℕ → Option ℕ
 numberOf true k = some k
 numberOf false k = none
 
--- the part of a head and the keys of its diagonals; and of a head and a table that begins with them
-abbrev pub partOf : Head → List ℕ → Polygon
-partOf h ks = record { n = h .n; ds = edgesOf ks; number = numberOf (h .numbered) (h .number) }
-
+-- the part of a head and a table that begins with the keys of its diagonals
 abbrev pub polygonOf : Head → List ℕ → Polygon
-polygonOf h ks = partOf h (take (h .n - 3) ks)
+polygonOf h ks = record { n = h .n; ds = edgesOf (take (h .n - 3) ks); number = numberOf (h .numbered) (h .number) }
 
 -- a part in the code's hands: valid, in a table with room for the keys of any part
 pub record InHand (h : Head) (ks : List ℕ) : Type 0 where
