@@ -89,9 +89,12 @@ pub extern "C" fn bend_run_edits(
     numbers: &mut [u8],
 ) -> u64
     ensures { λ r. ⌜ r ≡ packedRun (resultOf (now (first .entry)) (now (list .entry)) (now (front .entry)) (now (back .entry)) (now (numbers .entry))) ⌝ }
-    ensures { λ r. ⌜ now (front .exit) ≡ resultOf (now (first .entry)) (now (list .entry)) (now (front .entry)) (now (back .entry)) (now (numbers .entry)) .front ⌝ }
-    ensures { λ r. ⌜ now (back .exit) ≡ resultOf (now (first .entry)) (now (list .entry)) (now (front .entry)) (now (back .entry)) (now (numbers .entry)) .back ⌝ }
-    ensures { λ r. ⌜ now (numbers .exit) ≡ resultOf (now (first .entry)) (now (list .entry)) (now (front .entry)) (now (back .entry)) (now (numbers .entry)) .outs ⌝ }
+    ensures { λ r. ⌜ now (front .exit)
+        ≡ resultOf (now (first .entry)) (now (list .entry)) (now (front .entry)) (now (back .entry)) (now (numbers .entry)) .front ⌝ }
+    ensures { λ r. ⌜ now (back .exit)
+        ≡ resultOf (now (first .entry)) (now (list .entry)) (now (front .entry)) (now (back .entry)) (now (numbers .entry)) .back ⌝ }
+    ensures { λ r. ⌜ now (numbers .exit)
+        ≡ resultOf (now (first .entry)) (now (list .entry)) (now (front .entry)) (now (back .entry)) (now (numbers .entry)) .outs ⌝ }
 {
     pack_run(edit_list::run(first, list, front, back, numbers))
 }

@@ -16,7 +16,9 @@ pack-run-requires c κs =
     let at-run = c .before .before .before .before .before .before in
     let at-shared-slice-known2 = at-run .before .before .before .before .before .before .before in
     let start = at-shared-slice-known2 .before .before in
-    tellable (at-run .run .result) (at-run .run .last .1 .1 .0) (at-run .run .last .1 .1 .1 .0) (at-run .run .last .1 .1 .1 .1 .0) (at-run .run .ensures .0) (result-told (start .args .first .now) (start .args .list .now) (start .args .front .now) (start .args .back .now) (start .args .numbers .now) (all-at 0 (start .args .list .now) (λ i h. omega (arith, at-shared-slice-known2 .shared-slice-known2 .given i))))
+    let list = start .args .list .now in
+    tellable (at-run .run .result) (at-run .run .last .1 .1 .0) (at-run .run .last .1 .1 .1 .0) (at-run .run .last .1 .1 .1 .1 .0) (at-run .run .ensures .0)
+    (result-told (start .args .first .now) list (start .args .front .now) (start .args .back .now) (start .args .numbers .now) (all-at 0 list (λ i h. omega (arith, at-shared-slice-known2 .shared-slice-known2 .given i))))
 
 same-length : tie.Need-same-length
 same-length c = search needs
@@ -29,8 +31,10 @@ same-length-3 c = search needs
 
 returns : tie.Need-returns
 returns c =
-    let at-run = c .before .before .before .before .before .before .before in
-    (c .pack-run .ensures (at-run .run .last .1 .1 .0) (at-run .run .last .1 .1 .1 .0) (at-run .run .last .1 .1 .1 .1 .0) ∙ ap packedRun (at-run .run .ensures .0), lent-left (at-run .run .result) (at-run .run .last .1 .1 .0) (at-run .run .last .1 .1 .1 .0) (at-run .run .last .1 .1 .1 .1 .0) (at-run .run .ensures .0))
+    let at-run = c .before .before .before .before .before .before .before in (
+      c .pack-run .ensures (at-run .run .last .1 .1 .0) (at-run .run .last .1 .1 .1 .0) (at-run .run .last .1 .1 .1 .1 .0) ∙ ap packedRun (at-run .run .ensures .0),
+      lent-left (at-run .run .result) (at-run .run .last .1 .1 .0) (at-run .run .last .1 .1 .1 .0) (at-run .run .last .1 .1 .1 .1 .0) (at-run .run .ensures .0),
+    )
 
 pub bend-run-edits-spec : {M : Type 1} → statement M
 bend-run-edits-spec = tie.close (tie.spec run-requires pack-run-requires same-length same-length-2 same-length-3 returns)
