@@ -169,6 +169,8 @@ is 'longest sheet and a byte' "$( (cat longest.sheet; printf x) | "$bend")" 'ref
 bytes "$(stairs)" >longest.chart
 is 'longest chart, bytes' "$(wc -c <longest.chart)" 20465
 is 'longest chart' "$("$unbend" <longest.chart | sed -n 1p)" 'part - corners 1024 levels 1 umbrellas 1 stems 0 rows 1024 columns 2047'
+is 'longest chart, stack' "$( (ulimit -s 320; exec "$root/target/bin/unbend") <longest.chart | sed -n 1p)" \
+    'part - corners 1024 levels 1 umbrellas 1 stems 0 rows 1024 columns 2047'
 is 'longest chart and a byte' "$( (cat longest.chart; printf x) | "$unbend")" 'refused 14'
 rm longest.sheet longest.chart bend.chart
 

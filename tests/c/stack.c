@@ -1,7 +1,8 @@
 /*
- * Draws the sheets that the arguments name, and reads the charts back, each in a
- * thread with 128 KiB of stack. The last line is `N passed, M failed`; the exit
- * status is 1 if any check failed. A stack that is too small ends the program.
+ * Calls every function on the sheets that the arguments name, each sheet in a
+ * thread with 128 KiB of stack: sets it in order, plans, draws, reads the chart
+ * back, and edits it. The last line is `N passed, M failed`; the exit status is 1
+ * if any check failed. A stack that is too small ends the program.
  */
 #include "bend.h"
 
@@ -14,19 +15,48 @@
 static uint8_t sheet[4092];
 static size_t sheet_len;
 static uint8_t chart[20465];
-static uint8_t back[4091];
+static uint8_t out[4096];
+static uint8_t back[4096];
 
-/* Whether the sheet is drawn, and its chart read back as a sheet of as many corners. */
-static void *draw_and_read(void *unused)
+static unsigned number16(const uint8_t *at)
+{
+    return at[0] * 256u + at[1];
+}
+
+/* A list of one edit that turns the first diagonal, with 4,091 bytes lent. */
+static int run_list(unsigned a, unsigned b)
+{
+    const uint8_t list[13] = {2, 0, 0, (uint8_t)(a / 256), (uint8_t)a, 0, 0, (uint8_t)(b / 256), (uint8_t)b, 0, 0, 4091 / 256, 4091 % 256};
+    uint8_t numbers[2];
+    return bend_number(bend_run_edits(sheet, sheet_len, list, sizeof list, out, sizeof out, back, sizeof back, numbers, sizeof numbers)) == 0;
+}
+
+/* Whether one corner or another can be taken off: every part has an ear. */
+static int take_off(unsigned n)
+{
+    for (unsigned k = 0; k < n; k++)
+        if (bend_number(bend_remove_ear(sheet, sheet_len, k, out, sizeof out)) == 0)
+            return 1;
+    return 0;
+}
+
+/* The sheet if every function does what it should, else nothing. */
+static void *call_all(void *unused)
 {
     (void)unused;
+    unsigned n = number16(sheet + 1);
+    unsigned a = number16(sheet + 3);
+    unsigned b = number16(sheet + 5);
     uint64_t drawn = bend_draw(sheet, sheet_len, chart, sizeof chart);
-    if (bend_number(drawn) != 0)
-        return NULL;
-    uint64_t read = bend_read_chart(chart, bend_length(drawn), back, sizeof back);
-    if (bend_number(read) != 0 || memcmp(back + 1, sheet + 1, 2) != 0)
-        return NULL;
-    return sheet;
+    int holds = bend_number(drawn) == 0;
+    holds = holds && bend_number(bend_read_chart(chart, bend_length(drawn), out, sizeof out)) == 0;
+    holds = holds && memcmp(out + 1, sheet + 1, 2) == 0;
+    holds = holds && bend_number(bend_normalize(sheet, sheet_len, out, sizeof out)) == 0;
+    holds = holds && bend_number(bend_plan(sheet, sheet_len)) == 0;
+    holds = holds && bend_number(bend_add_ear(sheet, sheet_len, 0, out, sizeof out)) == (n == 1024 ? 10 : 0);
+    holds = holds && bend_number(bend_flip(sheet, sheet_len, a, b, out, sizeof out)) == 0;
+    holds = holds && take_off(n) && run_list(a, b);
+    return holds ? sheet : NULL;
 }
 
 int main(int count, char **names)
@@ -43,7 +73,7 @@ int main(int count, char **names)
         void *result = NULL;
         pthread_attr_init(&narrow);
         pthread_attr_setstacksize(&narrow, STACK);
-        if (pthread_create(&thread, &narrow, draw_and_read, NULL) == 0)
+        if (pthread_create(&thread, &narrow, call_all, NULL) == 0)
             pthread_join(thread, &result);
         if (result) {
             passed++;
