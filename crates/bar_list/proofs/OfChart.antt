@@ -5,7 +5,7 @@ use Prim.Native.Nat.{ℕ, zero, suc, _+_, _*_}
 use native.Mathlib.Nat.{add-zero}
 use native.Mathlib.Omega.{arith}
 use lib.ListN.{length, drop, length-append}
-use Rattle.polygon.specs.Lists.{numbers, below}
+use Rattle.lists.specs.Lists.{numbers, below}
 use Rattle.codec.specs.Numbers.{bytes16, get16}
 use Rattle.sheet.proofs.Bytes.{get16-after, get16-back}
 use Rattle.chart.specs.Chart.{Chart, barsOf, Bar}

@@ -2,7 +2,7 @@
 use mathlib.Core.List.{List}
 use Prim.Native.Nat.{ℕ, _<_}
 use native.Mathlib.Omega.{arith}
-use Rattle.polygon.specs.Lists.{All}
+use Rattle.lists.specs.Lists.{All}
 use Rattle.codec.specs.Answer.{written}
 use Rattle.codec.specs.Unpacked.{ReadsBack}
 use Rattle.codec.proofs.Answers.{reads-back}

@@ -2,7 +2,7 @@
 -- the number returned is `packed`, `packedPlan` or `packedRun` of these answers; include/bend.h takes it apart as specs/Unpacked.antt of the crate codec says.
 use mathlib.Core.List.{List}
 use Prim.Native.Nat.{ℕ, _<_}
-use Rattle.polygon.specs.Lists.{All}
+use Rattle.lists.specs.Lists.{All}
 use Rattle.codec.specs.Answer.{written}
 use Rattle.codec.specs.Unpacked.{ReadsBack}
 use Rattle.sheet.specs.Sheet.{ordered}

@@ -4,11 +4,10 @@ use mathlib.Core.Path.{_≡_, refl, sym, _∙_, ap, subst}
 use mathlib.Core.List.{List, [], _∷_, _++_, map, reverse, append-assoc, reverse-cons, reverse-append, map-append}
 use Prim.Native.Nat.{ℕ, _+_, _≤_}
 use native.Mathlib.Omega.{arith}
-use Rattle.polygon.specs.Lists.{All, all-nil, all-cons}
+use Rattle.lists.specs.Lists.{All, all-nil, all-cons}
+use Rattle.lists.proofs.Lists.{here, all-append, all-imp, all-map, all-reverse, map-reverse}
 use Rattle.polygon.specs.Polygon.{Edge}
-use Rattle.polygon.proofs.Lists.{here, all-append, all-imp, all-map}
 use Rattle.chart.specs.Chart.{Meets}
-use Rattle.chart.proofs.Lists.{all-reverse, map-reverse}
 use Rattle.chart.proofs.Cells.{Cell, lay, δ, num}
 use Rattle.chart.proofs.Runs.{Col, on, Trans, trans-append, trans-col, trans-skip, trans-reverse, trans-place, trans-weak}
 use Rattle.chart.proofs.Column.{asc-high, Joins, joins-sym, Good}

@@ -7,20 +7,18 @@ use Prim.Native.Nat.{ℕ, suc, _+_, _*_, _≤_, _<_}
 use native.Mathlib.Decide.{decLe}
 use native.Mathlib.Omega.{arith}
 use lib.ListN.{length, length-map}
-use Rattle.polygon.specs.Lists.{Mem}
+use Rattle.lists.specs.Lists.{Mem, times, occurs, Nth, now, next}
+use Rattle.lists.proofs.Lists.{all-mem, mem-map}
+use Rattle.lists.proofs.Places.{nth-mem, nth-at, nth-same}
+use Rattle.lists.proofs.Occurs.{times-yes, mem-occurs, occurs-mem, occurs-once}
 use Rattle.polygon.specs.Polygon.{Edge, _—_, Before}
 use Rattle.polygon.specs.Order.{same?}
 use Rattle.polygon.specs.Tree.{Tree, span}
-use Rattle.polygon.proofs.Lists.{all-mem}
 use Rattle.polygon.proofs.Order.{one-way}
 use Rattle.umbrella.specs.Plan.{Plan, levels, umbrellas, stems}
-use Rattle.umbrella.specs.Occurs.{times, occurs}
-use Rattle.umbrella.proofs.Occurs.{times-yes, mem-occurs, occurs-mem, occurs-once}
 use Rattle.chart.specs.Places.{cols, rows}
 use Rattle.polygon.specs.Edges.{edges}
 use Rattle.chart.specs.Chart.{Stroke, level, upright, strokeEdge, stroke, layout, chart, Touching, True}
-use Rattle.chart.proofs.Lists.{mem-map}
-use Rattle.chart.proofs.Nth.{Nth, now, next, nth-mem, nth-at, nth-same}
 use Rattle.chart.proofs.Strokes.{Says, stroke-says, strokes-edges, upright-in}
 use Rattle.chart.proofs.Rows.{OnRow, last-row, rows-known, rows-length}
 use Rattle.chart.proofs.Flats.{flats}

@@ -5,9 +5,9 @@ use mathlib.Core.Logic.{_⊎_, inl, inr, _≢_}
 use mathlib.Core.List.{List, [], _∷_, _++_, map, reverse, append-assoc, reverse-cons, reverse-append, reverseAux-eq, map-append}
 use Prim.Native.Nat.{ℕ, suc, _-_, _≤_, _<_}
 use native.Mathlib.Omega.{arith}
-use Rattle.polygon.specs.Lists.{Mem, head, tail, All}
+use Rattle.lists.specs.Lists.{Mem, head, tail, All}
+use Rattle.lists.proofs.Lists.{here, mem-right}
 use Rattle.polygon.specs.Polygon.{Edge}
-use Rattle.polygon.proofs.Lists.{here, mem-right}
 use Rattle.chart.specs.Chart.{Meets, Between}
 use Rattle.chart.proofs.Cells.{Cell, lay}
 use Rattle.chart.proofs.Runs.{Col}

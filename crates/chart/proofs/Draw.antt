@@ -7,7 +7,7 @@ use Prim.Native.Nat.{ℕ, suc, _+_, _-_, _*_, _≤_, max}
 use native.Mathlib.Nat.{sub-zero}
 use native.Mathlib.Omega.{arith}
 use lib.ListN.{length-map}
-use Rattle.polygon.specs.Lists.{all-nil, all-cons}
+use Rattle.lists.specs.Lists.{all-nil, all-cons}
 use Rattle.polygon.specs.Polygon.{_—_}
 use Rattle.polygon.specs.Tree.{Tree, span}
 use Rattle.polygon.proofs.Chords.{span-pos}

@@ -7,7 +7,7 @@ use Prim.Native.Nat.{ℕ}
 use native.Mathlib.Omega.{arith}
 use lib.ListN.{getD}
 use Rattle.polygon.specs.Polygon.{_—_}
-use Rattle.polygon.proofs.Lists.{here, there}
+use Rattle.lists.proofs.Lists.{here, there}
 use Rattle.chart.specs.Chart.{Bar, Stroke, upright, level, Chart, True}
 
 -- a chart by its rows, columns and corners, its strokes, and for each corner the row, left and right column of its bar

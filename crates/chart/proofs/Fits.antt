@@ -2,9 +2,9 @@
 -- Rests on the bounds of a plan's umbrellas and stems, and on truth: a bar lies within rows and columns, a stroke's corners are corners, an upright's column is in a bar.
 use Prim.Native.Nat.{_≤_, _<_}
 use native.Mathlib.Omega.{arith}
-use Rattle.polygon.specs.Lists.{Mem}
+use Rattle.lists.specs.Lists.{Mem}
+use Rattle.lists.proofs.Lists.{all-of}
 use Rattle.polygon.specs.Tree.{Tree, span}
-use Rattle.polygon.proofs.Lists.{all-of}
 use Rattle.umbrella.specs.Plan.{Plan}
 use Rattle.umbrella.proofs.Bounds.{bounds}
 use Rattle.chart.specs.Chart.{Stroke, level, upright, Chart, chart, True}

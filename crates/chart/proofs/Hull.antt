@@ -1,17 +1,16 @@
 -- The first and the last column of a corner's uprights, and that a bar holds all of them.
--- Rests on Nth.antt.
+-- Rests on the laws of places of the crate lists.
 use mathlib.Core.Path.{_≡_, refl, subst}
 use mathlib.Core.List.{List, [], _∷_, _++_, reverse, reverse-reverse}
 use Prim.Native.Nat.{ℕ, suc, _-_, _≤_, _+_}
 use native.Mathlib.Decide.{decLe, ℕ-discrete}
 use native.Mathlib.Omega.{arith}
 use lib.ListN.{length, length-reverse}
-use Rattle.polygon.specs.Lists.{Mem, head, tail, choose}
+use Rattle.lists.specs.Lists.{Mem, head, tail, choose, Nth, now, next}
+use Rattle.lists.proofs.Lists.{mem-left, mem-right, mem-reverse}
+use Rattle.lists.proofs.Places.{nth-lt, nth-reverse}
 use Rattle.polygon.specs.Polygon.{Edge}
-use Rattle.polygon.proofs.Lists.{mem-left, mem-right}
 use Rattle.chart.specs.Chart.{Meets, meets?, first, last}
-use Rattle.chart.proofs.Lists.{mem-reverse}
-use Rattle.chart.proofs.Nth.{Nth, now, next, nth-lt, nth-reverse}
 
 -- x has an upright among us
 abbrev pub Served : ℕ → List Edge → Type 0

@@ -5,10 +5,10 @@ use mathlib.Core.Logic.{inl, inr}
 use mathlib.Core.List.{List, [], _∷_, _++_, reverse, append-assoc}
 use Prim.Native.Nat.{ℕ, suc, _+_}
 use native.Mathlib.Omega.{arith}
-use Rattle.polygon.specs.Lists.{Mem, Sub, tail}
+use Rattle.lists.specs.Lists.{Mem, Sub, tail}
+use Rattle.lists.proofs.Lists.{here, mem-left, mem-right}
 use Rattle.polygon.specs.Polygon.{Edge, _—_}
 use Rattle.polygon.specs.Tree.{Tree, node, span}
-use Rattle.polygon.proofs.Lists.{here, mem-left, mem-right}
 use Rattle.umbrella.specs.Plan.{Plan, none, plain, stemLeft, stemRight, LeftRim, leftEnd, leftOn, RightRim, rightEnd, rightOn, LeftGate, leftGate, leftPast, RightGate, rightGate, rightPast, Stem, endBoth, endLeft, endRight, goLeft, goRight}
 use Rattle.umbrella.specs.Best.{Node, two}
 use Rattle.chart.specs.Places.{cols, leftCols, rightCols, leftGateCols, rightGateCols, stemCols, backCols}

@@ -5,7 +5,7 @@ use mathlib.Core.List.{[], _∷_, flatMap}
 use mathlib.Core.Option.{none}
 use Prim.Native.Nat.{ℕ}
 use native.Mathlib.Decide.{decLe, decLt, ℕ-discrete}
-use Rattle.polygon.specs.Lists.{choose, either?, numbers, below}
+use Rattle.lists.specs.Lists.{choose, either?, numbers, below}
 use Rattle.polygon.specs.Polygon.{_—_, Polygon}
 use Rattle.polygon.specs.Order.{same?}
 use Rattle.polygon.specs.Tree.{span, chordsAt, treeOf, grow, far, farther, near?}

@@ -1,12 +1,12 @@
 -- The label of each column in a run of a corner: 0 before its bar, 1 on it, 2 after it.
--- Rests on Runs.antt and Nth.antt.
+-- Rests on Runs.antt and the laws of places of the crate lists.
 use mathlib.Core.Path.{_≡_, sym, subst}
 use mathlib.Core.List.{List}
 use Prim.Native.Nat.{ℕ, zero, suc, _≤_}
 use native.Mathlib.Omega.{arith}
 use Rattle.chart.proofs.Cells.{num}
 use Rattle.chart.proofs.Runs.{Col, At, Run, stop, go}
-use Rattle.chart.proofs.Nth.{Nth, now, next}
+use Rattle.lists.specs.Lists.{Nth, now, next}
 
 pub lab : {x s t : ℕ} {L : List Col} → Run x s L t → ℕ → ℕ
 lab {t = t} (stop h) j = t

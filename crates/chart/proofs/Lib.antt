@@ -2,8 +2,6 @@
 pub mod Theorems
 pub mod Known
 pub mod False
-pub mod Lists
-pub mod Nth
 pub mod Hull
 pub mod Strokes
 pub mod Cells

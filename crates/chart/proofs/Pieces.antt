@@ -7,17 +7,17 @@ use Prim.Native.Nat.{ℕ, suc, _+_, _-_, _≤_, _<_}
 use native.Mathlib.Decide.{ℕ-discrete}
 use native.Mathlib.Omega.{arith}
 use lib.ListN.{length, getD}
-use Rattle.polygon.specs.Lists.{Mem, tail}
+use Rattle.lists.specs.Lists.{Mem, tail, Nth, now, next}
+use Rattle.lists.proofs.Lists.{here, choose-yes}
+use Rattle.lists.proofs.Places.{nth-lt, mem-nth, nth-getD, nth-left, nth-right}
 use Rattle.polygon.specs.Polygon.{Edge, _—_}
 use Rattle.polygon.specs.Tree.{Tree, span}
-use Rattle.polygon.proofs.Lists.{here, choose-yes}
 use Rattle.polygon.proofs.Chords.{span-pos}
 use Rattle.umbrella.specs.Plan.{Plan}
 use Rattle.umbrella.specs.Best.{Node, two}
 use Rattle.chart.specs.Places.{cols}
 use Rattle.chart.specs.Chart.{Meets, first, last, layout, chart, Covers, Touching}
 use Rattle.chart.specs.Pieces.{Rooted, RootBars, EveryPiece}
-use Rattle.chart.proofs.Nth.{Nth, now, next, nth-lt, mem-nth, nth-getD, nth-left, nth-right}
 use Rattle.chart.proofs.Hull.{Served, served-reverse, left-le, right-ge}
 use Rattle.chart.proofs.Flats.{flats}
 use Rattle.chart.proofs.Draw.{draws}

@@ -5,10 +5,9 @@ use mathlib.Core.List.{List, [], _∷_, _++_, map}
 use Prim.Native.Nat.{ℕ, suc, _+_, _-_, _≤_}
 use native.Mathlib.Nat.{sub-zero}
 use native.Mathlib.Omega.{arith}
-use Rattle.polygon.specs.Lists.{All}
+use Rattle.lists.specs.Lists.{All}
+use Rattle.lists.proofs.Lists.{mem-left, mem-right, all-append, all-imp, all-map, all-left, all-right, all-reverse, mem-reverse, mem-map}
 use Rattle.polygon.specs.Polygon.{Edge}
-use Rattle.polygon.proofs.Lists.{mem-left, mem-right, all-append, all-imp, all-map, all-left, all-right}
-use Rattle.chart.proofs.Lists.{all-reverse, mem-reverse, mem-map}
 use Rattle.chart.proofs.Cells.{Cell, lay, num, num-append, num-reverse, num-lay}
 use Rattle.chart.proofs.Column.{Asc, asc-low, asc-high, asc-append, asc-suc, over, asc-over, Has, Adj, adj-pre, adj-post, adj-lay, adj-reverse}
 

@@ -5,7 +5,7 @@ use mathlib.Core.List.{List, [], _∷_}
 use Prim.Native.Nat.{ℕ, suc, _+_, _-_, _≤_}
 use native.Mathlib.Decide.{decLe}
 use native.Mathlib.Omega.{arith}
-use Rattle.polygon.specs.Lists.{All, all-nil, all-cons}
+use Rattle.lists.specs.Lists.{All, all-nil, all-cons}
 use Rattle.polygon.specs.Polygon.{Edge}
 use Rattle.chart.specs.Chart.{Meets}
 use Rattle.chart.proofs.Cells.{Cell, lay, δ, δ-le, δ-one}

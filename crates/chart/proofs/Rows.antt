@@ -6,12 +6,11 @@ use Prim.Native.Nat.{ℕ, suc, _+_, _≤_, _<_}
 use native.Mathlib.Omega.{arith}
 use lib.ListN.{length, getD, length-append, length-map, List·getD-append}
 use lib.Seq.{getD-at}
-use Rattle.polygon.specs.Lists.{Mem, head, tail}
+use Rattle.lists.specs.Lists.{Mem, head, tail}
+use Rattle.lists.proofs.Lists.{here, not-empty, mem-left, mem-right, mem-map}
 use Rattle.polygon.specs.Tree.{Tree, span}
-use Rattle.polygon.proofs.Lists.{here, not-empty, mem-left, mem-right}
 use Rattle.umbrella.specs.Plan.{Plan, none, plain, stemLeft, stemRight, LeftRim, leftEnd, leftOn, RightRim, rightEnd, rightOn, LeftGate, leftGate, leftPast, RightGate, rightGate, rightPast, Stem, endBoth, endLeft, endRight, goLeft, goRight}
 use Rattle.chart.specs.Places.{rows, leftRows, rightRows, leftGateRows, rightGateRows, stemRows}
-use Rattle.chart.proofs.Lists.{mem-map}
 use Rattle.chart.proofs.Cells.{Cell, lay}
 
 -- the cells of the corners from a on, on these rows

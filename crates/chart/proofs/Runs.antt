@@ -6,10 +6,9 @@ use mathlib.Core.List.{List, [], _∷_, _++_, map, reverse, reverse-cons}
 use Prim.Native.Nat.{ℕ, _+_, _-_, _≤_, min}
 use native.Mathlib.Decide.{decLe}
 use native.Mathlib.Omega.{arith}
-use Rattle.polygon.specs.Lists.{All, all-nil, all-cons}
+use Rattle.lists.specs.Lists.{All, all-nil, all-cons}
+use Rattle.lists.proofs.Lists.{all-append, all-imp, all-map, all-reverse}
 use Rattle.polygon.specs.Polygon.{Edge}
-use Rattle.polygon.proofs.Lists.{all-append, all-imp, all-map}
-use Rattle.chart.proofs.Lists.{all-reverse}
 use Rattle.chart.proofs.Cells.{Cell, num}
 
 abbrev pub Col : Type 0

@@ -4,8 +4,8 @@ use mathlib.Core.List.{List, [], _∷_, flatMap}
 use Prim.Native.Nat.{_+_, _*_, _≤_}
 use native.Mathlib.Omega.{arith}
 use lib.ListN.{length, length-append, length-map}
-use Rattle.polygon.specs.Lists.{below}
-use Rattle.polygon.proofs.Lists.{below-count}
+use Rattle.lists.specs.Lists.{below}
+use Rattle.lists.proofs.Places.{below-count}
 use Rattle.chart.specs.Chart.{Bar, Stroke, upright, level, Chart, barsOf}
 use Rattle.chart.specs.Bytes.{barBytes, strokeBytes, bytesOf}
 

@@ -1,17 +1,15 @@
 -- The strokes of a chart against its columns: a stroke is upright in column j exactly if its edge is the upright of that column, and level if it is in none.
--- Rests on Nth.antt.
+-- Rests on the laws of places of the crate lists.
 use mathlib.Core.Path.{_≡_, refl, sym, _∙_, ap, ap₂, subst}
 use mathlib.Core.Logic.{_⊎_, inl, inr}
 use mathlib.Core.List.{List, [], _∷_, map}
 use Prim.Native.Nat.{ℕ, suc, _+_}
 use native.Mathlib.Omega.{arith}
-use Rattle.polygon.specs.Lists.{Mem, head, tail, choose}
+use Rattle.lists.specs.Lists.{Mem, head, tail, choose, Nth, now, next}
+use Rattle.lists.proofs.Lists.{not-empty, mem-unmap}
 use Rattle.polygon.specs.Polygon.{Edge}
 use Rattle.polygon.specs.Order.{same?}
-use Rattle.polygon.proofs.Lists.{not-empty}
 use Rattle.chart.specs.Chart.{Stroke, level, upright, strokeEdge, stroke}
-use Rattle.chart.proofs.Lists.{mem-unmap}
-use Rattle.chart.proofs.Nth.{Nth, now, next}
 
 -- what the stroke of e says, the first of us being column j
 abbrev pub Says : ℕ → List Edge → Edge → Stroke → Type 0

@@ -5,7 +5,7 @@ use mathlib.Core.Logic.{_⊎_, inl, inr}
 use mathlib.Core.List.{List, [], _∷_, _++_, map, reverse, reverse-cons}
 use Prim.Native.Nat.{ℕ}
 use Rattle.polygon.specs.Polygon.{Edge, _—_}
-use Rattle.polygon.proofs.Lists.{not-empty}
+use Rattle.lists.proofs.Lists.{not-empty}
 use Rattle.chart.specs.Chart.{Meets}
 use Rattle.chart.proofs.Cells.{Cell}
 use Rattle.chart.proofs.Runs.{Col, on}

@@ -7,15 +7,15 @@ use Prim.Native.Nat.{ℕ, suc, _+_, _-_, _*_, _≤_, _<_, max}
 use native.Mathlib.Decide.{decLe, decLt, ℕ-discrete}
 use native.Mathlib.Omega.{arith}
 use lib.ListN.{length, length-map}
-use Rattle.polygon.specs.Lists.{Mem, head, tail, choose}
+use Rattle.lists.specs.Lists.{Mem, head, tail, choose, Nth, now, next}
+use Rattle.lists.proofs.Lists.{all-mem}
+use Rattle.lists.proofs.Places.{nth-lt, nth-mem, nth-at, nth-map, nth-unmap}
 use Rattle.polygon.specs.Polygon.{Edge, _—_}
-use Rattle.polygon.proofs.Lists.{all-mem}
 use Rattle.chart.specs.Chart.{Meets, first, last, layout, level, stroke, Gap, Touching, Between, True}
 use Rattle.chart.proofs.Cells.{δ, δ-self, δ-le, δ-one, lower-suc, lower-yes, lower-no, range, range-is, num-in, in-num}
 use Rattle.chart.proofs.Runs.{Col, Run}
 use Rattle.chart.proofs.Column.{Has, asc-one, asc-below, Ends, adj-ends, ends-has, Good}
 use Rattle.chart.proofs.Touch.{Tip, Near, start, Touch, near, later, near-start}
-use Rattle.chart.proofs.Nth.{Nth, now, next, nth-lt, nth-mem, nth-at, nth-map, nth-unmap}
 use Rattle.chart.proofs.Hull.{Served, first-at, last-at, left-le, right-ge}
 use Rattle.chart.proofs.Labels.{lab, lab-low, lab-high, lab-mono, lab-one, lab-has}
 use Rattle.chart.proofs.Strokes.{level-in, upright-in}

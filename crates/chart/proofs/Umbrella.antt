@@ -5,9 +5,9 @@ use mathlib.Core.Logic.{inl, inr}
 use mathlib.Core.List.{List, [], _∷_, _++_}
 use Prim.Native.Nat.{ℕ, suc, _+_, _≤_, _<_}
 use native.Mathlib.Omega.{arith}
-use Rattle.polygon.specs.Lists.{All, all-nil, all-cons}
+use Rattle.lists.specs.Lists.{All, all-nil, all-cons}
+use Rattle.lists.proofs.Lists.{here}
 use Rattle.polygon.specs.Polygon.{Edge, _—_}
-use Rattle.polygon.proofs.Lists.{here}
 use Rattle.chart.specs.Chart.{Meets}
 use Rattle.chart.proofs.Cells.{Cell, lay, δ, δ-self, lower-suc, range, range-is, num}
 use Rattle.chart.proofs.Runs.{Col, trans-weak}

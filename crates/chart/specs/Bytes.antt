@@ -1,7 +1,7 @@
 -- Document 01, "The chart's bytes". "Numbers are unsigned, high byte first."
 use mathlib.Core.List.{List, _∷_, _++_, flatMap}
 use Prim.Native.Nat.{ℕ, _<_}
-use Rattle.polygon.specs.Lists.{All}
+use Rattle.lists.specs.Lists.{All}
 use Rattle.codec.specs.Numbers.{bytes16}
 use Rattle.chart.specs.Chart.{Bar, Stroke, upright, level, Chart, barsOf}
 

@@ -6,15 +6,14 @@ use native.Mathlib.Numerals.{add-one}
 use native.Mathlib.Omega.{arith}
 use lib.ListN.{length, take, drop, set, getD, length-set, length-map, drop-of-length-le}
 use lib.Seq.{drop-cons, take-suc-set, append-snoc, length-take-le}
-use Rattle.polygon.specs.Lists.{keep}
+use Rattle.lists.specs.Lists.{keep}
+use Rattle.lists.proofs.Lists.{keep-test, keep-sorted, keep-yes, keep-no}
 use Rattle.polygon.specs.Polygon.{Edge, Diagonal, NoneCross}
 use Rattle.polygon.specs.Order.{diagonal?}
-use Rattle.polygon.proofs.Lists.{keep-test, keep-sorted}
 use Rattle.keys.specs.Keys.{edgeOf, edgesOf}
 use Rattle.keys.specs.Tops.{Diagonals}
 use Rattle.chart_reader.specs.Rules.{PartOf}
 use Rattle.chart_reader.specs.Held.{EdgesOf}
-use Rattle.chart_reader.proofs.Kept.{keep-yes, keep-no}
 use Rattle.chart_reader.proofs.Sides.{sides-full, full-sides}
 
 -- what the loop keeps: m diagonals are copied, and those among the edges from i on are left

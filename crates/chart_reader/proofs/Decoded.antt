@@ -6,7 +6,8 @@ use native.Mathlib.Nat.{add-zero}
 use native.Mathlib.Omega.{arith}
 use lib.ListN.{length, getD, length-append, List·getD-map}
 use lib.Seq.{getD-append-add}
-use Rattle.polygon.specs.Lists.{All, all-nil, all-cons, numbers, below}
+use Rattle.lists.specs.Lists.{All, all-nil, all-cons, numbers, below}
+use Rattle.lists.proofs.Places.{number-at}
 use Rattle.codec.specs.Numbers.{bytes16, get16}
 use Rattle.sheet.proofs.Bytes.{get16-after, get16-back}
 use Rattle.chart.specs.Chart.{Bar, Stroke, upright, level, Chart, barsOf}
@@ -73,17 +74,11 @@ bar-back (b ∷ bs) ys d (suc i) h =
     let e : 6 * suc i ≡ 6 + 6 * i = omega arith in
     rw e (bar-after (barBytes b) (flatMap barBytes bs ++ ys) (6 * i) ∙ bar-back bs ys d i (omega arith))
 
-numbers-get : (k u i : ℕ) → i < k → getD (numbers k u) i 0 ≡ u + i
-unfolding numbers
-numbers-get zero u i h = absurd (omega arith)
-numbers-get (suc k) u zero h = omega arith
-numbers-get (suc k) u (suc i) h = numbers-get k (suc u) i (omega arith) ∙ omega arith
-
 -- the whole chart
 module _ (c : Chart) where
   bars-get : (x : ℕ) → x < c .n → getD (barsOf c) x (c .bar 0) ≡ c .bar x
   unfolding barsOf below
-  bars-get x h = List·getD-map (c .bar) (numbers (c .n) 0) x 0 ∙ ap (c .bar) (numbers-get (c .n) 0 x h ∙ omega arith)
+  bars-get x h = List·getD-map (c .bar) (numbers (c .n) 0) x 0 ∙ ap (c .bar) (number-at (c .n) 0 x h ∙ omega arith)
 
   -- the bytes before the strokes
   front : List ℕ

@@ -7,7 +7,7 @@ use native.Mathlib.Numerals.{add-one}
 use native.Mathlib.Omega.{arith}
 use lib.ListN.{length, drop, getD}
 use lib.Seq.{drop-cons, drop-length}
-use Rattle.polygon.specs.Lists.{All, all-cons, numbers, below}
+use Rattle.lists.specs.Lists.{All, all-cons, numbers, below}
 use Rattle.codec.specs.Numbers.{bytes16, get16}
 use Rattle.sheet.proofs.Bytes.{Byte, byte-at}
 use Rattle.chart.specs.Chart.{barsOf}

@@ -5,10 +5,10 @@ use mathlib.Core.List.{List}
 use mathlib.Core.Option.{none}
 use Prim.Native.Nat.{ℕ, _+_, _*_, _-_, _≤_}
 use lib.ListN.{length, take, length-map}
-use Rattle.polygon.specs.Lists.{keep}
+use Rattle.lists.specs.Lists.{keep}
+use Rattle.lists.proofs.Lists.{all-map}
 use Rattle.polygon.specs.Polygon.{Edge}
 use Rattle.polygon.specs.Order.{diagonal?}
-use Rattle.polygon.proofs.Lists.{all-map}
 use Rattle.keys.specs.Keys.{edgesOf}
 use Rattle.sheet.specs.declared.Head.{Head}
 use Rattle.sheet.specs.declared.Read.the-variants.{Refused, Held}

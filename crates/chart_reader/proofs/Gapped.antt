@@ -1,17 +1,17 @@
 -- The gaps of the level strokes, written as bars one behind the other.
 use mathlib.Core.Path.{_≡_, refl, ap, sym, _∙_}
 use mathlib.Core.Logic.{_≢_}
-use mathlib.Core.List.{List, [], _∷_, _++_, map, flatMap, map-append, append-assoc, append-nil}
+use mathlib.Core.List.{List, [], _∷_, _++_, map, flatMap, map-append, append-nil}
 use Prim.Native.Nat.{ℕ, suc, _+_, _*_, _≤_, _<_}
 use native.Mathlib.Decide.{decLt}
 use native.Mathlib.Numerals.{add-one}
 use native.Mathlib.Omega.{arith}
 use lib.ListN.{length, take, drop, getD, length-append}
 use lib.Seq.{sets, take-suc, take-all}
-use Rattle.polygon.specs.Lists.{choose}
-use Rattle.polygon.proofs.Lists.{choose-yes, choose-no}
+use Rattle.lists.specs.Lists.{choose}
+use Rattle.lists.proofs.Lists.{choose-yes, choose-no, flat-append}
+use Rattle.lists.proofs.Stores.{sets-append, sets-front}
 use Rattle.codec.specs.Numbers.{bytes16}
-use Rattle.codec.proofs.Stores.{sets-append, sets-front}
 use Rattle.chart.specs.Chart.{Bar, Stroke, upright, level}
 use Rattle.chart.specs.Bytes.{barBytes}
 use Rattle.chart.proofs.Sizes.{bars-size}
@@ -48,12 +48,6 @@ module _ (s : List ℕ) (at : ℕ) where
     pub wide-gap : r .first .column + 1 < r .last .column → gapOf (chartIn s) (strokeAt s at) ≡ gapBar (r .first, r .last) ∷ []
     unfolding gapIn
     wide-gap h = level-gap ∙ choose-yes (decLt (r .first .column + 1) (r .last .column)) [] h
-
--- the gaps of some strokes and of others
-pub flat-append : {A B : Type 0} (f : A → List B) (xs ys : List A) → flatMap f (xs ++ ys) ≡ flatMap f xs ++ flatMap f ys
-unfolding flatMap
-flat-append f [] ys = refl
-flat-append f (x ∷ xs) ys = ap (λ (l : List _). f x ++ l) (flat-append f xs ys) ∙ sym (append-assoc (f x) (flatMap f xs) (flatMap f ys))
 
 -- the gaps of the first i strokes
 abbrev gapsTo : List ℕ → List ℕ → ℕ → List Bar

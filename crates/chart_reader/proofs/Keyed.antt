@@ -6,12 +6,12 @@ use Prim.Native.Nat.{ℕ, suc, _+_, _≤_, _<_}
 use borrow.Author.Count.{below-more}
 use native.Mathlib.Omega.{arith}
 use lib.ListN.{length, take, set, getD, length-set}
-use Rattle.polygon.specs.Lists.{All}
+use Rattle.lists.specs.Lists.{All}
+use Rattle.lists.proofs.Places.{table-next}
 use Rattle.polygon.specs.Polygon.{Edge, _—_, Ascending}
 use Rattle.keys.specs.Keys.{keyOf, edgeOf, edgesOf}
 use Rattle.keys.specs.Sort.{ascends}
 use Rattle.keys.proofs.InOrder.{edge-of-key, ascends-edges, edges-ascend}
-use Rattle.keys.proofs.Tables.{table-next}
 use Rattle.chart.specs.Chart.{strokeEdge}
 use Rattle.chart_reader.specs.Decode.{edgeAt, strokeAt, chartIn}
 use Rattle.chart_reader.specs.Rules.{Named, edgesIn}

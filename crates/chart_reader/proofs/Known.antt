@@ -6,7 +6,7 @@ use mathlib.Core.Option.{none}
 use Prim.Native.Nat.{ℕ}
 use native.Mathlib.Decide.{decLe, decLt, ℕ-discrete}
 use lib.ListN.{length, getD, take}
-use Rattle.polygon.specs.Lists.{choose, put, keep, numbers, below, not?, either?, all?, sorted?, mem?}
+use Rattle.lists.specs.Lists.{choose, put, keep, numbers, below, not?, either?, all?, sorted?, mem?, recast?, three?}
 use Rattle.polygon.specs.Polygon.{_—_}
 use Rattle.polygon.specs.Order.{before?, same?, cross?, none-cross?, diagonal?}
 use Rattle.sheet.specs.Sheet.{Reading, refused, held, ask, count?}
@@ -17,7 +17,6 @@ use Rattle.chart_reader.specs.Decode.{shaped, places, behind, formed?}
 use Rattle.chart_reader.specs.Rules.{sides}
 use Rattle.chart_reader.specs.Reader.{bars?, free?, joins?, strokes?, passes?, gaps?, part?, readChart}
 use Rattle.chart_reader.specs.Areas.{common?, common-of, between, stands?, shares?, crosses?}
-use Rattle.chart_reader.specs.Decisions.{recast?, three?}
 
 -- the bytes of the triangle's chart in document 01
 abbrev pub triangle : List ℕ

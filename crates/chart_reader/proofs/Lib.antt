@@ -1,5 +1,4 @@
 pub mod Known
-pub mod Below
 pub mod Meeting
 pub mod Placing
 pub mod Stroked
@@ -10,7 +9,6 @@ pub mod Choosing
 pub mod Found
 pub mod Verdict
 pub mod Truth
-pub mod Kept
 pub mod Sides
 pub mod Shown
 pub mod Decoded

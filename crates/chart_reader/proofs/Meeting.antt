@@ -3,7 +3,8 @@ use mathlib.Core.Path.{_≡_}
 use mathlib.Core.List.{List}
 use Prim.Native.Nat.{ℕ, _+_, _*_, _≤_, _<_, max}
 use native.Mathlib.Omega.{arith}
-use Rattle.polygon.specs.Lists.{Sorted, below}
+use Rattle.lists.specs.Lists.{Sorted, below}
+use Rattle.lists.proofs.Places.{below-at, below-all, below-two}
 use Rattle.chart_reader.specs.declared.Cell.{Cell}
 use Rattle.chart_reader.specs.declared.Area.{Area}
 use Rattle.chart_reader.specs.Cells.{cell, bar, Has, Inside, Common}
@@ -11,7 +12,6 @@ use Rattle.chart_reader.specs.Areas.{Within, Fills}
 use Rattle.chart_reader.specs.Decode.{countIn, barAt, chartIn}
 use Rattle.chart_reader.specs.Rules.{Apart, Free}
 use Rattle.chart_reader.specs.Held.{None, Some}
-use Rattle.chart_reader.proofs.Below.{below-at, below-all, below-two}
 
 pub fills-same : {P : Cell → Type 0} {a : Area} (b : Area) → Fills P a → (a .top ≡ b .top) × (a .bottom ≡ b .bottom) × (a .left ≡ b .left) × (a .right ≡ b .right) → Fills P b
 fills-same b F e = record { covered = λ c h. omega (arith, F .covered c h); filled = λ c h. F .filled c (omega arith) }

@@ -6,11 +6,11 @@ use Prim.Native.Nat.{ℕ, _+_, _<_}
 use native.Mathlib.Decide.{decLt}
 use native.Mathlib.Omega.{arith}
 use lib.ListN.{getD}
-use Rattle.polygon.specs.Lists.{Mem, All, all-nil, all-cons, choose}
+use Rattle.lists.specs.Lists.{Mem, All, all-nil, all-cons, choose}
+use Rattle.lists.proofs.Lists.{all-append, all-left, all-right, all-both, all-mem, all-of, all-imp}
+use Rattle.lists.proofs.Places.{all-at, at-all, below-at}
 use Rattle.polygon.specs.Polygon.{Edge}
-use Rattle.polygon.proofs.Lists.{all-append, all-left, all-right, all-both, all-mem, all-of, all-imp}
 use Rattle.codec.specs.Numbers.{get16}
-use Rattle.keys.proofs.Crosses.{all-at, at-all}
 use Rattle.chart.specs.Chart.{Bar, Stroke, upright, level, strokeEdge, Chart}
 use Rattle.chart_reader.specs.declared.Cell.{Cell}
 use Rattle.chart_reader.specs.declared.Ends.{Ends}
@@ -18,7 +18,6 @@ use Rattle.chart_reader.specs.Cells.{bar, Has, Inside, Common}
 use Rattle.chart_reader.specs.Decode.{edgeAt, strokeAt, chartIn}
 use Rattle.chart_reader.specs.Rules.{ends, BarRule, StrokeRule, Passes, GapRule}
 use Rattle.chart_reader.specs.Held.{None, Some, EndsOf, gapBar, gapIn, gapOf, gapsOf, GapsIn, Clear}
-use Rattle.chart_reader.proofs.Below.{below-at}
 use Rattle.chart_reader.proofs.Truth.{apart-of}
 use Rattle.chart_reader.proofs.Stroked.{level-at, upright-at}
 

@@ -6,8 +6,8 @@ use native.Mathlib.Numerals.{add-one}
 use native.Mathlib.Omega.{arith}
 use lib.ListN.{length, take, drop, set, getD, length-set}
 use lib.Seq.{take-suc-set, take-all, take-at, append-snoc, length-take-le}
-use Rattle.polygon.specs.Lists.{All, all-nil, all-cons}
-use Rattle.polygon.proofs.Lists.{here, mem-right, all-append, all-mem}
+use Rattle.lists.specs.Lists.{All, all-nil, all-cons}
+use Rattle.lists.proofs.Lists.{here, mem-right, all-append, all-mem}
 use Rattle.chart_reader.specs.Decode.{countIn, strokeSize, places, behind, Formed}
 use Rattle.chart_reader.specs.Held.{Ending, Placed}
 use Rattle.chart_reader.proofs.Encoded.{behind-up}

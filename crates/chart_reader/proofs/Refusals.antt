@@ -2,8 +2,9 @@
 use mathlib.Core.List.{List, [], _∷_, _++_}
 use Prim.Native.Nat.{ℕ}
 use native.Mathlib.Omega.{arith}
-use Rattle.polygon.specs.Lists.{All, numbers}
-use Rattle.polygon.proofs.Lists.{here, there, all-imp, numbers-in}
+use Rattle.lists.specs.Lists.{All, numbers}
+use Rattle.lists.proofs.Lists.{here, there, all-imp}
+use Rattle.lists.proofs.Places.{numbers-in}
 use Rattle.codec.specs.Answer.{written}
 use Rattle.sheet.specs.Refusals.{RefusedBy, holds, Proper, Settled}
 use Rattle.sheet.proofs.Refusals.{settled, ask-refuses, outcome-refuses}

@@ -5,15 +5,14 @@ use mathlib.Core.Option.{none}
 use Prim.Native.Nat.{_+_, _*_, _≤_, _<_}
 use native.Mathlib.Omega.{arith}
 use lib.ListN.{length, length-map}
-use Rattle.polygon.specs.Lists.{Mem, All}
+use Rattle.lists.specs.Lists.{Mem, All}
+use Rattle.lists.proofs.Lists.{all-mem, all-of, all-map, keep-test, keep-sub, keep-mem, keep-sorted, sorted-same, mem-map}
 use Rattle.polygon.specs.Polygon.{Edge, Ascending, Diagonal, Polygon, Valid, Linked}
 use Rattle.polygon.specs.Order.{diagonal?}
-use Rattle.polygon.proofs.Lists.{all-mem, all-of, all-map, keep-test, keep-sub, keep-mem, keep-sorted, sorted-same}
 use Rattle.polygon.proofs.Order.{one-way}
 use Rattle.polygon.proofs.Reading.{diagonal-reads}
 use Rattle.polygon.proofs.Triangle.{linked-up}
 use Rattle.chart.specs.Chart.{strokeEdge, Chart, chartOf, Shows}
-use Rattle.chart.proofs.Lists.{mem-map}
 use Rattle.chart.proofs.Theorems.{chart-shows, chart-stroke-count}
 use Rattle.chart_reader.specs.Rules.{sides, Named, edgesIn, diagonalsIn, PartRule, partIn}
 use Rattle.chart_reader.proofs.Sides.{side-among, sides-are, kinds, sides-full}

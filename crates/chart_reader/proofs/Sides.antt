@@ -6,15 +6,14 @@ use Prim.Native.Nat.{ℕ, suc, _+_, _*_, _-_, _≤_, _<_}
 use native.Mathlib.Decide.{ℕ-discrete}
 use native.Mathlib.Omega.{arith}
 use lib.ListN.{length, length-map}
-use Rattle.polygon.specs.Lists.{Mem, head, tail, All, all-cons, sorted-cons, keep, numbers, not?, mem?}
+use Rattle.lists.specs.Lists.{Mem, head, tail, All, all-cons, sorted-cons, keep, numbers, not?, mem?}
+use Rattle.lists.proofs.Lists.{all-imp, all-mem, all-map, keep-test, keep-sub, keep-mem, keep-sorted, sorted-map, sorted-same, mem-map, keep-every, keep-full, keep-split}
+use Rattle.lists.proofs.Places.{numbers-count, numbers-in, numbers-sorted, numbers-mem}
 use Rattle.polygon.specs.Polygon.{Edge, _—_, Before, Ascending, Side, Diagonal}
 use Rattle.polygon.specs.Order.{same?, diagonal?}
-use Rattle.polygon.proofs.Lists.{all-imp, all-mem, all-map, keep-test, keep-sub, keep-mem, keep-sorted, sorted-map, sorted-same, numbers-count, numbers-in, numbers-sorted, numbers-mem}
 use Rattle.polygon.proofs.Order.{one-way}
 use Rattle.polygon.proofs.Reading.{diagonal-reads}
-use Rattle.chart.proofs.Lists.{mem-map}
 use Rattle.chart_reader.specs.Rules.{sides}
-use Rattle.chart_reader.proofs.Kept.{keep-every, keep-full, keep-split}
 
 module _ (n : ℕ) (big : 3 ≤ n) where
   sides-count : length (sides n) ≡ n

@@ -5,9 +5,9 @@ use mathlib.Core.List.{List, map}
 use Prim.Native.Nat.{ℕ, zero, suc, _+_, _*_, _-_, _%_, _≤_, _<_, min, max}
 use native.Mathlib.Omega.{arith}
 use lib.ListN.{length, getD, length-map, List·getD-map}
-use Rattle.polygon.specs.Lists.{All, all-nil, all-cons}
+use Rattle.lists.specs.Lists.{All, all-nil, all-cons}
+use Rattle.lists.proofs.Places.{all-at, at-all}
 use Rattle.codec.specs.Numbers.{get16}
-use Rattle.keys.proofs.Crosses.{all-at, at-all}
 use Rattle.chart.specs.Chart.{Stroke, upright, level, strokeEdge}
 use Rattle.chart_reader.specs.declared.Ends.{Ends}
 use Rattle.chart_reader.specs.declared.strokes.TwoBars.{TwoBars}

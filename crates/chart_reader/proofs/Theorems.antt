@@ -4,7 +4,7 @@ use mathlib.Core.Path.{_≡_, refl, ap}
 use mathlib.Core.Logic.{_↔_}
 use mathlib.Core.List.{List}
 use Prim.Native.Nat.{ℕ, _<_}
-use Rattle.polygon.specs.Lists.{All}
+use Rattle.lists.specs.Lists.{All}
 use Rattle.polygon.specs.Polygon.{Polygon, Valid}
 use Rattle.codec.specs.Answer.{write}
 use Rattle.sheet.specs.Sheet.{Reading, held, normalSheet, outcome}

@@ -5,14 +5,14 @@ use mathlib.Core.List.{map}
 use Prim.Native.Nat.{ℕ, _<_, min, max}
 use native.Mathlib.Decide.{decLt}
 use native.Mathlib.Omega.{arith}
-use Rattle.polygon.specs.Lists.{Mem, All}
+use Rattle.lists.specs.Lists.{Mem, All}
+use Rattle.lists.proofs.Lists.{all-mem, all-of}
+use Rattle.lists.proofs.Places.{below-at, below-all, below-two, below-sorted-by}
 use Rattle.polygon.specs.Polygon.{Edge, Ascending}
-use Rattle.polygon.proofs.Lists.{all-mem, all-of}
 use Rattle.chart.specs.Chart.{Stroke, upright, level, strokeEdge, Chart, Gap, Between, True}
 use Rattle.chart_reader.specs.declared.Cell.{Cell}
 use Rattle.chart_reader.specs.Cells.{cell, Amid, Inside}
 use Rattle.chart_reader.specs.Rules.{Lies, Apart, BarRule, Named, ends, Fits, StrokeRule, Passes, GapRule}
-use Rattle.chart_reader.proofs.Below.{below-at, below-all, below-two, below-sorted-by}
 
 -- strictly between, said in two ways
 amid-of : {a b x : ℕ} → Between a b x → Amid a b x

@@ -4,11 +4,10 @@ use mathlib.Core.Logic.{inl, inr}
 use Prim.Native.Nat.{suc, _≤_, _<_, min, max}
 use native.Mathlib.Decide.{decLt, ℕ-discrete}
 use native.Mathlib.Omega.{arith}
-use Rattle.polygon.specs.Lists.{choose}
+use Rattle.lists.specs.Lists.{choose, recast?}
 use Rattle.chart.specs.Chart.{Bar}
 use Rattle.chart_reader.specs.declared.Cell.{Cell}
 use Rattle.chart_reader.specs.declared.Area.{Area}
-use Rattle.chart_reader.specs.Decisions.{recast?}
 use Rattle.chart_reader.specs.Cells.{cell, Has, Inside, Common, Stands}
 
 -- the cell lies in the area

@@ -5,12 +5,11 @@ use mathlib.Core.List.{List, [], _∷_, map}
 use Prim.Native.Nat.{ℕ, zero, suc, _+_, _*_, _-_, _%_, _≤_, _<_}
 use native.Mathlib.Decide.{decLe, decLt, ℕ-discrete}
 use lib.ListN.{length, getD}
-use Rattle.polygon.specs.Lists.{All, all?}
+use Rattle.lists.specs.Lists.{All, all?, recast?}
 use Rattle.polygon.specs.Polygon.{Edge, _—_}
 use Rattle.codec.specs.Numbers.{get16}
 use Rattle.sheet.specs.Sheet.{count?}
 use Rattle.chart.specs.Chart.{Bar, Stroke, upright, level, Chart}
-use Rattle.chart_reader.specs.Decisions.{recast?}
 
 -- "Rows, columns, n, two bytes each."
 abbrev pub countIn : List ℕ → ℕ

@@ -4,7 +4,7 @@ use mathlib.Core.List.{List, [], _∷_, flatMap}
 use Prim.Native.Nat.{ℕ, _+_, _*_, _-_, _≤_, _<_}
 use native.Mathlib.Decide.{decLt}
 use lib.ListN.{length, getD}
-use Rattle.polygon.specs.Lists.{All, choose}
+use Rattle.lists.specs.Lists.{All, choose}
 use Rattle.polygon.specs.Polygon.{Edge, Ascending}
 use Rattle.codec.specs.Numbers.{get16}
 use Rattle.chart.specs.Chart.{Bar, Stroke, upright, level, Chart}

@@ -3,6 +3,5 @@ pub mod Decode
 pub mod Rules
 pub mod Reader
 pub mod Areas
-pub mod Decisions
 pub mod Charts
 pub mod Held

@@ -4,13 +4,12 @@ use mathlib.Core.Logic.{Dec·and}
 use mathlib.Core.List.{List, [], _∷_}
 use Prim.Native.Nat.{ℕ}
 use native.Mathlib.Decide.{decLe, decLt, ℕ-discrete}
-use Rattle.polygon.specs.Lists.{below, not?, all?, sorted?, mem?}
+use Rattle.lists.specs.Lists.{below, not?, all?, sorted?, mem?, three?}
 use Rattle.polygon.specs.Order.{before?, same?, none-cross?}
 use Rattle.codec.specs.Answer.{Outcome}
 use Rattle.sheet.specs.Sheet.{Reading, held, ask, outcome}
 use Rattle.chart.specs.Chart.{Stroke, upright, level, strokeEdge, Chart}
 use Rattle.chart_reader.specs.declared.Cell.{Cell}
-use Rattle.chart_reader.specs.Decisions.{three?}
 use Rattle.chart_reader.specs.Areas.{shares?, stands?, crosses?}
 use Rattle.chart_reader.specs.Decode.{chartIn, formed?}
 use Rattle.chart_reader.specs.Rules.{sides, BarRule, Joins, ends, Free, StrokeRule, Passes, GapRule, edgesIn, diagonalsIn, PartRule, partIn}

@@ -4,7 +4,7 @@ use mathlib.Core.Logic.{_≢_}
 use mathlib.Core.List.{List, _∷_, map}
 use mathlib.Core.Option.{none}
 use Prim.Native.Nat.{ℕ, suc, _-_, _≤_, _<_, min, max}
-use Rattle.polygon.specs.Lists.{Mem, All, Sorted, keep, numbers, below}
+use Rattle.lists.specs.Lists.{Mem, All, Sorted, keep, numbers, below}
 use Rattle.polygon.specs.Polygon.{Edge, _—_, Ascending, NoneCross, Polygon}
 use Rattle.polygon.specs.Order.{diagonal?}
 use Rattle.chart.specs.Chart.{Bar, Stroke, upright, level, strokeEdge, Chart, Covers}

@@ -3,7 +3,7 @@ ghost use mathlib.Core.Path.{_≡_};
 ghost use mathlib.Core.Bool.{true, false};
 ghost use Prim.Native.Nat.{_+_, _*_, _<_, _≤_};
 ghost use lib.ListN.{length};
-ghost use Rattle.polygon.specs.Lists.{All, Sorted, below};
+ghost use Rattle.lists.specs.Lists.{All, Sorted, below};
 ghost use Rattle.chart_reader.specs.Decode.{barAt, chartIn};
 ghost use Rattle.chart_reader.specs.Rules.{LiesIn, Lies, Apart, BarRule};
 ghost use Rattle.chart_reader.specs.Held.{Bars};

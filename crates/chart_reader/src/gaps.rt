@@ -5,7 +5,7 @@ ghost use mathlib.Core.List.{flatMap};
 ghost use Prim.Native.Nat.{_+_, _*_, _<_, _≤_};
 ghost use lib.ListN.{length};
 ghost use lib.Seq.{sets};
-ghost use Rattle.polygon.specs.Lists.{All};
+ghost use Rattle.lists.specs.Lists.{All};
 ghost use Rattle.chart.specs.Bytes.{barBytes};
 ghost use Rattle.chart_reader.specs.Decode.{strokeAt, chartIn};
 ghost use Rattle.chart_reader.specs.Rules.{BarRule, Named, StrokeRule, GapRule};

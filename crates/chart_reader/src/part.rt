@@ -3,7 +3,7 @@ ghost use mathlib.Core.Path.{_≡_};
 ghost use mathlib.Core.Bool.{true, false};
 ghost use Prim.Native.Nat.{_+_, _-_, _<_, _≤_};
 ghost use lib.ListN.{length, take};
-ghost use Rattle.polygon.specs.Lists.{keep};
+ghost use Rattle.lists.specs.Lists.{keep};
 ghost use Rattle.polygon.specs.Polygon.{Diagonal};
 ghost use Rattle.polygon.specs.Order.{diagonal?};
 ghost use Rattle.keys.specs.Keys.{edgeOf, edgesOf};

@@ -3,7 +3,7 @@ ghost use mathlib.Core.Path.{_≡_};
 ghost use mathlib.Core.Bool.{true, false};
 ghost use Prim.Native.Nat.{_+_, _*_, _<_, _≤_, min, max};
 ghost use lib.ListN.{length, take};
-ghost use Rattle.polygon.specs.Lists.{All};
+ghost use Rattle.lists.specs.Lists.{All};
 ghost use Rattle.keys.specs.Keys.{edgesOf};
 ghost use Rattle.chart_reader.specs.Decode.{barAt, strokeAt, chartIn};
 ghost use Rattle.chart_reader.specs.Rules.{Named, Joins, Fits, StrokeRule, edgesIn};

@@ -3,7 +3,7 @@
 use mathlib.Core.Path.{_≡_, refl}
 use mathlib.Core.List.{List}
 use Prim.Native.Nat.{ℕ}
-use Rattle.polygon.specs.Lists.{All}
+use Rattle.lists.specs.Lists.{All}
 use Rattle.polygon.specs.Polygon.{Polygon}
 use Rattle.sheet.specs.Sheet.{held}
 use Rattle.chart_reader.specs.Decode.{chartIn, Formed}

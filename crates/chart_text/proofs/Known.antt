@@ -4,7 +4,7 @@ use mathlib.Core.Logic.{Dec·and}
 use mathlib.Core.List.{List, [], _∷_, flatMap}
 use Prim.Native.Nat.{ℕ}
 use native.Mathlib.Decide.{decLe, decLt, ℕ-discrete}
-use Rattle.polygon.specs.Lists.{choose, put, keep, numbers, below, not?, either?, all?, sorted?, mem?}
+use Rattle.lists.specs.Lists.{choose, put, keep, numbers, below, not?, either?, all?, sorted?, mem?, recast?, three?}
 use Rattle.polygon.specs.Order.{before?, same?, cross?, none-cross?, diagonal?}
 use Rattle.polygon.specs.Tree.{treeOf, grow, far, farther, near?}
 use Rattle.umbrella.specs.Plan.{fold}
@@ -15,7 +15,6 @@ use Rattle.chart.specs.Chart.{strokeEdge, barsOf}
 use Rattle.chart.specs.Bytes.{barBytes, strokeBytes, bytesOf}
 use Rattle.log_line.specs.Line.{digits, decimal, numberWord, line}
 use Rattle.chart_reader.specs.Areas.{common?, common-of, between, stands?, shares?, crosses?}
-use Rattle.chart_reader.specs.Decisions.{recast?, three?}
 use Rattle.chart_reader.specs.Decode.{shaped, places, behind, formed?}
 use Rattle.chart_reader.specs.Rules.{sides}
 use Rattle.chart_reader.specs.Reader.{bars?, free?, joins?, strokes?, passes?, gaps?, part?, readChart}

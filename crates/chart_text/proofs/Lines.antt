@@ -7,15 +7,15 @@ use native.Mathlib.Numerals.{add-one}
 use native.Mathlib.Omega.{arith}
 use lib.ListN.{length, take, getD, length-append}
 use lib.Seq.{take-suc, take-all}
-use Rattle.polygon.specs.Lists.{numbers, below}
+use Rattle.lists.specs.Lists.{numbers, below}
+use Rattle.lists.proofs.Lists.{flat-append}
+use Rattle.lists.proofs.Places.{below-next}
 use Rattle.codec.specs.Numbers.{get16}
 use Rattle.log_line.specs.Line.{decimal, columnsWord}
 use Rattle.log_line.specs.Put.{Put}
 use Rattle.log_line.proofs.Putting.{put-then}
 use Rattle.log_line.proofs.Size.{decimal-small}
-use Rattle.chart_writer.proofs.Below.{below-next}
 use Rattle.chart_reader.specs.Decode.{countIn, barAt, chartIn}
-use Rattle.chart_reader.proofs.Gapped.{flat-append}
 use Rattle.chart_text.specs.Text.{cornerWord, rowWord, toWord, cornerLine, cornerLines, strokeLine}
 use Rattle.chart_text.specs.Ordered.{strokeOf, strokesOf, linesOf}
 

@@ -7,12 +7,11 @@ use Prim.Native.Nat.{_≤_}
 use native.Mathlib.Decide.{decLe}
 use native.Mathlib.Nat.{le-trans}
 use native.Mathlib.Omega.{arith}
-use Rattle.polygon.specs.Lists.{Mem, head, tail, Sub, All, all-nil, all-cons, Sorted, sorted-nil, sorted-cons, choose}
+use Rattle.lists.specs.Lists.{Mem, head, tail, Sub, All, all-nil, all-cons, Sorted, sorted-nil, sorted-cons, choose}
+use Rattle.lists.proofs.Lists.{all-mem, all-imp, all-of, sorted-same, mem-map}
 use Rattle.polygon.specs.Polygon.{Before, Ascending}
-use Rattle.polygon.proofs.Lists.{all-mem, all-imp, all-of, sorted-same}
 use Rattle.polygon.proofs.Order.{one-way}
 use Rattle.chart.specs.Chart.{Stroke, strokeEdge, Chart}
-use Rattle.chart.proofs.Lists.{mem-map}
 use Rattle.chart_text.specs.Text.{standing, enter, leftToRight}
 
 -- one of two lists

@@ -2,12 +2,12 @@
 use mathlib.Core.Path.{_≡_, refl, ap, ap₂, _∙_}
 use mathlib.Core.List.{List, _∷_, _++_, map, flatMap}
 use native.Mathlib.Omega.{arith}
-use Rattle.polygon.specs.Lists.{All, all-nil, all-cons, below}
-use Rattle.polygon.proofs.Lists.{all-imp}
+use Rattle.lists.specs.Lists.{All, all-nil, all-cons, below}
+use Rattle.lists.proofs.Lists.{all-imp}
+use Rattle.lists.proofs.Places.{below-all}
 use Rattle.chart.specs.Chart.{Stroke, upright, level, strokeEdge, Chart, barsOf}
 use Rattle.chart.specs.Bytes.{bytesOf}
 use Rattle.chart_reader.specs.Rules.{Named}
-use Rattle.chart_reader.proofs.Below.{below-all}
 use Rattle.chart_reader.proofs.Same.{Same}
 use Rattle.chart_text.specs.Text.{cornerLine, cornerLines, standing, strokeName, strokeLine, enter, leftToRight, strokeLines}
 use Rattle.chart_text.proofs.Order.{order-all}

@@ -6,9 +6,9 @@ use mathlib.Core.Option.{none}
 use Prim.Native.Nat.{ℕ, zero, suc, _+_, _*_, _%_, _<_}
 use native.Mathlib.Omega.{arith}
 use lib.ListN.{getD}
-use Rattle.polygon.specs.Lists.{All}
+use Rattle.lists.specs.Lists.{All}
+use Rattle.lists.proofs.Lists.{all-map, all-of}
 use Rattle.polygon.specs.Polygon.{Edge, Polygon, Valid}
-use Rattle.polygon.proofs.Lists.{all-map, all-of}
 use Rattle.polygon.proofs.TreeTheorem.{tree-of}
 use Rattle.umbrella.specs.Best.{planOf}
 use Rattle.umbrella.proofs.Theorems.{umbrellas-bound}

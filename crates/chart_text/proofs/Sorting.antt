@@ -8,12 +8,12 @@ use native.Mathlib.Numerals.{add-one}
 use native.Mathlib.Omega.{arith}
 use lib.ListN.{length, take, set}
 use lib.Seq.{take-suc-set}
-use Rattle.polygon.specs.Lists.{All, all-nil, all-cons, choose, numbers, below}
-use Rattle.polygon.proofs.Lists.{all-imp, all-map, numbers-in}
+use Rattle.lists.specs.Lists.{All, all-nil, all-cons, choose, numbers, below}
+use Rattle.lists.proofs.Lists.{all-imp, all-map}
+use Rattle.lists.proofs.Places.{numbers-in, below-next, map-places}
 use Rattle.keys.specs.Sort.{insertKey, sortKeys}
 use Rattle.keys.proofs.Insert.{insert-below, insert-past}
 use Rattle.chart.specs.Chart.{Stroke, Chart}
-use Rattle.chart_writer.proofs.Below.{below-next, map-places}
 use Rattle.chart_reader.specs.Decode.{strokeAt, chartIn}
 use Rattle.chart_reader.specs.Held.{Placed}
 use Rattle.chart_reader.proofs.Stroked.{strokes-room}

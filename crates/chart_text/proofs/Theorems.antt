@@ -4,7 +4,7 @@ use mathlib.Core.Path.{_≡_, refl, sym, _∙_}
 use mathlib.Core.List.{List, _++_}
 use Prim.Native.Nat.{ℕ, _+_, _*_, _≤_, _<_}
 use lib.ListN.{length, take}
-use Rattle.polygon.specs.Lists.{All, Sorted}
+use Rattle.lists.specs.Lists.{All, Sorted}
 use Rattle.polygon.specs.Polygon.{Polygon, Valid}
 use Rattle.sheet.specs.Sheet.{held, normalSheet}
 use Rattle.sheet.proofs.Back.{read-back}

@@ -5,16 +5,16 @@ use mathlib.Core.List.{List, [], _∷_, _++_, map, flatMap, append-assoc, append
 use Prim.Native.Nat.{ℕ, _+_, _<_}
 use native.Mathlib.Omega.{arith}
 use lib.ListN.{drop, getD}
-use Rattle.polygon.specs.Lists.{All, all-nil, all-cons, choose, below}
+use Rattle.lists.specs.Lists.{All, all-nil, all-cons, choose, below}
+use Rattle.lists.proofs.Lists.{all-both}
+use Rattle.lists.proofs.Places.{below-at, below-all}
 use Rattle.polygon.specs.Polygon.{Edge, Ascending}
 use Rattle.polygon.specs.Order.{diagonal?}
-use Rattle.polygon.proofs.Lists.{all-both}
 use Rattle.chart.specs.Chart.{Bar, Stroke, upright, level, strokeEdge, Chart}
 use Rattle.chart.specs.Bytes.{StrokeFits, Fits}
 use Rattle.log_line.specs.Line.{decimal}
 use Rattle.log_line.proofs.Reading.{number-told}
 use Rattle.chart_reader.specs.Rules.{Named}
-use Rattle.chart_reader.proofs.Below.{below-at, below-all}
 use Rattle.chart_text.specs.Text.{toWord, levelWord, bendWord, sideWord, cornerLine, cornerLines, leaves, arrives, strokeName, edgeName, strokeLine, leftToRight, strokeLines}
 use Rattle.chart_text.proofs.Order.{order-all, order-tells}
 

@@ -7,7 +7,7 @@ use Prim.Native.Nat.{ℕ, _+_, _*_, _<_}
 use lib.ListN.{getD}
 use Rattle.polygon.specs.Polygon.{_—_, Diagonal}
 use Rattle.polygon.specs.Order.{diagonal?}
-use Rattle.polygon.proofs.Lists.{choose-yes, choose-no}
+use Rattle.lists.proofs.Lists.{choose-yes, choose-no}
 use Rattle.keys.specs.Keys.{keyOf, edgeOf}
 use Rattle.keys.proofs.InOrder.{edge-of-key}
 use Rattle.log_line.specs.Line.{decimal, cornersWord}

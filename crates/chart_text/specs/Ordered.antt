@@ -2,7 +2,7 @@
 use mathlib.Core.List.{List, map, flatMap}
 use Prim.Native.Nat.{ℕ, _+_, _*_, _%_}
 use lib.ListN.{length, getD}
-use Rattle.polygon.specs.Lists.{below}
+use Rattle.lists.specs.Lists.{below}
 use Rattle.chart.specs.Chart.{Stroke}
 use Rattle.chart_reader.specs.Decode.{strokeAt, chartIn}
 use Rattle.chart_text.specs.Text.{strokeLine, standing}

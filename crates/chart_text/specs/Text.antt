@@ -8,7 +8,7 @@
 use mathlib.Core.List.{List, [], _∷_, _++_, flatMap}
 use Prim.Native.Nat.{ℕ, _+_, _*_, min, max}
 use native.Mathlib.Decide.{decLe}
-use Rattle.polygon.specs.Lists.{choose, below}
+use Rattle.lists.specs.Lists.{choose, below}
 use Rattle.polygon.specs.Polygon.{Edge, Polygon}
 use Rattle.polygon.specs.Order.{diagonal?}
 use Rattle.sheet.specs.Sheet.{Reading, refused, held}

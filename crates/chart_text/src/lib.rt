@@ -2,7 +2,7 @@
 // The reading is that of the crate chart_reader, the part's line that of draw, the words and numbers are written by log_line. strokes.rt has the strokes.
 ghost use Prim.Native.Nat.{_+_, _*_, _<_, _≤_};
 ghost use lib.ListN.{length};
-ghost use Rattle.polygon.specs.Lists.{All};
+ghost use Rattle.lists.specs.Lists.{All};
 ghost use Rattle.sheet.specs.Sheet.{held};
 ghost use Rattle.sheet.specs.Held.{polygonOf, InHand};
 ghost use Rattle.log_line.specs.Put.{Put};

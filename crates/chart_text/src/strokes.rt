@@ -2,7 +2,7 @@
 ghost use mathlib.Core.Path.{_≡_};
 ghost use Prim.Native.Nat.{_+_, _*_, _%_, _<_, _≤_};
 ghost use lib.ListN.{length, take};
-ghost use Rattle.polygon.specs.Lists.{All};
+ghost use Rattle.lists.specs.Lists.{All};
 ghost use Rattle.polygon.specs.Polygon.{_—_};
 ghost use Rattle.keys.specs.Sort.{sortKeys};
 ghost use Rattle.log_line.specs.Put.{Put};

@@ -8,14 +8,14 @@ use native.Mathlib.Numerals.{add-one}
 use native.Mathlib.Omega.{arith}
 use lib.ListN.{length, take, drop, getD, set, length-set, length-map, length-append, drop-of-length-le}
 use lib.Seq.{drop-cons, take-suc, length-take-le}
-use Rattle.polygon.specs.Lists.{choose}
+use Rattle.lists.specs.Lists.{choose}
+use Rattle.lists.proofs.Lists.{choose-yes, choose-no}
+use Rattle.lists.proofs.Places.{stored}
 use Rattle.polygon.specs.Polygon.{Edge}
-use Rattle.polygon.proofs.Lists.{choose-yes, choose-no}
 use Rattle.keys.specs.Keys.{edgeOf}
 use Rattle.tree.specs.Shows.{edgeAt}
 use Rattle.chart.specs.Chart.{Meets, meets?, first, last}
 use Rattle.chart_writer.specs.Tables.{Uprights, Filled, Spans}
-use Rattle.chart_writer.proofs.Placing.{stored}
 
 -- one column more, before the others or behind them
 first-met : (x : ℕ) (e : Edge) (us : List Edge) → Meets x e → first x (e ∷ us) ≡ 0

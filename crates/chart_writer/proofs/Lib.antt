@@ -1,4 +1,3 @@
-pub mod Below
 pub mod Placing
 pub mod Extents
 pub mod Runs

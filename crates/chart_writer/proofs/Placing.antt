@@ -5,25 +5,17 @@ use Prim.Native.Nat.{ℕ, zero, suc, _+_, _<_, _≤_}
 use native.Mathlib.Decide.{ℕ-discrete}
 use native.Mathlib.Omega.{arith}
 use lib.ListN.{length, take, drop, getD, set, length-map, drop-of-length-le, List·getD-map}
-use lib.Seq.{drop-cons, length-take-le, getD-take, getD-set-same, getD-set-other}
-use Rattle.polygon.specs.Lists.{choose, All, all-nil, all-cons, sorted-nil, sorted-cons}
+use lib.Seq.{drop-cons, length-take-le, getD-take}
+use Rattle.lists.specs.Lists.{choose, All, all-nil, all-cons, sorted-nil, sorted-cons}
+use Rattle.lists.proofs.Lists.{choose-yes, choose-no}
+use Rattle.lists.proofs.Places.{all-at, at-all, stored}
 use Rattle.polygon.specs.Polygon.{Edge}
 use Rattle.polygon.specs.Order.{same?, Distinct}
-use Rattle.polygon.proofs.Lists.{choose-yes, choose-no}
 use Rattle.polygon.proofs.Sort.{distinct-of}
 use Rattle.keys.specs.Keys.{edgeOf, edgesOf}
-use Rattle.keys.proofs.Crosses.{all-at, at-all}
 use Rattle.tree.specs.Shows.{edgeAt}
 use Rattle.chart.specs.Chart.{upright, level, stroke}
 use Rattle.chart_writer.specs.Tables.{Edges, Among, column, strokeOf, mapByte}
-
--- what holds of the value stored and of the values at the other places
-pub stored : (P : ℕ → Type 0) (l : List ℕ) (i v j : ℕ) → i < length l → (j ≡ i → P v) → ((j ≡ i → ⊥) → P (getD l j 0)) → P (getD (set l i v) j 0)
-stored P l i v j h f g = go (ℕ-discrete j i)
-  where
-    go : Dec (j ≡ i) → P (getD (set l i v) j 0)
-    go (yes e) = rw (e, getD-set-same l i v 0 h) (f e)
-    go (no e) = rw (getD-set-other l i j v 0 e) (g e)
 
 -- the columns from j on are stored
 abbrev pub Placed : List ℕ → List ℕ → ℕ → Type 0

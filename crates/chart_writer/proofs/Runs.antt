@@ -7,14 +7,13 @@ use native.Mathlib.Numerals.{add-one}
 use native.Mathlib.Omega.{arith}
 use lib.ListN.{length, getD, set, length-append, length-map}
 use lib.Seq.{sets, set-set, set-comm}
-use Rattle.polygon.specs.Lists.{numbers, below}
-use Rattle.polygon.proofs.Lists.{below-count}
+use Rattle.lists.specs.Lists.{numbers, below}
+use Rattle.lists.proofs.Places.{below-count, below-next}
+use Rattle.lists.proofs.Stores.{sets-append}
 use Rattle.codec.specs.Numbers.{bytes16}
-use Rattle.codec.proofs.Stores.{sets-append}
 use Rattle.chart.specs.Bytes.{barBytes, strokeBytes}
 use Rattle.chart.proofs.Sizes.{bars-size}
 use Rattle.chart_writer.specs.Tables.{mapByte, edgeBytes, strokeOf, barAt, strokeAt, barRun, strokeRun}
-use Rattle.chart_writer.proofs.Below.{below-next}
 use Rattle.chart_writer.proofs.Placing.{level-stroke, upright-stroke, level-map, upright-map}
 
 -- a store before others, and stores over others

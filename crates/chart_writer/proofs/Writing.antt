@@ -5,11 +5,12 @@ use Prim.Native.Nat.{ℕ, suc, _+_, _*_, _-_, _≤_, _<_}
 use native.Mathlib.Omega.{arith}
 use lib.ListN.{length, take, getD, length-map, length-append}
 use lib.Seq.{sets}
-use Rattle.polygon.specs.Lists.{below}
+use Rattle.lists.specs.Lists.{below}
+use Rattle.lists.proofs.Places.{map-places, map-below}
+use Rattle.lists.proofs.Stores.{sets-append, sets-front}
 use Rattle.polygon.specs.Polygon.{Edge}
 use Rattle.codec.specs.Numbers.{bytes16}
 use Rattle.codec.specs.Answer.{Answer, refusal, written, write}
-use Rattle.codec.proofs.Stores.{sets-append, sets-front}
 use Rattle.codec.proofs.Answers.{written-short, written-fits}
 use Rattle.keys.specs.Keys.{edgeOf, edgesOf}
 use Rattle.tree.specs.Shows.{edgeAt}
@@ -17,7 +18,6 @@ use Rattle.chart.specs.Chart.{stroke, Chart, layout, barsOf}
 use Rattle.chart.specs.Bytes.{barBytes, strokeBytes, bytesOf}
 use Rattle.chart.proofs.Sizes.{bars-count, bars-size}
 use Rattle.chart_writer.specs.Tables.{Uprights, Sizes, Edges, Among, Laid, Columns, Spans, RowsAre, barAt, strokeAt, barRun, strokeRun}
-use Rattle.chart_writer.proofs.Below.{map-places, map-below}
 use Rattle.chart_writer.proofs.Placing.{edge-listed, edges-count, stroke-is}
 
 module _ (n D : ℕ) (rs : List ℕ) (us es : List Edge) (pos : 1 ≤ n) where

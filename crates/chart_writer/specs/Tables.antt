@@ -4,7 +4,7 @@ use mathlib.Core.List.{List, [], _∷_, _++_, map, flatMap}
 use Prim.Native.Nat.{ℕ, suc, _+_, _*_, _-_, _/_, _%_, _≤_, _<_}
 use native.Mathlib.Decide.{ℕ-discrete}
 use lib.ListN.{length, take, getD}
-use Rattle.polygon.specs.Lists.{choose, below}
+use Rattle.lists.specs.Lists.{choose, below}
 use Rattle.polygon.specs.Polygon.{Edge, Ascending}
 use Rattle.codec.specs.Numbers.{bytes16}
 use Rattle.keys.specs.Keys.{edgeOf, edgesOf}

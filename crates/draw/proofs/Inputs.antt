@@ -15,7 +15,7 @@ use Rattle.codec.specs.Answer.{Answer, write, whole, written, answered}
 use Rattle.codec.proofs.Answers.{written-fits, bytes-left}
 use Rattle.codec.specs.Input.{Begins}
 use Rattle.codec.proofs.Input.{begins-take}
-use Rattle.codec.proofs.Stores.{sets-front}
+use Rattle.lists.proofs.Stores.{sets-front}
 use Rattle.sheet.specs.Sheet.{Reading, refused, held, readSheet}
 use Rattle.sheet.proofs.Long.{long-input}
 use Rattle.chart.specs.Chart.{chartOf}

@@ -2,12 +2,12 @@
 -- Rests on Following.antt.
 use mathlib.Core.Path.{_≡_, refl, sym, _∙_, ap}
 use mathlib.Core.Bool.{Bool, true, false}
-use mathlib.Core.List.{List, [], _∷_, _++_, reverse, reverse-append}
+use mathlib.Core.List.{List, [], _∷_, _++_, reverse-append}
 use Prim.Native.Nat.{ℕ, _+_, _*_, _-_, _<_, _≤_}
 use native.Mathlib.Omega.{arith}
 use lib.ListN.{length, set, length-set}
 use lib.Seq.{sets}
-use Rattle.polygon.specs.Tree.{Tree, leaf, node, span}
+use Rattle.polygon.specs.Tree.{Tree, leaf, node}
 use Rattle.umbrella.specs.Numbers.{ud}
 use Rattle.umbrella.specs.declared.roles.Role.{Role}
 use Rattle.umbrella.specs.declared.roles.Role.the-variants.{Hung, LeftRim, RightRim}
@@ -17,14 +17,14 @@ use Rattle.tree.specs.declared.Two.{Two}
 use Rattle.tree.specs.Shows.{apexAt, beyond}
 use Rattle.umbrella.proofs.Wide.{nine}
 use Rattle.tree.proofs.Pieces.{closed, ends}
-use Rattle.levels.specs.Numbered.{six, sixAt, Known}
+use Rattle.levels.specs.Numbered.{Known}
 use Rattle.levels.proofs.Knowing.{KnownParts, known-parts}
 use Rattle.drawing.specs.declared.lines.Line.{Line}
 use Rattle.drawing.specs.declared.lines.Way.{Way}
 use Rattle.drawing.specs.declared.lines.Rims.{Rims}
 use Rattle.drawing.specs.Columns.{columns}
 use Rattle.drawing.specs.Lines.{onLine, farLine, nearLine, ranks}
-use Rattle.drawing.specs.Walk.{rimsOf, lay, Drawn, Walked, Room}
+use Rattle.drawing.specs.Walk.{rimsOf, lay, Walked, Room}
 use Rattle.drawing.proofs.Orders.{lay-none, hung-side, rims}
 use Rattle.drawing.proofs.OnLines.{hung-ranks}
 use Rattle.drawing.proofs.Walking.{none, seq, same, left-then-right, right-then-left, ranks-length}

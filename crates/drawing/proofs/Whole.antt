@@ -14,7 +14,7 @@ use Rattle.umbrella.specs.declared.roles.Role.the-variants.{Hung}
 use Rattle.umbrella.specs.Numbers.{ud}
 use Rattle.umbrella.specs.Best.{best}
 use Rattle.umbrella.proofs.Theorems.{computed-has}
-use Rattle.keys.proofs.Crosses.{at-all}
+use Rattle.lists.proofs.Places.{at-all}
 use Rattle.tree.specs.declared.Piece.{Piece}
 use Rattle.tree.specs.Shows.{edgeAt}
 use Rattle.tree.proofs.Pieces.{corners, ends}

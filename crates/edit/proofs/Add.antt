@@ -5,9 +5,9 @@ use Prim.Native.Nat.{ℕ, suc, _+_, _≤_, _<_}
 use native.Mathlib.Decide.{ℕ-discrete}
 use native.Mathlib.Omega.{arith}
 use lib.ListN.{length-map}
-use Rattle.polygon.specs.Lists.{All, choose}
+use Rattle.lists.specs.Lists.{All, choose}
+use Rattle.lists.proofs.Lists.{all-imp, all-map}
 use Rattle.polygon.specs.Polygon.{Edge, _—_, Ascending, Diagonal, Triangulated, Polygon, Valid}
-use Rattle.polygon.proofs.Lists.{all-imp, all-map}
 use Rattle.polygon.proofs.Order.{low-of, high-of}
 use Rattle.edit.specs.Rules.{addEar, up, both, entering, earAdded}
 use Rattle.edit.proofs.Rule.{Takes, given}

@@ -5,10 +5,10 @@ use mathlib.Core.List.{List, _∷_}
 use Prim.Native.Nat.{ℕ, _+_, _≤_}
 use native.Mathlib.Omega.{arith}
 use lib.ListN.{length}
-use Rattle.polygon.specs.Lists.{Mem, head, All}
+use Rattle.lists.specs.Lists.{Mem, head, All}
+use Rattle.lists.proofs.Lists.{there, all-imp, all-both, all-mem, all-self, sorted-same}
 use Rattle.polygon.specs.Polygon.{Edge, Ascending, Cross, NoneCross, Diagonal, Triangulated}
 use Rattle.polygon.specs.Order.{same?, remove, insert}
-use Rattle.polygon.proofs.Lists.{there, all-imp, all-both, all-mem, all-self, sorted-same}
 use Rattle.polygon.proofs.Order.{one-way, remove-all, remove-other, remove-ascending, remove-mem, insert-all, insert-ascending, insert-length, insert-mem}
 use Rattle.polygon.proofs.TreeTheorem.{from-enough}
 

@@ -4,10 +4,11 @@ use mathlib.Core.Logic.{_⊎_, inl, inr}
 use mathlib.Core.List.{List, [], _∷_}
 use Prim.Native.Nat.{ℕ, _<_}
 use native.Mathlib.Omega.{arith}
-use Rattle.polygon.specs.Lists.{Mem, head, tail, All, all-nil, all-cons, sorted-nil, sorted-cons}
+use Rattle.lists.specs.Lists.{Mem, head, tail, All, all-nil, all-cons, sorted-nil, sorted-cons}
+use Rattle.lists.proofs.Lists.{here, there, all-imp, all-both, all-mem, all-self, keep-sorted, sorted-same}
+use Rattle.lists.proofs.Places.{below-sorted}
 use Rattle.polygon.specs.Polygon.{Edge, _—_, Cross, Diagonal, Triangulated, Polygon, Valid, Linked, Joined}
 use Rattle.polygon.specs.Order.{remove, insert, lower-first}
-use Rattle.polygon.proofs.Lists.{here, there, all-imp, all-both, all-mem, all-self, keep-sorted, sorted-same, below-sorted}
 use Rattle.polygon.proofs.Order.{edge, low-of, high-of, remove-all, remove-other, remove-ascending, remove-length, remove-mem, insert-mem}
 use Rattle.sheet.specs.Sheet.{held}
 use Rattle.edit.specs.Rules.{flip, common, enter, flipped, renewed, rule}

@@ -4,10 +4,10 @@ use mathlib.Core.List.{List, [], _∷_}
 use Prim.Native.Nat.{ℕ, _+_, _-_, _≤_, _<_}
 use native.Mathlib.Omega.{arith}
 use lib.ListN.{length, take, length-map}
-use Rattle.polygon.specs.Lists.{Mem}
+use Rattle.lists.specs.Lists.{Mem}
+use Rattle.lists.proofs.Lists.{all-mem}
 use Rattle.polygon.specs.Polygon.{Edge}
 use Rattle.polygon.specs.Order.{insert, remove}
-use Rattle.polygon.proofs.Lists.{all-mem}
 use Rattle.polygon.proofs.Order.{insert-length}
 use Rattle.keys.specs.Keys.{keyOf, edgeOf, edgesOf}
 use Rattle.keys.specs.Sort.{merge}

@@ -7,9 +7,9 @@ use native.Mathlib.Decide.{decLe}
 use native.Mathlib.Omega.{arith}
 use lib.ListN.{length}
 use lib.Seq.{take-append-seam}
-use Rattle.polygon.specs.Lists.{All}
+use Rattle.lists.specs.Lists.{All}
+use Rattle.lists.proofs.Lists.{choose-yes, choose-no}
 use Rattle.polygon.specs.Polygon.{Polygon, Valid}
-use Rattle.polygon.proofs.Lists.{choose-yes, choose-no}
 use Rattle.codec.specs.Answer.{Answer, fit, written}
 use Rattle.sheet.specs.Sheet.{Reading, refused, held, ask, readSheet, normalSheet, outcome}
 use Rattle.sheet.proofs.Valid.{read-valid}

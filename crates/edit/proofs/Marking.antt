@@ -8,12 +8,12 @@ use native.Mathlib.Numerals.{add-one}
 use native.Mathlib.Omega.{arith}
 use lib.ListN.{length, take, set, getD, length-set, length-map, List·getD-map}
 use lib.Seq.{take-suc, getD-set-same, getD-set-other}
-use Rattle.polygon.specs.Lists.{Mem, head, tail, All}
+use Rattle.lists.specs.Lists.{Mem, head, tail, All}
+use Rattle.lists.proofs.Lists.{mem-left, mem-right, not-empty, choose-yes, choose-no}
+use Rattle.lists.proofs.Places.{all-at, at-all}
 use Rattle.polygon.specs.Polygon.{Edge, _—_, Side, Joined}
-use Rattle.polygon.proofs.Lists.{mem-left, mem-right, not-empty, choose-yes, choose-no}
 use Rattle.polygon.proofs.Order.{edge, low-of, high-of}
 use Rattle.keys.specs.Keys.{edgeOf, edgesOf}
-use Rattle.keys.proofs.Crosses.{all-at, at-all}
 use Rattle.edit.specs.Rules.{neighbours, Away}
 use Rattle.edit.specs.Tables.{OtherEnd, Near}
 use Rattle.edit.proofs.Reading.{neighbours-read}
@@ -134,11 +134,3 @@ pub end-below : (c k r : ℕ) → k < 1048576 → OtherEnd (edgeOf k) c r → r 
 end-below c k r h (inl (p, q)) = omega arith
 end-below c k r h (inr (inl (p, q))) = omega arith
 end-below c k r h (inr (inr (p, q, e))) = omega arith
-
--- what no corner from a place on before x has, and x has not, no corner before x + 1 has
-pub between-more : (Q : ℕ → Type 0) (from x : ℕ) → ((y : ℕ) → from ≤ y → y < x → ¬ Q y) → ¬ Q x → (y : ℕ) → from ≤ y → y < x + 1 → ¬ Q y
-between-more Q from x f g y a b q = go (ℕ-discrete y x)
-  where
-    go : Dec (y ≡ x) → ⊥
-    go (yes e) = g (rw e at q)
-    go (no e) = f y a (omega arith) q

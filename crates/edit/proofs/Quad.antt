@@ -5,7 +5,7 @@ use mathlib.Core.List.{List}
 use Prim.Native.Nat.{ℕ, _<_}
 use native.Mathlib.Decide.{decLt}
 use native.Mathlib.Omega.{arith}
-use Rattle.polygon.specs.Lists.{Mem}
+use Rattle.lists.specs.Lists.{Mem}
 use Rattle.polygon.specs.Polygon.{Edge, _—_, Cross, Triangulated, Linked, Joined}
 use Rattle.polygon.proofs.Order.{edge}
 use Rattle.polygon.proofs.Triangle.{Within, Beyond, Ahead, Outer, Some, triangle, opposite, linked-up, links-free}

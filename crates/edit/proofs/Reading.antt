@@ -5,10 +5,11 @@ use mathlib.Core.List.{List}
 use Prim.Native.Nat.{ℕ, zero, suc, _+_, _-_, _≤_, _<_}
 use native.Mathlib.Decide.{ℕ-discrete}
 use native.Mathlib.Omega.{arith}
-use Rattle.polygon.specs.Lists.{Mem, choose, below}
+use Rattle.lists.specs.Lists.{Mem, choose, below}
+use Rattle.lists.proofs.Lists.{all-mem, keep-mem, keep-sub, keep-test}
+use Rattle.lists.proofs.Places.{numbers-in, below-mem}
 use Rattle.polygon.specs.Polygon.{Edge, _—_, Side, Joined, Polygon}
 use Rattle.polygon.specs.Order.{lower-first}
-use Rattle.polygon.proofs.Lists.{all-mem, keep-mem, keep-sub, keep-test, numbers-in, below-mem}
 use Rattle.polygon.proofs.Order.{edge}
 use Rattle.sheet.specs.Sheet.{Reading, ask}
 use Rattle.edit.specs.Rules.{flip, entering, neighbours, common, rule}

@@ -2,9 +2,9 @@
 use mathlib.Core.List.{List, [], _∷_, _++_}
 use Prim.Native.Nat.{ℕ}
 use native.Mathlib.Omega.{arith}
-use Rattle.polygon.specs.Lists.{All, all-nil, all-cons}
+use Rattle.lists.specs.Lists.{All, all-nil, all-cons}
+use Rattle.lists.proofs.Lists.{here, there, mem-left, mem-right, all-append}
 use Rattle.polygon.specs.Polygon.{Polygon}
-use Rattle.polygon.proofs.Lists.{here, there, mem-left, mem-right, all-append}
 use Rattle.codec.specs.Answer.{written}
 use Rattle.sheet.specs.Sheet.{Reading}
 use Rattle.sheet.specs.Refusals.{sheetTests, RefusedBy, by, holds, Proper, Settled}

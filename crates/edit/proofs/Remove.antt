@@ -7,10 +7,10 @@ use Prim.Native.Nat.{ℕ, zero, suc, _+_, _-_, _≤_, _<_}
 use native.Mathlib.Decide.{decLe, decLt, ℕ-discrete}
 use native.Mathlib.Omega.{arith}
 use lib.ListN.{length-map}
-use Rattle.polygon.specs.Lists.{Mem, All, choose}
+use Rattle.lists.specs.Lists.{Mem, All, choose}
+use Rattle.lists.proofs.Lists.{all-imp, all-both, all-of, all-map}
 use Rattle.polygon.specs.Polygon.{Edge, _—_, Diagonal, Triangulated, Polygon, Valid}
 use Rattle.polygon.specs.Order.{remove}
-use Rattle.polygon.proofs.Lists.{all-imp, all-both, all-of, all-map}
 use Rattle.polygon.proofs.Order.{edge, remove-all, remove-other, remove-ascending, remove-length, removed, insert-all}
 use Rattle.polygon.proofs.TreeTheorem.{from-enough}
 use Rattle.sheet.specs.Sheet.{held}

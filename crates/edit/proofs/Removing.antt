@@ -4,9 +4,9 @@ use mathlib.Core.List.{List, map}
 use Prim.Native.Nat.{ℕ, _-_, _≤_, _<_}
 use native.Mathlib.Omega.{arith}
 use lib.ListN.{length, take}
-use Rattle.polygon.specs.Lists.{All}
+use Rattle.lists.specs.Lists.{All}
+use Rattle.lists.proofs.Lists.{all-imp}
 use Rattle.polygon.specs.Polygon.{Edge, _—_, Diagonal}
-use Rattle.polygon.proofs.Lists.{all-imp}
 use Rattle.polygon.proofs.Order.{remove-all}
 use Rattle.keys.specs.Keys.{keyOf, edgesOf}
 use Rattle.keys.specs.Change.{removeKey}

@@ -5,9 +5,9 @@ use mathlib.Core.List.{List, map}
 use Prim.Native.Nat.{ℕ, suc, _+_, _-_, _<_}
 use native.Mathlib.Decide.{decLt}
 use native.Mathlib.Omega.{arith}
-use Rattle.polygon.specs.Lists.{All, choose}
+use Rattle.lists.specs.Lists.{All, choose}
+use Rattle.lists.proofs.Lists.{all-both, all-map, sorted-map}
 use Rattle.polygon.specs.Polygon.{Edge, Before, Ascending, Cross, NoneCross}
-use Rattle.polygon.proofs.Lists.{all-both, all-map, sorted-map}
 use Rattle.edit.specs.Rules.{up, down, both}
 
 -- `up` and `down` as equations that omega reads

@@ -2,7 +2,7 @@
 use mathlib.Core.Path.{_≡_, refl, ap}
 use Prim.Native.Nat.{ℕ, suc, _-_, _≤_, _<_}
 use native.Mathlib.Omega.{arith}
-use Rattle.polygon.specs.Lists.{Mem, All}
+use Rattle.lists.specs.Lists.{Mem, All}
 use Rattle.polygon.specs.Polygon.{Polygon}
 use Rattle.polygon.specs.Order.{lower-first}
 use Rattle.sheet.specs.Sheet.{Reading, refused, held, ask}

@@ -2,7 +2,7 @@
 use mathlib.Core.Path.{_≡_, refl}
 use mathlib.Core.List.{List}
 use Prim.Native.Nat.{ℕ, _≤_, _<_}
-use Rattle.polygon.specs.Lists.{All}
+use Rattle.lists.specs.Lists.{All}
 use Rattle.polygon.specs.Polygon.{Polygon}
 use Rattle.codec.specs.Answer.{written}
 use Rattle.sheet.specs.Sheet.{Reading, refused, held, readSheet, outcome}

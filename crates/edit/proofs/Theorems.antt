@@ -3,7 +3,7 @@ use mathlib.Core.Path.{_≡_}
 use mathlib.Core.Logic.{_⊎_, _↔_}
 use mathlib.Core.List.{List, [], _∷_}
 use Prim.Native.Nat.{ℕ, suc, _≤_, _<_}
-use Rattle.polygon.specs.Lists.{Mem, All}
+use Rattle.lists.specs.Lists.{Mem, All}
 use Rattle.polygon.specs.Polygon.{Edge, Side, Joined, Polygon, Valid}
 use Rattle.polygon.specs.Order.{remove, insert, lower-first}
 use Rattle.sheet.specs.Sheet.{refused, held, readSheet}

@@ -1,15 +1,16 @@
 -- A diagonal turned in the code's table: it is taken out, and the pair of its ends' two common neighbours put in.
-use mathlib.Core.Path.{_≡_, refl, ap, _∙_}
+use mathlib.Core.Path.{_≡_, ap, _∙_}
 use mathlib.Core.Logic.{_⊎_, inl, inr}
 use mathlib.Core.List.{List, [], _∷_}
-use Prim.Native.Nat.{ℕ, zero, suc, _+_, _-_, _≤_, _<_}
+use Prim.Native.Nat.{ℕ, _+_, _-_, _≤_, _<_}
 use native.Mathlib.Decide.{decLt}
 use native.Mathlib.Omega.{arith}
-use lib.ListN.{length, take, getD, replicate}
-use Rattle.polygon.specs.Lists.{Mem, head, tail, all-cons, Sorted, sorted-cons}
+use lib.ListN.{length, take, getD}
+use Rattle.lists.specs.Lists.{Mem, head, tail, all-cons, Sorted, sorted-cons}
+use Rattle.lists.proofs.Lists.{here, there, not-empty, keep-sorted}
+use Rattle.lists.proofs.Places.{below-sorted}
 use Rattle.polygon.specs.Polygon.{Edge, _—_}
 use Rattle.polygon.specs.Order.{insert, remove, lower-first}
-use Rattle.polygon.proofs.Lists.{here, there, not-empty, keep-sorted, below-sorted}
 use Rattle.keys.specs.Keys.{keyOf, edgeOf, edgesOf}
 use Rattle.keys.specs.Sort.{merge}
 use Rattle.keys.specs.Change.{removeKey}
@@ -111,9 +112,3 @@ module _ {h : Head} {ks : List ℕ} (P : InHand h ks) (a b : ℕ) where
       let edges : edgesOf (take (h .n - 3) after) ≡ insert f (remove (a — b) ds) = ap (λ (j : ℕ). edgesOf (take j after)) m ∙ (ap edgesOf I ∙ (inserted other f rest new low ∙ ap (insert f) (W .left))) in
       let there : Mem (lower-first (a, b)) ds = rw (in-order a b up) (W .member) in
       edited (flip a b) P ((omega arith, inside), there) (rw (edges, in-order a b up, flipped-is (h .n) ds T (a — b) f A)) long
-
--- a blank table has no mark
-pub blank : (n x : ℕ) → _≡_ {A = ℕ} (getD (replicate n 0) x 0) 0
-blank zero x = refl
-blank (suc n) zero = refl
-blank (suc n) (suc x) = blank n x

@@ -5,7 +5,7 @@ use mathlib.Core.List.{List}
 use Prim.Native.Nat.{ℕ, _+_, _-_, _<_, _≤_}
 use native.Mathlib.Decide.{decLt}
 use lib.ListN.{getD}
-use Rattle.polygon.specs.Lists.{All, choose}
+use Rattle.lists.specs.Lists.{All, choose}
 use Rattle.polygon.specs.Polygon.{Edge, Joined}
 use Rattle.keys.specs.Keys.{edgesOf}
 use Rattle.edit.specs.declared.held.Edit as code

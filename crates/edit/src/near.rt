@@ -3,7 +3,7 @@ ghost use mathlib.Core.Path.{_≡_};
 ghost use mathlib.Core.Bool.{true, false};
 ghost use Prim.Native.Nat.{ℕ, _+_, _<_, _≤_};
 ghost use lib.ListN.{length, getD};
-ghost use Rattle.polygon.specs.Lists.{All};
+ghost use Rattle.lists.specs.Lists.{All};
 ghost use Rattle.keys.specs.Keys.{edgeOf, edgesOf};
 ghost use Rattle.sheet.specs.Held.{Small};
 ghost use Rattle.edit.specs.Rules.{neighbours, Away};

@@ -3,7 +3,7 @@ use mathlib.Core.Path.{_≡_, refl, ap, sym, _∙_}
 use mathlib.Core.List.{List, _++_}
 use Prim.Native.Nat.{ℕ, zero, suc, _<_}
 use lib.ListN.{take, drop}
-use Rattle.polygon.proofs.Lists.{choose-yes, choose-no}
+use Rattle.lists.proofs.Lists.{choose-yes, choose-no}
 use Rattle.codec.specs.Answer.{Answer, written, answered}
 use Rattle.codec.specs.declared.Written.{Written}
 use Rattle.codec.specs.declared.Written.the-variants.{Bytes, Refused}

@@ -4,7 +4,7 @@ use mathlib.Core.List.{List, _∷_, map}
 use Prim.Native.Nat.{ℕ, _≤_, _<_}
 use native.Mathlib.Decide.{ℕ-discrete}
 use lib.ListN.{length}
-use Rattle.polygon.specs.Lists.{All, all-nil, all-cons, choose}
+use Rattle.lists.specs.Lists.{All, all-nil, all-cons, choose}
 use Rattle.polygon.specs.Polygon.{Polygon}
 use Rattle.sheet.specs.Sheet.{readSheet, held}
 use Rattle.edit.specs.Rules.{Edit}

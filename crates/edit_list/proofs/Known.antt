@@ -5,7 +5,7 @@ use mathlib.Core.List.{List, [], _∷_}
 use Prim.Native.Nat.{ℕ}
 use native.Mathlib.Decide.{decLe, decLt, ℕ-discrete}
 use lib.ListN.{replicate}
-use Rattle.polygon.specs.Lists.{All, all-nil, all-cons, choose, put, keep, numbers, below, not?, either?, all?, sorted?, mem?}
+use Rattle.lists.specs.Lists.{All, all-nil, all-cons, choose, put, keep, numbers, below, not?, either?, all?, sorted?, mem?}
 use Rattle.polygon.specs.Order.{before?, same?, cross?, none-cross?, diagonal?, distinct?, place, insert, remove, sort, lower-first}
 use Rattle.codec.specs.Numbers.{run16}
 use Rattle.codec.specs.Answer.{fit, written}

@@ -5,7 +5,7 @@ use Prim.Native.Nat.{ℕ, zero, suc, _+_, _*_, _≤_, _<_}
 use native.Mathlib.Decide.{ℕ-discrete}
 use native.Mathlib.Omega.{arith}
 use lib.ListN.{length, take, length-take}
-use Rattle.polygon.specs.Lists.{All, all-nil, all-cons, choose}
+use Rattle.lists.specs.Lists.{All, all-nil, all-cons, choose}
 use Rattle.sheet.proofs.Bytes.{get32-below}
 use Rattle.edit.specs.Rules.{Edit}
 use Rattle.edit.specs.Calls.{edited, called}

@@ -8,18 +8,19 @@ use native.Mathlib.Numerals.{add-one}
 use native.Mathlib.Omega.{arith}
 use lib.ListN.{length}
 use lib.Seq.{sets, length-sets}
-use Rattle.polygon.specs.Lists.{choose}
-use Rattle.polygon.proofs.Lists.{choose-yes, choose-no}
+use Rattle.lists.specs.Lists.{choose}
+use Rattle.lists.proofs.Lists.{choose-yes, choose-no}
+use Rattle.lists.proofs.Places.{below-at}
+use Rattle.lists.proofs.Stores.{sets-front}
 use Rattle.codec.specs.Numbers.{bytes16, run16}
 use Rattle.codec.proofs.Numbers.{length-run16}
-use Rattle.codec.proofs.Stores.{sets-front}
 use Rattle.edit.specs.Rules.{Edit}
 use Rattle.edit_list.specs.declared.Ran.the-variants.{Done}
 use Rattle.edit_list.specs.Script.{count, roomAt, editAt, edits, scriptOf, Rooms, faultOf}
 use Rattle.edit_list.specs.Desk.{Desk, deskOf, begin, answerOf, deskStep, deskAfter, numbersOf}
 use Rattle.edit_list.specs.Steps.{Spacious}
 use Rattle.edit_list.specs.Result.{numbered, finished, unchanged, ranOf, resultOf}
-use Rattle.edit_list.proofs.Tests.{below-at, Number, fault-number, length-edits}
+use Rattle.edit_list.proofs.Tests.{Number, fault-number, length-edits}
 use Rattle.edit_list.proofs.Within.{Sound, spacious, step-sound}
 use Rattle.edit_list.proofs.Following.{begin-sound}
 
@@ -46,7 +47,7 @@ module _ (first list front₀ back₀ outs₀ : List ℕ) where
   module _ (rooms : Rooms list (length front₀) (length back₀)) (d : Desk) (outs : List ℕ) (i : ℕ) (R : Running d outs i) (h : i < count list) where
     pub edit-spacious : Spacious (roomAt list i) d
     unfolding editAt
-    edit-spacious = spacious first d (editAt list i) (R .sound) (below-at (count list) rooms i h)
+    edit-spacious = spacious first d (editAt list i) (R .sound) (below-at rooms i h)
 
     pub running-next : (e : Desk) (k : ℕ) (outs₂ : List ℕ) → e ≡ deskStep first d (editAt list i) → k ≡ answerOf first d (editAt list i) .number → outs₂ ≡ sets outs (i * 2) (bytes16 k) → Running e outs₂ (i + 1)
     unfolding edits deskAfter numbersOf run16 editAt
@@ -56,7 +57,7 @@ module _ (first list front₀ back₀ outs₀ : List ℕ) where
         rw (add-one i)
         (record {
           upto = h;
-          sound = rw p (step-sound first d (editAt list i) (R .sound) (below-at (count list) rooms i h));
+          sound = rw p (step-sound first d (editAt list i) (R .sound) (below-at rooms i h));
           outs-length = rw r (length-sets outs (i * 2) (bytes16 k) ∙ R .outs-length);
           desk-left = rw p (rw n at (R .desk-left));
           outs-left = rw (t, r, p, q) (rw n at (R .outs-left));

@@ -6,18 +6,11 @@ use Prim.Native.Nat.{ℕ, zero, suc, _+_, _*_, _%_, _≤_, _<_}
 use native.Mathlib.Decide.{decLe, ℕ-discrete}
 use native.Mathlib.Omega.{arith}
 use lib.ListN.{length}
-use Rattle.polygon.specs.Lists.{All, all-nil, all-cons, choose, below}
-use Rattle.polygon.proofs.Lists.{all-mem, all-imp, numbers-in, below-mem, choose-yes, choose-no}
+use Rattle.lists.specs.Lists.{All, all-nil, all-cons, choose}
+use Rattle.lists.proofs.Lists.{choose-yes, choose-no}
+use Rattle.lists.proofs.Places.{below-at}
 use Rattle.edit.specs.Rules.{Edit}
 use Rattle.edit_list.specs.Script.{count, editAt, edits, scriptOf, Kinds, Rooms, kinds?, rooms?, test, faultOf}
-
--- what holds of each number below n
-pub below-all : {Q : ℕ → Type 0} (n : ℕ) → ((i : ℕ) → i < n → Q i) → All Q (below n)
-unfolding below
-below-all n f = all-imp (λ i h. f i (omega arith)) (numbers-in n 0)
-
-pub below-at : {Q : ℕ → Type 0} (n : ℕ) → All Q (below n) → (i : ℕ) → i < n → Q i
-below-at n a i h = all-mem a (below-mem n i h)
 
 -- the tests in order
 module _ (s : List ℕ) (front back outs : ℕ) where
@@ -88,4 +81,4 @@ length-edits s i (suc k) = omega (arith, length-edits s (suc i) k)
 
 pub script-rooms : (s : List ℕ) (front back : ℕ) → Rooms s front back → All (λ (x : Edit × ℕ). (x .1 ≤ front) × (x .1 ≤ back)) (scriptOf s)
 unfolding scriptOf editAt
-script-rooms s front back a = edits-all s 0 (count s) (λ j h. below-at (count s) a j (omega arith))
+script-rooms s front back a = edits-all s 0 (count s) (λ j h. below-at a j (omega arith))

@@ -6,7 +6,7 @@ use native.Mathlib.Decide.{decLe, ℕ-discrete}
 use native.Mathlib.Omega.{arith}
 use lib.ListN.{length, take, drop, length-append, length-drop}
 use lib.Seq.{length-take-le, length-front, take-append-le}
-use Rattle.polygon.specs.Lists.{choose}
+use Rattle.lists.specs.Lists.{choose}
 use Rattle.codec.specs.Answer.{Outcome, refuse, write, Answer, fit, written}
 use Rattle.edit.specs.Rules.{Edit}
 use Rattle.edit.specs.Calls.{edited, called, sheetAfter}

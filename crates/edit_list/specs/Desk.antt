@@ -3,7 +3,7 @@ use mathlib.Core.List.{List, [], _∷_, _++_}
 use Prim.Native.Nat.{ℕ, zero, suc}
 use native.Mathlib.Decide.{ℕ-discrete}
 use lib.ListN.{length, take, drop}
-use Rattle.polygon.specs.Lists.{choose}
+use Rattle.lists.specs.Lists.{choose}
 use Rattle.codec.specs.Answer.{Answer}
 use Rattle.edit.specs.Rules.{Edit}
 use Rattle.edit.specs.Calls.{Call, called}

@@ -9,7 +9,7 @@ use mathlib.Core.List.{List, [], _∷_}
 use Prim.Native.Nat.{ℕ, zero, suc, _+_, _*_, _/_, _%_, _≤_}
 use native.Mathlib.Decide.{decLe, ℕ-discrete}
 use lib.ListN.{length, getD}
-use Rattle.polygon.specs.Lists.{All, choose, below, all?}
+use Rattle.lists.specs.Lists.{All, choose, below, all?}
 use Rattle.codec.specs.Numbers.{get32}
 use Rattle.edit.specs.Rules.{Edit, addEar, removeEar, flip}
 

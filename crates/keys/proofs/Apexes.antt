@@ -8,14 +8,14 @@ use native.Mathlib.Numerals.{add-one}
 use native.Mathlib.Omega.{arith}
 use lib.ListN.{length, take, drop, set, getD, length-set, length-map, List·getD-map}
 use lib.Seq.{split-at, take-suc, take-all, append-snoc, getD-set-same, getD-set-other}
-use Rattle.polygon.specs.Lists.{All, Sorted, sorted-nil, sorted-cons}
+use Rattle.lists.specs.Lists.{All, Sorted, sorted-nil, sorted-cons}
+use Rattle.lists.proofs.Lists.{here, mem-right, all-left, all-mem}
+use Rattle.lists.proofs.Places.{table-next}
 use Rattle.polygon.specs.Polygon.{Edge, _—_, Ascending, Diagonal}
 use Rattle.polygon.specs.Tree.{far}
-use Rattle.polygon.proofs.Lists.{here, mem-right, all-left, all-mem}
 use Rattle.polygon.proofs.Scan.{apex-before, far-same, far-other}
 use Rattle.keys.specs.Keys.{edgeOf, edgesOf}
 use Rattle.keys.specs.Tops.{Diagonals, Tops, apexOf, Apexes}
-use Rattle.keys.proofs.Tables.{table-next}
 
 -- at first, when no diagonal has been looked at
 pub tops-begin : (n : ℕ) (top : List ℕ) → n ≤ 1024 → ((c : ℕ) → c < 1024 → getD top c 0 ≡ suc c) → Tops n [] top

@@ -1,10 +1,10 @@
 -- The linear test decides whether two diagonals cross. Rests on Crossing.antt of the crate polygon.
 use mathlib.Core.Path.{_≡_, sym, _∙_}
-use mathlib.Core.List.{List, [], _∷_}
-use Prim.Native.Nat.{ℕ, zero, suc, _+_, _/_, _%_, _<_}
+use mathlib.Core.List.{List}
+use Prim.Native.Nat.{ℕ, _+_, _/_, _%_, _<_}
 use native.Mathlib.Omega.{arith}
 use lib.ListN.{length, getD, length-map}
-use Rattle.polygon.specs.Lists.{All, all-nil, all-cons}
+use Rattle.lists.proofs.Places.{at-all, all-at}
 use Rattle.polygon.specs.Polygon.{_—_, NoneCross, Diagonal}
 use Rattle.polygon.specs.Tree.{far}
 use Rattle.polygon.proofs.Far.{far-ok}
@@ -12,16 +12,6 @@ use Rattle.polygon.proofs.Crossing.{Passes, passes-free, crossing-test}
 use Rattle.keys.specs.Keys.{edgeOf, edgesOf}
 use Rattle.keys.specs.Tops.{Diagonals, Tops, apexOf, Apexes, Reaches, Fails}
 use Rattle.keys.proofs.Apexes.{diagonal-at, edge-at}
-
--- a property of each element by its place
-pub all-at : {A : Type 0} {Q : A → Type 0} (d : A) (l : List A) → ((j : ℕ) → j < length l → Q (getD l j d)) → All Q l
-all-at d [] f = all-nil
-all-at d (x ∷ l) f = all-cons (f 0 (omega arith)) (all-at d l (λ j h. f (suc j) (omega arith)))
-
-pub at-all : {A : Type 0} {Q : A → Type 0} (d : A) {l : List A} → All Q l → (j : ℕ) → j < length l → Q (getD l j d)
-at-all d all-nil j h = absurd (omega arith)
-at-all d (all-cons q a) zero h = q
-at-all d (all-cons q a) (suc j) h = at-all d a j (omega arith)
 
 module _ (n : ℕ) (keys : List ℕ) (D : Diagonals n (edgesOf keys)) (top apex : List ℕ) (T : Tops n (edgesOf keys) top) (A : Apexes (edgesOf keys) apex) where
   -- an apex lies below its diagonal's higher corner

@@ -3,7 +3,6 @@ pub mod Insert
 pub mod Merging
 pub mod Removal
 pub mod Buckets
-pub mod Tables
 pub mod Counting
 pub mod Apexes
 pub mod Crosses

@@ -1,27 +1,18 @@
 -- A key taken out, one step of a pass over the list at a time; keys and edges without one are the same.
 use mathlib.Core.Path.{_≡_, refl, ap, sym, _∙_}
 use mathlib.Core.List.{List, [], _∷_, _++_, append-nil}
-use Prim.Native.Nat.{ℕ, zero, suc, _+_, _<_, _≤_}
+use Prim.Native.Nat.{ℕ, _+_, _<_, _≤_}
 use native.Mathlib.Decide.{ℕ-discrete}
 use native.Mathlib.Numerals.{add-one}
 use native.Mathlib.Omega.{arith}
 use lib.ListN.{length, take, set, getD, length-set}
 use lib.Seq.{take-suc, take-suc-set, take-all, length-take-le}
-use Rattle.polygon.specs.Lists.{Mem, head, tail, put, keep, not?}
+use Rattle.lists.specs.Lists.{Mem, head, tail, put, keep, not?}
+use Rattle.lists.proofs.Lists.{keep-append}
 use Rattle.polygon.specs.Polygon.{Edge}
 use Rattle.polygon.specs.Order.{same?, remove}
 use Rattle.keys.specs.Keys.{edgeOf, edgesOf}
 use Rattle.keys.specs.Change.{removeKey}
-
-put-append : {A P : Type 0} (d : Dec P) (x : A) (xs ys : List A) → put d x xs ++ ys ≡ put d x (xs ++ ys)
-unfolding put
-put-append (yes p) x xs ys = refl
-put-append (no p) x xs ys = refl
-
-pub keep-append : {A : Type 0} {P : A → Type 0} (d : (x : A) → Dec (P x)) (xs ys : List A) → keep d (xs ++ ys) ≡ keep d xs ++ keep d ys
-unfolding keep
-keep-append d [] ys = refl
-keep-append d (x ∷ xs) ys = ap (put (d x) x) (keep-append d xs ys) ∙ sym (put-append (d x) x (keep d xs) (keep d ys))
 
 module _ (k : ℕ) (xs : List ℕ) (y : ℕ) where
   remove-same : y ≡ k → removeKey k (xs ++ (y ∷ [])) ≡ removeKey k xs
@@ -99,13 +90,3 @@ mem-edges k (x ∷ ks) (tail m) = tail (mem-edges k ks m)
 pub edges-mem : (k : ℕ) (ks : List ℕ) → Mem (edgeOf k) (edgesOf ks) → Mem k ks
 edges-mem k (x ∷ ks) (head e) = head (key-of-edge k x e)
 edges-mem k (x ∷ ks) (tail m) = tail (edges-mem k ks m)
-
--- membership by the place
-pub at-mem : (k : ℕ) (ks : List ℕ) (j : ℕ) → j < length ks → getD ks j 0 ≡ k → Mem k ks
-at-mem k [] j h e = absurd (omega arith)
-at-mem k (x ∷ ks) zero h e = head (sym e)
-at-mem k (x ∷ ks) (suc j) h e = tail (at-mem k ks j (omega arith) e)
-
-pub mem-at : (k : ℕ) (ks : List ℕ) → Mem k ks → (j : ℕ) × (j < length ks) × (getD ks j 0 ≡ k)
-mem-at k (x ∷ ks) (head e) = (0, omega arith, sym e)
-mem-at k (x ∷ ks) (tail m) = let (j, h, e) = mem-at k ks m in (suc j, omega arith, e)

@@ -3,7 +3,7 @@ use mathlib.Core.Path.{_≡_}
 use mathlib.Core.List.{List}
 use Prim.Native.Nat.{ℕ, suc, _%_, _<_}
 use lib.ListN.{length, getD}
-use Rattle.polygon.specs.Lists.{All}
+use Rattle.lists.specs.Lists.{All}
 use Rattle.polygon.specs.Polygon.{Edge, _—_, Ascending, Diagonal}
 use Rattle.polygon.specs.Tree.{far}
 

@@ -3,7 +3,7 @@ ghost use mathlib.Core.Path.{_≡_};
 ghost use mathlib.Core.Bool.{true, false};
 ghost use Prim.Native.Nat.{_≤_};
 ghost use lib.ListN.{length, take};
-ghost use Rattle.polygon.specs.Lists.{Mem};
+ghost use Rattle.lists.specs.Lists.{Mem};
 ghost use Rattle.keys.specs.Change.{removeKey};
 
 // Puts the keys other than k at the front of `out`, and says how many they are.

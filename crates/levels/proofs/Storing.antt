@@ -1,19 +1,19 @@
 -- The numbers of an edge stored in the table, and that numbers which are right stay right.
 -- Rests on the theorems of the crate umbrella, and on Pieces.antt of the crate tree.
-use mathlib.Core.Path.{_≡_, refl, sym, _∙_, ap}
+use mathlib.Core.Path.{_≡_, _∙_, ap}
 use mathlib.Core.List.{List}
-use Prim.Native.Nat.{ℕ, zero, suc, _+_, _*_, _-_, _<_, _≤_, max}
+use Prim.Native.Nat.{ℕ, _+_, _*_, _-_, _<_, _≤_, max}
 use native.Mathlib.Decide.{ℕ-discrete}
 use native.Mathlib.Numerals.{add-one}
 use native.Mathlib.Omega.{arith}
-use lib.ListN.{length, getD, set, length-set, replicate}
+use lib.ListN.{length, getD, set, length-set}
 use lib.Seq.{getD-set-same, getD-set-other}
 use Rattle.polygon.specs.Tree.{Tree, leaf, node, span}
 use Rattle.umbrella.specs.Numbers.{ud}
 use Rattle.umbrella.specs.Best.{best}
 use Rattle.umbrella.proofs.Inequalities.{inequalities}
 use Rattle.umbrella.proofs.Theorems.{computed-has, umbrellas-bound}
-use Rattle.tree.specs.Shows.{rightAt, Shows, side, triangle}
+use Rattle.tree.specs.Shows.{Shows, side, triangle}
 use Rattle.tree.proofs.Pieces.{one-piece, inside}
 use Rattle.levels.specs.declared.Six.{Six}
 use Rattle.levels.specs.Numbered.{six, join, sixAt, withSix, Deep, flat, deep, Grows, Leaves}
@@ -123,9 +123,3 @@ store-grows {tr} {e} {t = t} ds room s = record { right = λ f u′ v′ t′ s�
 pub fresh-leaves : {tr : List ℕ} (ds : List ℕ) → ((i : ℕ) → getD ds i 0 ≡ 0) → Leaves tr ds
 unfolding ud
 fresh-leaves ds z = record { sides = λ e u v s i. record { ud = z (6 * e) i; handle = z (6 * e + 1) i; «fan_a» = z (6 * e + 2) i; «fan_b» = z (6 * e + 3) i; «part_a» = z (6 * e + 4) i; «part_b» = z (6 * e + 5) i } }
-
--- a table as it is made
-pub blank : (n i : ℕ) → _≡_ {A = ℕ} (getD (replicate n 0) i 0) 0
-blank zero i = refl
-blank (suc n) zero = refl
-blank (suc n) (suc i) = blank n i

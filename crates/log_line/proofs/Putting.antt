@@ -6,7 +6,7 @@ use native.Mathlib.Numerals.{add-one}
 use native.Mathlib.Omega.{arith}
 use lib.ListN.{length, take, getD, set, length-append}
 use lib.Seq.{sets, length-sets, take-suc, length-take-le}
-use Rattle.codec.proofs.Stores.{sets-append}
+use Rattle.lists.proofs.Stores.{sets-append}
 use Rattle.log_line.specs.Line.{decimal, partWord, cornersWord, levelsWord, umbrellasWord, stemsWord, rowsWord, columnsWord, refusedWord, numberWord, Facts, line, refusedLine}
 use Rattle.log_line.specs.Put.{Put}
 

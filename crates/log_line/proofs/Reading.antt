@@ -6,8 +6,8 @@ use Prim.Native.Nat.{ℕ, zero, suc, _+_, _*_, _-_, _/_, _%_, _^_, _<_, _≤_}
 use native.Mathlib.Decide.{decLt}
 use native.Mathlib.Omega.{arith}
 use lib.ListN.{drop}
-use Rattle.polygon.specs.Lists.{All, all-nil, all-cons}
-use Rattle.polygon.proofs.Lists.{all-append}
+use Rattle.lists.specs.Lists.{All, all-nil, all-cons}
+use Rattle.lists.proofs.Lists.{all-append}
 use Rattle.log_line.specs.Line.{digits, decimal, numberWord, Facts, line}
 use Rattle.log_line.proofs.Digits.{digits-one, digits-last}
 

@@ -1,5 +1,4 @@
 // The line that the program prints of a part, or of a refusal. specs/Line.antt says its bytes.
-ghost use mathlib.Core.Path.{_≡_};
 ghost use mathlib.Core.List.{_++_};
 ghost use Prim.Native.Nat.{_+_, _<_, _≤_};
 ghost use lib.ListN.{length};

@@ -5,7 +5,7 @@ use mathlib.Core.List.{List}
 use Prim.Native.Nat.{ℕ, _<_}
 use native.Mathlib.Omega.{arith}
 use Rattle.polygon.specs.Polygon.{Polygon}
-use Rattle.polygon.proofs.Lists.{all-mem}
+use Rattle.lists.proofs.Lists.{all-mem}
 use Rattle.polygon.proofs.TreeTheorem.{tree-of}
 use Rattle.sheet.specs.Sheet.{Reading, held, readSheet}
 use Rattle.sheet.specs.Refusals.{sheetTests, RefusedBy, by, holds}

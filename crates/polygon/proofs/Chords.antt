@@ -6,10 +6,10 @@ use mathlib.Core.List.{List, [], _∷_, _++_}
 use Prim.Native.Nat.{ℕ, suc, _+_, _≤_, _<_}
 use native.Mathlib.Omega.{arith}
 use lib.ListN.{length, length-append}
-use Rattle.polygon.specs.Lists.{Mem, Sub, All, all-nil, all-cons, sorted-nil, sorted-cons}
+use Rattle.lists.specs.Lists.{Mem, Sub, All, all-nil, all-cons, sorted-nil, sorted-cons}
+use Rattle.lists.proofs.Lists.{not-empty, all-append, all-left, all-right, all-imp, all-both, all-mem, all-self, sorted-append}
 use Rattle.polygon.specs.Polygon.{Edge, _—_, Ascending, NoneCross}
 use Rattle.polygon.specs.Tree.{Tree, leaf, node, span, chordsAt, chordsPast, chords, inner}
-use Rattle.polygon.proofs.Lists.{not-empty, all-append, all-left, all-right, all-imp, all-both, all-mem, all-self, sorted-append}
 
 -- a chord of the corners u .. v, the root edge too
 pub record Chord (u v : ℕ) (e : Edge) : Type 0 where

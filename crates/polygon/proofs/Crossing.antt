@@ -7,10 +7,10 @@ use Prim.Native.Nat.{ℕ, zero, suc, _+_, _≤_, _<_}
 use native.Mathlib.Decide.{decLt}
 use native.Mathlib.Omega.{arith}
 use lib.ListN.{length}
-use Rattle.polygon.specs.Lists.{Mem, All}
+use Rattle.lists.specs.Lists.{Mem, All}
+use Rattle.lists.proofs.Lists.{all-mem, all-of}
 use Rattle.polygon.specs.Polygon.{Edge, _—_, Ascending, Cross, NoneCross, Diagonal, Triangulated, Linked}
 use Rattle.polygon.specs.Tree.{far}
-use Rattle.polygon.proofs.Lists.{all-mem, all-of}
 use Rattle.polygon.proofs.Order.{low-of, high-of}
 use Rattle.polygon.proofs.Far.{Far, far-ok, far-is}
 use Rattle.polygon.proofs.TreeTheorem.{root}

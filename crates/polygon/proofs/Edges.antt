@@ -7,10 +7,10 @@ use Prim.Native.Nat.{ℕ, suc, _+_, _*_, _≤_, _<_}
 use native.Mathlib.Decide.{decLt}
 use native.Mathlib.Omega.{arith}
 use lib.ListN.{length, length-append}
-use Rattle.polygon.specs.Lists.{Mem, head, All, all-nil, all-cons, sorted-nil, sorted-cons}
+use Rattle.lists.specs.Lists.{Mem, head, All, all-nil, all-cons, sorted-nil, sorted-cons}
+use Rattle.lists.proofs.Lists.{all-append, all-left, all-right, all-imp, all-mem, all-self, sorted-append}
 use Rattle.polygon.specs.Polygon.{Edge, _—_, Ascending, Linked}
 use Rattle.polygon.specs.Tree.{Tree, leaf, node, span, chordsAt, chordsPast, chords, inner}
-use Rattle.polygon.proofs.Lists.{all-append, all-left, all-right, all-imp, all-mem, all-self, sorted-append}
 use Rattle.polygon.proofs.Order.{edge, low-of, high-of}
 use Rattle.polygon.proofs.Chords.{span-pos, all-node, InPieces, node-cases, inner-left, inner-right, inner-chords, root-in}
 use Rattle.polygon.proofs.TreeTheorem.{TreeIs}

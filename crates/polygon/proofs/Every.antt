@@ -7,10 +7,10 @@ use Prim.Native.Nat.{ℕ, zero, suc, _+_, _≤_, _<_}
 use native.Mathlib.Decide.{decLe, decLt}
 use native.Mathlib.Omega.{arith}
 use lib.ListN.{length}
-use Rattle.polygon.specs.Lists.{Mem, Sub, All, all-cons, keep}
+use Rattle.lists.specs.Lists.{Mem, Sub, All, all-cons, keep}
+use Rattle.lists.proofs.Lists.{all-imp, all-both, all-mem, all-of, keep-all, keep-test, keep-mem, keep-sub, keep-sorted, count3, once, sorted-same}
 use Rattle.polygon.specs.Polygon.{Edge, _—_, Ascending, NoneCross}
 use Rattle.polygon.specs.Tree.{Tree, leaf, node, span, chordsAt, chordsPast, chords, far}
-use Rattle.polygon.proofs.Lists.{all-imp, all-both, all-mem, all-of, keep-all, keep-test, keep-mem, keep-sub, keep-sorted, count3, once, sorted-same}
 use Rattle.polygon.proofs.Order.{edge, one-way, first}
 use Rattle.polygon.proofs.Far.{Far, far-ok}
 use Rattle.polygon.proofs.Chords.{Chord, chords-ascending, inner-left, inner-right, inner-chords, root-in, node-cases, InPieces}

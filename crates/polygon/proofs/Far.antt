@@ -6,10 +6,10 @@ use Prim.Native.Nat.{ℕ, suc, _≤_, _<_, max}
 use native.Mathlib.Decide.{decLe}
 use native.Mathlib.Nat.{max-eq-right}
 use native.Mathlib.Omega.{arith}
-use Rattle.polygon.specs.Lists.{Mem, head, All, all-nil, all-cons}
+use Rattle.lists.specs.Lists.{Mem, head, All, all-nil, all-cons}
+use Rattle.lists.proofs.Lists.{there, all-imp, all-mem}
 use Rattle.polygon.specs.Polygon.{Edge, _—_}
 use Rattle.polygon.specs.Tree.{near?, farther, far}
-use Rattle.polygon.proofs.Lists.{there, all-imp, all-mem}
 use Rattle.polygon.proofs.Order.{edge}
 
 -- c is the largest corner below v such that c = u + 1 or (u,c) is in the list

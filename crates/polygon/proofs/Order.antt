@@ -7,10 +7,10 @@ use Prim.Native.Nat.{ℕ, suc, _+_, _≤_, _<_}
 use native.Mathlib.Decide.{decLt}
 use native.Mathlib.Omega.{arith}
 use lib.ListN.{length}
-use Rattle.polygon.specs.Lists.{Mem, Sub, All, all-nil, all-cons, sorted-nil, sorted-cons, not?, keep}
+use Rattle.lists.specs.Lists.{Mem, Sub, All, all-nil, all-cons, sorted-nil, sorted-cons, not?, keep}
+use Rattle.lists.proofs.Lists.{here, all-imp, all-mem, all-self, keep-all, keep-test, keep-sub, keep-mem, keep-sorted, count2, once}
 use Rattle.polygon.specs.Polygon.{Edge, _—_, Before, Ascending}
 use Rattle.polygon.specs.Order.{same?, remove, place, insert}
-use Rattle.polygon.proofs.Lists.{here, all-imp, all-mem, all-self, keep-all, keep-test, keep-sub, keep-mem, keep-sorted, count2, once}
 
 -- an edge by its corners
 pub edge : {e : Edge} {a b : ℕ} → e .0 ≡ a → e .1 ≡ b → e ≡ a — b

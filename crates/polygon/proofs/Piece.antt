@@ -6,10 +6,10 @@ use mathlib.Core.List.{List}
 use Prim.Native.Nat.{ℕ, zero, suc, _+_, _-_, _≤_, _<_}
 use native.Mathlib.Decide.{decLt}
 use native.Mathlib.Omega.{arith}
-use Rattle.polygon.specs.Lists.{Mem}
+use Rattle.lists.specs.Lists.{Mem}
+use Rattle.lists.proofs.Lists.{all-of}
 use Rattle.polygon.specs.Polygon.{Edge, _—_, Triangulated, Linked}
 use Rattle.polygon.specs.Tree.{Tree, leaf, node, far, grow, treeOf}
-use Rattle.polygon.proofs.Lists.{all-of}
 use Rattle.polygon.proofs.Order.{edge}
 use Rattle.polygon.proofs.Far.{Far, far-ok, far-is}
 use Rattle.polygon.proofs.TreeOf.{grow-node, grow-leaf}

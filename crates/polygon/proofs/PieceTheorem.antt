@@ -6,10 +6,10 @@ use mathlib.Core.List.{List}
 use Prim.Native.Nat.{ℕ, suc, _+_, _≤_, _<_}
 use native.Mathlib.Decide.{decLe}
 use native.Mathlib.Omega.{arith}
-use Rattle.polygon.specs.Lists.{Sub}
+use Rattle.lists.specs.Lists.{Sub}
+use Rattle.lists.proofs.Lists.{all-mem}
 use Rattle.polygon.specs.Polygon.{Edge, _—_, Triangulated, Linked}
 use Rattle.polygon.specs.Tree.{Tree, leaf, node, span, chords, inner, treeOf, Piece, itself, beyond-left, beyond-right, PieceOf}
-use Rattle.polygon.proofs.Lists.{all-mem}
 use Rattle.polygon.proofs.Order.{low-of, high-of}
 use Rattle.polygon.proofs.Chords.{span-pos, chords-in, inner-left, inner-right, inner-chords, inner-sub, node-cases, InPieces}
 use Rattle.polygon.proofs.TreeOf.{grow-ok}

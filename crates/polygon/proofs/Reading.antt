@@ -5,9 +5,9 @@ use mathlib.Core.List.{List}
 use Prim.Native.Nat.{ℕ, suc, _+_, _<_}
 use native.Mathlib.Decide.{decLt, ℕ-discrete}
 use native.Mathlib.Omega.{arith}
-use Rattle.polygon.specs.Lists.{Sub}
+use Rattle.lists.specs.Lists.{Sub}
+use Rattle.lists.proofs.Lists.{sorted-same}
 use Rattle.polygon.specs.Polygon.{Edge, _—_, Side, Diagonal, Triangulated}
-use Rattle.polygon.proofs.Lists.{sorted-same}
 use Rattle.polygon.proofs.Order.{one-way}
 
 -- a diagonal: two corners, lower first, that no side joins

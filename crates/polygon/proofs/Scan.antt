@@ -5,10 +5,10 @@ use mathlib.Core.Logic.{_⊎_, inl, inr}
 use mathlib.Core.List.{List, [], _∷_, _++_}
 use Prim.Native.Nat.{ℕ, suc, _≤_, _<_}
 use native.Mathlib.Omega.{arith}
-use Rattle.polygon.specs.Lists.{Mem, All, all-nil, all-cons, sorted-cons}
+use Rattle.lists.specs.Lists.{Mem, All, all-nil, all-cons, sorted-cons}
+use Rattle.lists.proofs.Lists.{here, mem-left, mem-right, all-append, all-left, all-imp, all-both, all-mem, sorted-right, sorted-across}
 use Rattle.polygon.specs.Polygon.{Edge, _—_, Before, Ascending, Diagonal}
 use Rattle.polygon.specs.Tree.{near?, farther, far}
-use Rattle.polygon.proofs.Lists.{here, mem-left, mem-right, all-append, all-left, all-imp, all-both, all-mem, sorted-right, sorted-across}
 use Rattle.polygon.proofs.Far.{Far, far-ok, far-is}
 
 module _ (n u v : ℕ) (xs ys : List Edge) (s : Ascending (xs ++ ((u — v) ∷ ys))) (D : All (Diagonal n) (xs ++ ((u — v) ∷ ys))) where

@@ -5,10 +5,10 @@ use mathlib.Core.Logic.{_↔_}
 use mathlib.Core.List.{List, [], _∷_}
 use Prim.Native.Nat.{suc}
 use lib.ListN.{length}
-use Rattle.polygon.specs.Lists.{Sub, All, all-nil, all-cons, sorted-nil, sorted-cons}
+use Rattle.lists.specs.Lists.{Sub, All, all-nil, all-cons, sorted-nil, sorted-cons}
+use Rattle.lists.proofs.Lists.{all-imp, all-mem, all-self, sorted-same}
 use Rattle.polygon.specs.Polygon.{Edge, Before, Ascending}
 use Rattle.polygon.specs.Order.{before?, place, insert, sort, Distinct}
-use Rattle.polygon.proofs.Lists.{all-imp, all-mem, all-self, sorted-same}
 use Rattle.polygon.proofs.Order.{not-self, one-way, insert-all, insert-parts, insert-ascending, insert-length}
 
 -- what holds of all before holds of all after, and back

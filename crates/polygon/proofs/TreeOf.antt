@@ -7,10 +7,10 @@ use Prim.Native.Nat.{ℕ, zero, suc, _+_, _≤_, _<_}
 use native.Mathlib.Decide.{decLt}
 use native.Mathlib.Nat.{add-assoc}
 use native.Mathlib.Omega.{arith}
-use Rattle.polygon.specs.Lists.{Mem, Sub}
+use Rattle.lists.specs.Lists.{Mem, Sub}
+use Rattle.lists.proofs.Lists.{all-mem, all-of, choose-yes, choose-no}
 use Rattle.polygon.specs.Polygon.{Edge, _—_, NoneCross}
 use Rattle.polygon.specs.Tree.{Tree, leaf, node, span, inner, far, grow}
-use Rattle.polygon.proofs.Lists.{all-mem, all-of, choose-yes, choose-no}
 use Rattle.polygon.proofs.Far.{far-is}
 use Rattle.polygon.proofs.Chords.{span-pos, inner-left, inner-right, inner-sub, root-of}
 

@@ -6,11 +6,11 @@ use mathlib.Core.List.{List}
 use Prim.Native.Nat.{ℕ, suc, _+_, _-_, _≤_}
 use native.Mathlib.Omega.{arith}
 use lib.ListN.{length}
-use Rattle.polygon.specs.Lists.{Mem, All}
+use Rattle.lists.specs.Lists.{Mem, All}
+use Rattle.lists.proofs.Lists.{there, all-imp, all-both, all-mem, all-self, all-of, sorted-same}
 use Rattle.polygon.specs.Polygon.{Edge, _—_, Ascending, NoneCross, Diagonal, Triangulated}
 use Rattle.polygon.specs.Order.{insert}
 use Rattle.polygon.specs.Tree.{Tree, leaf, node, span, chords, inner, treeOf}
-use Rattle.polygon.proofs.Lists.{there, all-imp, all-both, all-mem, all-self, all-of, sorted-same}
 use Rattle.polygon.proofs.Order.{low-of, high-of, one-way, insert-all, insert-ascending, insert-length, insert-mem}
 use Rattle.polygon.proofs.Chords.{span-pos, chords-in, chords-free, inner-chords, inner-left, inner-right, inner-ascending, inner-count, all-inner, node-cases, InPieces}
 use Rattle.polygon.proofs.Every.{Chords, at-most, every}

@@ -7,10 +7,10 @@ use Prim.Native.Nat.{ℕ, suc, _+_, _-_, _≤_, _<_}
 use native.Mathlib.Decide.{decLt}
 use native.Mathlib.Nat.{add-assoc}
 use native.Mathlib.Omega.{arith}
-use Rattle.polygon.specs.Lists.{Mem, Sub, All, all-nil}
+use Rattle.lists.specs.Lists.{Mem, Sub, All, all-nil}
+use Rattle.lists.proofs.Lists.{all-imp, all-mem, not-empty}
 use Rattle.polygon.specs.Polygon.{Edge, _—_, Cross, Diagonal, Triangulated, Linked}
 use Rattle.polygon.specs.Tree.{Tree, leaf, node, span, chordsAt, chordsPast, chords, inner, treeOf}
-use Rattle.polygon.proofs.Lists.{all-imp, all-mem, not-empty}
 use Rattle.polygon.proofs.Order.{edge, low-of, high-of}
 use Rattle.polygon.proofs.Chords.{Chord, span-pos, chords-in, all-node, all-inner, inner-parts, inner-left, inner-right, inner-chords, inner-sub, root-in, root-of, node-cases, InPieces}
 use Rattle.polygon.proofs.TreeTheorem.{root, TreeIs, tree-of}

@@ -1,4 +1,3 @@
-pub mod Lists
 pub mod Polygon
 pub mod Order
 pub mod Tree

@@ -4,7 +4,7 @@ use mathlib.Core.Logic.{Dec·and}
 use mathlib.Core.List.{List, [], _∷_, _++_}
 use Prim.Native.Nat.{ℕ, zero, suc, _+_, _-_, _<_, max}
 use native.Mathlib.Decide.{decLt, ℕ-discrete}
-use Rattle.polygon.specs.Lists.{choose}
+use Rattle.lists.specs.Lists.{choose}
 use Rattle.polygon.specs.Polygon.{Edge, _—_}
 
 -- the piece (u,v): a side, or the triangle (u,c,v) with the pieces (u,c) and (c,v) beyond its other two edges

@@ -7,9 +7,10 @@ use native.Mathlib.Decide.{decLe, ℕ-discrete}
 use native.Mathlib.Omega.{arith}
 use lib.ListN.{length}
 use lib.Seq.{take-append-seam, drop-append-seam}
-use Rattle.polygon.specs.Lists.{choose, numbers}
+use Rattle.lists.specs.Lists.{choose, numbers}
+use Rattle.lists.proofs.Lists.{here, mem-left, mem-right, all-mem}
+use Rattle.lists.proofs.Places.{numbers-mem}
 use Rattle.polygon.specs.Polygon.{Polygon}
-use Rattle.polygon.proofs.Lists.{here, mem-left, mem-right, all-mem, numbers-mem}
 use Rattle.sheet.specs.Sheet.{Reading, held, readSheet}
 use Rattle.sheet.specs.Refusals.{sheetTests, RefusedBy, by, holds}
 use Rattle.sheet.proofs.Refusals.{whole-finished, refusal-refuses, read-refuses, tests-proper, ordered-settled}

@@ -7,7 +7,7 @@ use native.Mathlib.Decide.{decLe}
 use native.Mathlib.Omega.{arith}
 use lib.ListN.{length, take}
 use lib.Seq.{take-append-seam, take-at}
-use Rattle.polygon.specs.Lists.{All}
+use Rattle.lists.specs.Lists.{All}
 use Rattle.polygon.specs.Polygon.{Polygon}
 use Rattle.polygon.specs.Tree.{treeOf}
 use Rattle.polygon.proofs.Theorems.{same-diagonals}

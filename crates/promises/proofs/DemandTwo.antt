@@ -3,7 +3,7 @@ use mathlib.Core.Path.{_≡_, refl, ap}
 use mathlib.Core.List.{List}
 use Prim.Native.Nat.{ℕ, _<_}
 use native.Mathlib.Omega.{arith}
-use Rattle.polygon.specs.Lists.{All}
+use Rattle.lists.specs.Lists.{All}
 use Rattle.polygon.specs.Polygon.{Polygon, Valid}
 use Rattle.codec.proofs.Answers.{only-short}
 use Rattle.sheet.specs.Sheet.{Reading, held, readSheet, normalSheet, outcome, ordered}

@@ -6,7 +6,7 @@ use mathlib.Core.Logic.{_⊎_}
 use mathlib.Core.List.{List, map}
 use Prim.Native.Nat.{ℕ, _+_, _*_, _≤_, _<_}
 use lib.ListN.{length, take}
-use Rattle.polygon.specs.Lists.{Mem, Sub}
+use Rattle.lists.specs.Lists.{Mem, Sub}
 use Rattle.polygon.specs.Polygon.{Edge, Polygon, Valid}
 use Rattle.polygon.specs.Tree.{Tree, treeOf}
 use Rattle.codec.specs.Answer.{write, Answer, written, OnlyShort}

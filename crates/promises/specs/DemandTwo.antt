@@ -7,7 +7,7 @@ use mathlib.Core.Logic.{_⊎_, _↔_}
 use mathlib.Core.List.{List}
 use Prim.Native.Nat.{ℕ, _<_}
 use lib.ListN.{length}
-use Rattle.polygon.specs.Lists.{Mem}
+use Rattle.lists.specs.Lists.{Mem}
 use Rattle.polygon.specs.Polygon.{Polygon, Valid}
 use Rattle.codec.specs.Answer.{write, written, OnlyShort}
 use Rattle.sheet.specs.Sheet.{refused, held, readSheet, normalSheet, ordered}

@@ -6,9 +6,9 @@ use mathlib.Core.Option.{Option, none, some}
 use Prim.Native.Nat.{ℕ, zero, suc, _+_, _*_, _-_, _<_}
 use native.Mathlib.Omega.{arith}
 use lib.ListN.{length, getD}
-use Rattle.polygon.specs.Lists.{Sub, All}
+use Rattle.lists.specs.Lists.{Sub, All}
+use Rattle.lists.proofs.Lists.{all-imp, all-of, all-mem}
 use Rattle.polygon.specs.Polygon.{Edge, Polygon, Valid}
-use Rattle.polygon.proofs.Lists.{all-imp, all-of, all-mem}
 use Rattle.polygon.proofs.Sort.{sort-sub, sort-mem, sort-is}
 use Rattle.polygon.proofs.Reading.{same-set}
 use Rattle.codec.specs.Numbers.{get32}

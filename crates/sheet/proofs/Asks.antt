@@ -4,7 +4,7 @@ use mathlib.Core.List.{List}
 use Prim.Native.Nat.{ℕ, _+_, _*_, _-_, _≤_, _<_}
 use native.Mathlib.Omega.{arith}
 use lib.ListN.{length, getD}
-use Rattle.polygon.specs.Lists.{All, all?}
+use Rattle.lists.specs.Lists.{All, all?}
 use Rattle.polygon.specs.Polygon.{Edge, NoneCross, Diagonal, Polygon}
 use Rattle.polygon.specs.Order.{diagonal?, Distinct, distinct?, none-cross?, sort}
 use Rattle.codec.specs.Numbers.{get16, get32}

@@ -6,9 +6,9 @@ use Prim.Native.Nat.{ℕ, _+_, _*_, _-_, _≤_}
 use native.Mathlib.Nat.{add-zero}
 use native.Mathlib.Omega.{arith}
 use lib.ListN.{length, getD}
-use Rattle.polygon.specs.Lists.{All}
+use Rattle.lists.specs.Lists.{All}
+use Rattle.lists.proofs.Lists.{all-imp}
 use Rattle.polygon.specs.Polygon.{Polygon, Valid}
-use Rattle.polygon.proofs.Lists.{all-imp}
 use Rattle.polygon.proofs.Sort.{distinct-of}
 use Rattle.codec.specs.Numbers.{bytes16, bytes32, get16, get32}
 use Rattle.sheet.specs.Sheet.{held, pairBytes, numberBytes, numberBit, mapByte, readSheet, normalSheet}

@@ -6,7 +6,7 @@ use native.Mathlib.Nat.{add-assoc, div-add-mod'}
 use native.Mathlib.Omega.{arith}
 use lib.ListN.{length, getD}
 use lib.Seq.{getD-append-add}
-use Rattle.polygon.specs.Lists.{All, all-nil, all-cons}
+use Rattle.lists.specs.Lists.{All, all-nil, all-cons}
 use Rattle.codec.specs.Numbers.{bytes16, bytes32, get16, get32}
 
 -- reading behind a prefix

@@ -6,10 +6,10 @@ use Prim.Native.Nat.{ℕ, _+_, _*_, _-_, _≤_}
 use native.Mathlib.Omega.{arith}
 use lib.ListN.{length, take, drop, length-append, length-drop}
 use lib.Seq.{take-at, length-take-le}
-use Rattle.polygon.specs.Lists.{Sub, All, all-nil, all-cons}
+use Rattle.lists.specs.Lists.{Sub, All, all-nil, all-cons}
+use Rattle.lists.proofs.Lists.{all-mem, all-of}
 use Rattle.polygon.specs.Polygon.{Edge, Ascending, NoneCross, Diagonal}
 use Rattle.polygon.specs.Order.{Distinct, sort}
-use Rattle.polygon.proofs.Lists.{all-mem, all-of}
 use Rattle.polygon.proofs.Sort.{sort-all, sort-sub, sort-mem, sort-ascends}
 use Rattle.codec.specs.Numbers.{get16}
 use Rattle.keys.specs.Keys.{edgesOf}

@@ -7,10 +7,10 @@ use native.Mathlib.Numerals.{add-one}
 use native.Mathlib.Omega.{arith}
 use lib.ListN.{length, take, set, length-set}
 use lib.Seq.{take-suc-set}
-use Rattle.polygon.specs.Lists.{Mem, tail, All, all-nil, all-cons}
+use Rattle.lists.specs.Lists.{Mem, tail, All, all-nil, all-cons}
+use Rattle.lists.proofs.Lists.{here, all-append}
 use Rattle.polygon.specs.Polygon.{Edge, _—_, Diagonal}
 use Rattle.polygon.specs.Order.{lower-first}
-use Rattle.polygon.proofs.Lists.{here, all-append}
 use Rattle.keys.specs.Keys.{keyOf, edgeOf, edgesOf}
 use Rattle.keys.proofs.InOrder.{edge-of-key}
 use Rattle.sheet.specs.Sheet.{pairs}

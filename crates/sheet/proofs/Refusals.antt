@@ -7,8 +7,9 @@ use native.Mathlib.Decide.{decLe}
 use native.Mathlib.Omega.{arith}
 use lib.ListN.{length}
 use lib.Seq.{take-append-seam, drop-append-seam}
-use Rattle.polygon.specs.Lists.{Mem, All, numbers}
-use Rattle.polygon.proofs.Lists.{here, there, mem-left, mem-right, all-mem, all-imp, numbers-in}
+use Rattle.lists.specs.Lists.{Mem, All, numbers}
+use Rattle.lists.proofs.Lists.{here, there, mem-left, mem-right, all-mem, all-imp}
+use Rattle.lists.proofs.Places.{numbers-in}
 use Rattle.codec.specs.Answer.{Outcome, refuse, write, Answer, refusal, whole, fit, written}
 use Rattle.sheet.specs.Sheet.{Reading, refused, ask, readSheet, outcome, ordered}
 use Rattle.sheet.specs.Refusals.{sheetTests, RefusedBy, by, holds, Refuses, number, writes, Proper, Finished, Refusal, Settled}

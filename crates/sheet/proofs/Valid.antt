@@ -3,10 +3,10 @@ use mathlib.Core.Path.{_≡_}
 use mathlib.Core.List.{List}
 use Prim.Native.Nat.{ℕ, zero, suc, _+_, _*_, _-_, _<_, _^_}
 use native.Mathlib.Omega.{arith}
-use Rattle.polygon.specs.Lists.{All}
+use Rattle.lists.specs.Lists.{All}
+use Rattle.lists.proofs.Lists.{all-imp}
 use Rattle.polygon.specs.Polygon.{Polygon, Numbered, Triangulated, Valid}
 use Rattle.polygon.specs.Order.{sort}
-use Rattle.polygon.proofs.Lists.{all-imp}
 use Rattle.polygon.proofs.Sort.{sort-all, sort-length, sort-ascends}
 use Rattle.codec.specs.Numbers.{get16}
 use Rattle.sheet.specs.Sheet.{held, partNumber, readSheet}

@@ -9,7 +9,7 @@ use lib.Seq.{sets, take-suc, length-take-le}
 use Rattle.polygon.specs.Polygon.{Edge, Polygon}
 use Rattle.codec.specs.Numbers.{bytes16}
 use Rattle.codec.specs.Answer.{Answer, refusal, written, write}
-use Rattle.codec.proofs.Stores.{sets-append, sets-front}
+use Rattle.lists.proofs.Stores.{sets-append, sets-front}
 use Rattle.codec.proofs.Answers.{written-short, written-fits}
 use Rattle.keys.specs.Keys.{edgeOf, edgesOf}
 use Rattle.sheet.specs.declared.Head.{Head}

@@ -5,7 +5,7 @@ use mathlib.Core.List.{List}
 use mathlib.Core.Option.{none, some}
 use Prim.Native.Nat.{ℕ, _+_, _*_, _-_, _<_}
 use lib.ListN.{length, getD}
-use Rattle.polygon.specs.Lists.{Sub}
+use Rattle.lists.specs.Lists.{Sub}
 use Rattle.polygon.specs.Polygon.{Edge, Polygon}
 use Rattle.polygon.specs.Order.{Distinct}
 use Rattle.codec.specs.Numbers.{get16, get32}

@@ -4,7 +4,7 @@ use mathlib.Core.Logic.{_⊎_}
 use mathlib.Core.List.{List, [], _∷_}
 use Prim.Native.Nat.{ℕ, _<_}
 use lib.ListN.{length, take, drop}
-use Rattle.polygon.specs.Lists.{Mem}
+use Rattle.lists.specs.Lists.{Mem}
 use Rattle.polygon.specs.Polygon.{Polygon}
 use Rattle.codec.specs.Answer.{Outcome, refuse, write, Answer}
 use Rattle.sheet.specs.Sheet.{Reading, refused, held}

@@ -5,7 +5,7 @@ use mathlib.Core.Option.{Option, none, some}
 use Prim.Native.Nat.{ℕ, zero, suc, _+_, _*_, _-_, _/_, _%_, _≤_}
 use native.Mathlib.Decide.{decLe, decLt, ℕ-discrete}
 use lib.ListN.{length, getD}
-use Rattle.polygon.specs.Lists.{all?, choose}
+use Rattle.lists.specs.Lists.{all?, choose}
 use Rattle.polygon.specs.Polygon.{Edge, Polygon}
 use Rattle.polygon.specs.Order.{diagonal?, distinct?, none-cross?, sort, lower-first}
 use Rattle.codec.specs.Numbers.{bytes16, bytes32, get16, get32}

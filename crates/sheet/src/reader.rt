@@ -3,7 +3,7 @@ ghost use mathlib.Core.Path.{_≡_};
 ghost use mathlib.Core.Bool.{true, false};
 ghost use Prim.Native.Nat.{_+_, _*_, _-_, _%_, _<_, _≤_};
 ghost use lib.ListN.{length, take};
-ghost use Rattle.polygon.specs.Lists.{All};
+ghost use Rattle.lists.specs.Lists.{All};
 ghost use Rattle.polygon.specs.Polygon.{_—_, Diagonal};
 ghost use Rattle.keys.specs.Keys.{edgesOf};
 ghost use Rattle.sheet.specs.Sheet.{readSheet, pairs, bit1, bit2, more};

@@ -1,24 +1,24 @@
 -- The sides, the root edge and the diagonals of a part in one ascending list are the edges of its tree.
-use mathlib.Core.Path.{_≡_, refl, sym, _∙_, ap, ap₂, subst}
+use mathlib.Core.Path.{_≡_, refl, sym, _∙_, ap, subst}
 use mathlib.Core.Logic.{inl, inr}
-use mathlib.Core.List.{List, [], _∷_, _++_, map, map-append}
-use Prim.Native.Nat.{ℕ, suc, _+_, _*_, _-_, _<_, _≤_}
+use mathlib.Core.List.{List, _∷_, _++_, map, map-append}
+use Prim.Native.Nat.{ℕ, suc, _+_, _-_, _<_, _≤_}
 use native.Mathlib.Omega.{arith}
 use native.Mathlib.Decide.{decLt}
 use lib.ListN.{length, getD, length-map, List·getD-map}
-use Rattle.polygon.specs.Lists.{Mem, head, tail, All, all-nil, all-cons, sorted-cons, below, choose}
+use Rattle.lists.specs.Lists.{Mem, head, tail, All, all-nil, all-cons, sorted-cons, below, choose}
+use Rattle.lists.proofs.Lists.{here, there, mem-left, mem-right, all-append, all-map, all-imp, all-mem, all-self, sorted-append, sorted-map}
+use Rattle.lists.proofs.Places.{numbers-in, below-sorted, below-mem, all-at, at-all}
 use Rattle.polygon.specs.Polygon.{Edge, _—_, Ascending, Linked, Triangulated}
 use Rattle.polygon.specs.Order.{Distinct, sort}
 use Rattle.polygon.specs.Tree.{treeOf}
-use Rattle.polygon.proofs.Lists.{here, there, mem-left, mem-right, all-append, all-map, all-imp, all-mem, all-self, sorted-append, sorted-map, numbers-in, below-sorted, below-mem}
 use Rattle.polygon.proofs.Order.{edge, low-of, high-of}
 use Rattle.polygon.proofs.Sort.{sort-is, distinct-of}
 use Rattle.polygon.proofs.TreeTheorem.{TreeIs, tree-of}
-use Rattle.keys.specs.Keys.{keyOf, edgeOf, edgesOf}
+use Rattle.keys.specs.Keys.{edgeOf, edgesOf}
 use Rattle.keys.specs.Sort.{insertKey, sortKeys, merge}
 use Rattle.keys.proofs.Insert.{merge-sorts}
 use Rattle.keys.proofs.InOrder.{edge-of-key, sort-edges, ascends-same, edges-ascend}
-use Rattle.keys.proofs.Crosses.{all-at, at-all}
 use Rattle.polygon.specs.Edges.{edges}
 use Rattle.polygon.proofs.Edges.{edges-linked, edges-ascending}
 use Rattle.tree.specs.Sides.{side, sides}

@@ -7,16 +7,16 @@ use native.Mathlib.Decide.{decLt}
 use native.Mathlib.Nat.{zero-add}
 use native.Mathlib.Omega.{arith}
 use lib.ListN.{length, getD, length-append, List·getD-append}
-use lib.Seq.{getD-append-add, getD-append-seam}
-use Rattle.polygon.specs.Lists.{All}
+use lib.Seq.{getD-append-add}
+use Rattle.lists.specs.Lists.{All}
+use Rattle.lists.proofs.Lists.{all-imp}
+use Rattle.lists.proofs.Places.{at-all}
 use Rattle.polygon.specs.Polygon.{Edge, _—_}
 use Rattle.polygon.specs.Edges.{edgesAt, edgesPast, edges}
 use Rattle.polygon.specs.Tree.{Tree, leaf, node, span, chordsAt}
 use Rattle.polygon.proofs.Order.{low-of, high-of}
-use Rattle.polygon.proofs.Lists.{all-imp}
 use Rattle.polygon.proofs.Chords.{span-pos}
 use Rattle.polygon.proofs.Edges.{at-in, past-in}
-use Rattle.keys.proofs.Crosses.{at-all}
 use Rattle.tree.specs.Shows.{edgeAt, apexAt, rightAt, Shows, side, triangle, Lasts}
 use Rattle.tree.proofs.Pieces.{at-edge}
 

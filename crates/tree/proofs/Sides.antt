@@ -7,19 +7,13 @@ use native.Mathlib.Nat.{zero-add}
 use native.Mathlib.Omega.{arith}
 use lib.ListN.{length, take, drop, getD, set, length-map, length-append, length-drop, List·getD-append}
 use lib.Seq.{length-take-le, getD-take, getD-drop, getD-at, getD-append-add}
-use Rattle.polygon.specs.Lists.{choose, numbers, below}
-use Rattle.polygon.proofs.Lists.{below-count}
+use Rattle.lists.specs.Lists.{choose, below}
+use Rattle.lists.proofs.Places.{below-count, number-at}
 use Rattle.tree.specs.Sides.{side, sides, withKey}
 use Rattle.keys.proofs.Merging.{Merging, merging-first, merging-second}
 
 pub sides-count : (k : ℕ) → length (sides k) ≡ k
 sides-count k = length-map (below k) side ∙ below-count k
-
-number-at : (k u i : ℕ) → i < k → getD (numbers k u) i 0 ≡ u + i
-unfolding numbers
-number-at zero u i h = absurd (omega arith)
-number-at (suc k) u zero h = omega arith
-number-at (suc k) u (suc i) h = number-at k (suc u) i (omega arith) ∙ omega arith
 
 pub side-at : (k i : ℕ) → i < k → getD (sides k) i 0 ≡ side i
 unfolding below

@@ -1,9 +1,9 @@
 -- The table that the code fills shows the tree of the whole part.
-use mathlib.Core.Path.{_≡_, refl, sym, _∙_, ap, subst}
+use mathlib.Core.Path.{_≡_, refl, sym, _∙_, ap}
 use mathlib.Core.List.{List}
-use Prim.Native.Nat.{ℕ, suc, _+_, _*_, _-_, _≤_, _<_}
+use Prim.Native.Nat.{ℕ, _+_, _*_, _-_, _≤_, _<_}
 use native.Mathlib.Omega.{arith}
-use lib.ListN.{length, take, drop, getD, length-map, List·getD-map}
+use lib.ListN.{length, take, drop, getD, List·getD-map}
 use lib.Seq.{getD-take, getD-drop, take-take, length-take-le}
 use Rattle.polygon.specs.Polygon.{Edge, _—_, Triangulated}
 use Rattle.polygon.specs.Edges.{edges}
@@ -11,7 +11,6 @@ use Rattle.polygon.specs.Tree.{Tree, span, treeOf}
 use Rattle.polygon.proofs.Edges.{edges-in, edges-count}
 use Rattle.polygon.proofs.TreeTheorem.{tree-of}
 use Rattle.keys.specs.Keys.{edgeOf, edgesOf}
-use Rattle.tree.specs.declared.Piece.{Piece}
 use Rattle.tree.specs.Shows.{edgeAt, Lasts, Whole}
 use Rattle.tree.proofs.Listing.{edge-at}
 use Rattle.tree.proofs.ShowsTree.{shows-all}

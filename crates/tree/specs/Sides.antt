@@ -2,7 +2,7 @@
 use mathlib.Core.List.{List, _∷_, _++_, map}
 use Prim.Native.Nat.{ℕ, suc}
 use lib.ListN.{take, drop}
-use Rattle.polygon.specs.Lists.{below}
+use Rattle.lists.specs.Lists.{below}
 use Rattle.polygon.specs.Polygon.{_—_}
 use Rattle.keys.specs.Keys.{keyOf}
 

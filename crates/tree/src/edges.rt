@@ -3,7 +3,7 @@ ghost use mathlib.Core.Path.{_≡_};
 ghost use Prim.Native.Nat.{ℕ, _+_, _*_, _-_, _<_, _≤_};
 ghost use native.Mathlib.Decide.{decLt};
 ghost use lib.ListN.{length, take, drop, getD};
-ghost use Rattle.polygon.specs.Lists.{choose};
+ghost use Rattle.lists.specs.Lists.{choose};
 ghost use Rattle.polygon.specs.Polygon.{Triangulated};
 ghost use Rattle.polygon.specs.Edges.{edges};
 ghost use Rattle.polygon.specs.Tree.{treeOf};

@@ -5,10 +5,10 @@ use mathlib.Core.Logic.{_⊎_, inl, inr, _↔_, _≢_}
 use mathlib.Core.List.{List, [], _∷_, _++_}
 use Prim.Native.Nat.{ℕ, _+_, _≤_, _<_}
 use native.Mathlib.Omega.{arith}
-use Rattle.polygon.specs.Lists.{Mem, head, tail, Sub, All, all-nil, all-cons}
+use Rattle.lists.specs.Lists.{Mem, head, tail, Sub, All, all-nil, all-cons}
+use Rattle.lists.proofs.Lists.{here, there, not-empty, mem-left, mem-right, all-append, all-imp, all-both, all-mem}
 use Rattle.polygon.specs.Polygon.{Edge, _—_, Triangulated}
 use Rattle.polygon.specs.Tree.{Tree, leaf, node, span, chords, inner, Piece, itself, beyond-left, beyond-right, PieceOf}
-use Rattle.polygon.proofs.Lists.{here, there, not-empty, mem-left, mem-right, all-append, all-imp, all-both, all-mem}
 use Rattle.polygon.proofs.Order.{low-of, high-of}
 use Rattle.polygon.proofs.Chords.{span-pos, inner-left, inner-right, root-of}
 use Rattle.polygon.proofs.PieceTheorem.{piece-lies, piece-chords, piece-of-piece, inner-diagonal}

@@ -4,8 +4,8 @@ use mathlib.Core.Bool.{Bool, true, false, not}
 use Prim.Native.Nat.{ℕ, zero, suc, _≤_}
 use native.Mathlib.Decide.{decLe}
 use native.Mathlib.Omega.{arith}
-use Rattle.polygon.specs.Lists.{choose}
-use Rattle.polygon.proofs.Lists.{choose-yes, choose-no}
+use Rattle.lists.specs.Lists.{choose}
+use Rattle.lists.proofs.Lists.{choose-yes, choose-no}
 use Rattle.umbrella.specs.declared.roles.Role.the-variants.{Hung, LeftRim, RightRim, FromLeft, FromRight}
 use Rattle.umbrella.specs.Roles.{leftStep, rightStep, goesLeft}
 

@@ -5,10 +5,10 @@ use mathlib.Core.Logic.{inl, inr, _↔_}
 use mathlib.Core.List.{List}
 use Prim.Native.Nat.{ℕ, _+_, _≤_, _<_}
 use native.Mathlib.Omega.{arith}
-use Rattle.polygon.specs.Lists.{Mem, head, All, all-nil, all-cons}
+use Rattle.lists.specs.Lists.{Mem, head, All, all-nil, all-cons}
+use Rattle.lists.proofs.Lists.{mem-left, mem-right, there, all-append, all-imp, all-mem}
 use Rattle.polygon.specs.Polygon.{Edge, Triangulated}
 use Rattle.polygon.specs.Tree.{Tree, leaf, node, span, chords, treeOf, itself, beyond-left, beyond-right, PieceOf}
-use Rattle.polygon.proofs.Lists.{mem-left, mem-right, there, all-append, all-imp, all-mem}
 use Rattle.polygon.proofs.Chords.{span-pos, root-in}
 use Rattle.polygon.proofs.TreeTheorem.{tree-of}
 use Rattle.polygon.proofs.Triangle.{Touch, go-left, go-right, touch-left, touch-right, linked-up}

@@ -2,9 +2,9 @@
 -- By recursion on the plan. Rests on the laws of lists only.
 use mathlib.Core.List.{List, [], _∷_, _++_}
 use Prim.Native.Nat.{ℕ, _+_}
-use Rattle.polygon.specs.Lists.{Mem, Sub, all-nil, all-cons}
+use Rattle.lists.specs.Lists.{Mem, Sub, all-nil, all-cons}
+use Rattle.lists.proofs.Lists.{here, there, mem-left, mem-right, all-append, all-mem, all-of}
 use Rattle.polygon.specs.Tree.{Tree, span}
-use Rattle.polygon.proofs.Lists.{here, there, mem-left, mem-right, all-append, all-mem, all-of}
 use Rattle.umbrella.specs.Plan.{Plan, none, plain, stemLeft, stemRight, LeftRim, leftEnd, leftOn, RightRim, rightEnd, rightOn, LeftGate, leftGate, leftPast, RightGate, rightGate, rightPast, Stem, endBoth, endLeft, endRight, goLeft, goRight}
 use Rattle.umbrella.specs.Triangles.{Triangle, own, ownLeft, ownRight, ownLeftGate, ownRightGate, ownStem}
 use Rattle.umbrella.specs.Border.{Cut, hangs, takes, cutLeft, cutRight, cutStem, cutLeftGate, cutRightGate, cut}

@@ -8,10 +8,10 @@ use Prim.Native.Nat.{ℕ, suc, _+_, _<_}
 use native.Mathlib.Nat.{add-assoc}
 use native.Mathlib.Omega.{arith}
 use lib.ListN.{length, length-append}
-use Rattle.polygon.specs.Lists.{Mem}
+use Rattle.lists.specs.Lists.{Mem}
+use Rattle.lists.proofs.Lists.{here, there, mem-left, mem-right}
 use Rattle.polygon.specs.Polygon.{Edge, _—_, Triangulated}
 use Rattle.polygon.specs.Tree.{Tree, leaf, node, span, chords, PieceOf}
-use Rattle.polygon.proofs.Lists.{here, there, mem-left, mem-right}
 use Rattle.polygon.proofs.Chords.{span-pos, inner-left, inner-right, inner-chords, root-of}
 use Rattle.polygon.proofs.PieceTheorem.{inner-diagonal}
 use Rattle.umbrella.specs.Plan.{Plan, none, plain, stemLeft, stemRight, LeftGate, leftGate, leftPast, RightGate, rightGate, rightPast, Stem, endBoth, endLeft, endRight, goLeft, goRight}

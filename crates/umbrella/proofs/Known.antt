@@ -5,7 +5,7 @@ use mathlib.Core.List.{[], _∷_}
 use mathlib.Core.Option.{none}
 use Prim.Native.Nat.{ℕ}
 use native.Mathlib.Decide.{decLe, decLt, ℕ-discrete}
-use Rattle.polygon.specs.Lists.{choose}
+use Rattle.lists.specs.Lists.{choose}
 use Rattle.polygon.specs.Polygon.{_—_, Polygon}
 use Rattle.polygon.specs.Tree.{treeOf, grow, far, farther, near?}
 use Rattle.umbrella.specs.Plan.{fold, levels, umbrellas, stems}

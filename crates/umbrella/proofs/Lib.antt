@@ -10,7 +10,6 @@ pub mod First
 pub mod Unique
 pub mod Wide
 pub mod Bounds
-pub mod Occurs
 pub mod Triangles
 pub mod Corners
 pub mod Rim

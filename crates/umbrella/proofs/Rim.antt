@@ -7,10 +7,10 @@ use Prim.Native.Nat.{ℕ, _+_, _≤_, _<_}
 use native.Mathlib.Decide.{decLt}
 use native.Mathlib.Nat.{add-assoc}
 use native.Mathlib.Omega.{arith}
-use Rattle.polygon.specs.Lists.{Mem, head, tail, All, all-nil, all-cons, Sorted, sorted-nil, sorted-cons}
+use Rattle.lists.specs.Lists.{Mem, head, tail, All, all-nil, all-cons, Sorted, sorted-nil, sorted-cons}
+use Rattle.lists.proofs.Lists.{there, not-empty, mem-left, mem-right, all-append, all-left, all-imp, all-mem, sorted-append}
 use Rattle.polygon.specs.Polygon.{Edge, Triangulated, Linked}
 use Rattle.polygon.specs.Tree.{Tree, leaf, node, span, chords, PieceOf}
-use Rattle.polygon.proofs.Lists.{there, not-empty, mem-left, mem-right, all-append, all-left, all-imp, all-mem, sorted-append}
 use Rattle.polygon.proofs.Chords.{span-pos}
 use Rattle.polygon.proofs.Triangle.{Touch, go-left, go-right, touch-left, touch-right, links-free}
 use Rattle.polygon.proofs.PieceTheorem.{touch-cases, left-piece, right-piece, joined, root-joined}

@@ -6,7 +6,7 @@ use mathlib.Core.Option.{none}
 use Prim.Native.Nat.{ℕ, suc, _+_, _^_, _≤_, _<_}
 use native.Mathlib.Nat.{le-trans}
 use native.Mathlib.Omega.{arith}
-use Rattle.polygon.specs.Lists.{Mem, Sorted}
+use Rattle.lists.specs.Lists.{Mem, Sorted}
 use Rattle.polygon.specs.Polygon.{Edge, _—_, Polygon, Valid, Linked}
 use Rattle.polygon.specs.Tree.{Tree, leaf, node, span, treeOf, PieceOf}
 use Rattle.polygon.proofs.TreeTheorem.{tree-of}

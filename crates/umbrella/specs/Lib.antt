@@ -2,7 +2,6 @@ pub mod Plan
 pub mod Numbers
 pub mod Drawn
 pub mod Best
-pub mod Occurs
 pub mod Triangles
 pub mod Rim
 pub mod Border

@@ -3,7 +3,7 @@
 use mathlib.Core.Bool.{Bool, true, false, not}
 use Prim.Native.Nat.{ℕ, zero, suc}
 use native.Mathlib.Decide.{decLe}
-use Rattle.polygon.specs.Lists.{choose}
+use Rattle.lists.specs.Lists.{choose}
 use Rattle.polygon.specs.Tree.{Tree}
 use Rattle.umbrella.specs.Numbers.{ud, handle}
 use Rattle.umbrella.specs.declared.roles.Role.{Role}

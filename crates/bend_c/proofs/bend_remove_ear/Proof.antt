@@ -4,7 +4,7 @@ use borrow.Author.Needs.{needs}
 use native.Mathlib.Omega.{arith}
 use Rattle.codec.specs.Answer.{packed}
 use Rattle.codec.proofs.Answers.{packable, bytes-left}
-use Rattle.keys.proofs.Crosses.{all-at}
+use Rattle.lists.proofs.Places.{all-at}
 use Rattle.edit.specs.Rules.{removeEar}
 use Rattle.edit.proofs.Size.{edited-size}
 use Rattle.bend_c.proofs.bend_remove_ear.Statement.{statement}

@@ -2,7 +2,7 @@
 use mathlib.Core.Path.{ap, _∙_}
 use borrow.Author.Needs.{needs}
 use native.Mathlib.Omega.{arith}
-use Rattle.keys.proofs.Crosses.{all-at}
+use Rattle.lists.proofs.Places.{all-at}
 use Rattle.edit_list.specs.Result.{packedRun}
 use Rattle.edit_list.proofs.Packing.{result-told, tellable, lent-left}
 use Rattle.bend_c.proofs.bend_run_edits.Statement.{statement}

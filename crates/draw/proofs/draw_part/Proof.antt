@@ -4,7 +4,7 @@ use Prim.Native.Nat.{ℕ}
 use borrow.Author.Needs.{needs}
 use lib.ListN.{length-replicate}
 use Rattle.sheet.proofs.Hand.{keys-count}
-use Rattle.levels.proofs.Storing.{blank}
+use Rattle.lists.proofs.Places.{blank}
 use Rattle.chart.specs.Chart.{chartOf}
 use Rattle.draw.proofs.draw_part.Statement.{statement}
 use Rattle.draw.proofs.draw_part.Tie as tie

@@ -4,7 +4,7 @@ use Prim.Native.Nat.{ℕ, _≤_, _<_, _-_}
 use borrow.Author.Count.{below-more}
 use native.Mathlib.Omega.{arith}
 use Rattle.edit_list.specs.Script.{count, kindAt}
-use Rattle.edit_list.proofs.Tests.{below-all, below-at}
+use Rattle.lists.proofs.Places.{below-all, below-at}
 use Rattle.edit_list.proofs.kinds_known.Statement.{statement}
 use Rattle.edit_list.proofs.kinds_known.Tie as tie
 
@@ -24,7 +24,7 @@ shared-slice-read-if1 : tie.Need-shared-slice-read-if1 Inv-loop μ-loop
 shared-slice-read-if1 c = omega arith
 
 returns : tie.Need-returns Inv-loop μ-loop
-returns c = (λ h. absurd (false≢true h), λ h a. absurd (omega (arith, c .if1 .taken, below-at (count (c .before .before .before .before .args .list .now)) a (c .before .before .before .loop .i) (c .before .before .loop-test .taken))))
+returns c = (λ h. absurd (false≢true h), λ h a. absurd (omega (arith, c .if1 .taken, below-at a (c .before .before .before .loop .i) (c .before .before .loop-test .taken))))
 
 add-i : tie.Need-add-i Inv-loop μ-loop
 add-i c = omega arith

@@ -4,7 +4,7 @@ use Prim.Native.Nat.{ℕ, _≤_, _<_, _-_}
 use borrow.Author.Count.{below-more}
 use native.Mathlib.Omega.{arith}
 use Rattle.edit_list.specs.Script.{count, roomAt}
-use Rattle.edit_list.proofs.Tests.{below-all, below-at}
+use Rattle.lists.proofs.Places.{below-all, below-at}
 use Rattle.edit_list.proofs.rooms_fit.Statement.{statement}
 use Rattle.edit_list.proofs.rooms_fit.Tie as tie
 
@@ -27,11 +27,11 @@ get32-requires : tie.Need-get32-requires Inv-loop μ-loop
 get32-requires c κs = omega arith
 
 returns : tie.Need-returns Inv-loop μ-loop
-returns c = (λ h. absurd (false≢true h), λ h a. absurd (omega (arith, c .if1 .taken, c .before .get32 .ensures .0, below-at (count (c .before .before .before .before .before .args .list .now)) a (c .before .before .before .loop .i) (c .before .before .loop-test .taken))))
+returns c = (λ h. absurd (false≢true h), λ h a. absurd (omega (arith, c .if1 .taken, c .before .get32 .ensures .0, below-at a (c .before .before .before .loop .i) (c .before .before .loop-test .taken))))
 
 returns-2 : tie.Need-returns-2 Inv-loop μ-loop
 returns-2 c =
-    (λ h. absurd (false≢true h), λ h a. absurd (omega (arith, c .if2 .taken, c .before .before .get32 .ensures .0, below-at (count (c .before .before .before .before .before .before .args .list .now)) a (c .before .before .before .before .loop .i) (c .before .before .before .loop-test .taken))))
+    (λ h. absurd (false≢true h), λ h a. absurd (omega (arith, c .if2 .taken, c .before .before .get32 .ensures .0, below-at a (c .before .before .before .before .loop .i) (c .before .before .before .loop-test .taken))))
 
 add-i : tie.Need-add-i Inv-loop μ-loop
 add-i c = omega arith

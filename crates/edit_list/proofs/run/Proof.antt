@@ -5,7 +5,7 @@ use borrow.Author.Needs.{needs}
 use borrow.Author.Tests.{not-true, not-false}
 use native.Mathlib.Omega.{arith}
 use lib.ListN.{length}
-use Rattle.keys.proofs.Crosses.{all-at}
+use Rattle.lists.proofs.Places.{all-at}
 use Rattle.edit_list.specs.Script.{Kinds, faultOf}
 use Rattle.edit_list.specs.Result.{unchanged, resultOf}
 use Rattle.edit_list.proofs.Tests.{fault-length, fault-kind, fault-short, fault-room, fault-none}

@@ -4,7 +4,7 @@ use mathlib.Core.List.{[], _∷_}
 use Prim.Native.Nat.{_+_, _/_, _%_}
 use native.Mathlib.Omega.{arith}
 use lib.ListN.{length, length-set}
-use Rattle.codec.proofs.Stores.{sets-append}
+use Rattle.lists.proofs.Stores.{sets-append}
 use Rattle.log_line.specs.Line.{digits}
 use Rattle.log_line.proofs.Digits.{digits-one, digits-step, length-step}
 use Prim.Native.Nat.{ℕ, _<_}

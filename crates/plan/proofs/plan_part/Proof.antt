@@ -4,7 +4,7 @@ use Prim.Native.Nat.{ℕ}
 use borrow.Author.Needs.{needs}
 use lib.ListN.{length-replicate}
 use Rattle.sheet.proofs.Hand.{keys-count}
-use Rattle.levels.proofs.Storing.{blank}
+use Rattle.lists.proofs.Places.{blank}
 use Rattle.plan.proofs.plan_part.Statement.{statement}
 use Rattle.plan.proofs.plan_part.Tie as tie
 

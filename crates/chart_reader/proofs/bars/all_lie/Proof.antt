@@ -6,7 +6,7 @@ use borrow.Author.Tests.{not-true, not-false}
 use native.Mathlib.Omega.{arith}
 use Rattle.chart_reader.specs.Decode.{chartIn}
 use Rattle.chart_reader.specs.Rules.{Lies}
-use Rattle.chart_reader.proofs.Below.{below-at, below-all}
+use Rattle.lists.proofs.Places.{below-at, below-all}
 use Rattle.chart_reader.proofs.bars.all_lie.Statement.{statement}
 use Rattle.chart_reader.proofs.bars.all_lie.Tie as tie
 

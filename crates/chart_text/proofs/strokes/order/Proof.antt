@@ -6,7 +6,7 @@ use native.Mathlib.Omega.{arith}
 use lib.ListN.{length, take}
 use lib.Seq.{length-take-le, take-at, getD-take}
 use Rattle.keys.specs.Sort.{sortKeys}
-use Rattle.keys.proofs.Crosses.{all-at}
+use Rattle.lists.proofs.Places.{all-at}
 use Rattle.chart_text.proofs.strokes.order.Statement.{statement}
 use Rattle.chart_text.proofs.strokes.order.Tie as tie
 

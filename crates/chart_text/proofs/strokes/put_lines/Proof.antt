@@ -3,7 +3,7 @@ use mathlib.Core.Path.{_≡_, refl}
 use Prim.Native.Nat.{_+_, _*_, _-_, _%_, _<_, _≤_}
 use native.Mathlib.Omega.{arith}
 use lib.ListN.{length, getD}
-use Rattle.keys.proofs.Crosses.{at-all}
+use Rattle.lists.proofs.Places.{at-all}
 use Rattle.log_line.specs.Put.{Put}
 use Rattle.chart_reader.proofs.Stroked.{bars-room, stroke-in}
 use Rattle.chart_text.proofs.Lines.{linesTo, lines-none, lines-more, lines-all}

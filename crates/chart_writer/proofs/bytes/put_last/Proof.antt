@@ -4,7 +4,7 @@ use borrow.Author.Needs.{needs}
 use native.Mathlib.Omega.{arith}
 use lib.Seq.{sets}
 use Rattle.codec.specs.Numbers.{bytes16}
-use Rattle.codec.proofs.Stores.{sets-append}
+use Rattle.lists.proofs.Stores.{sets-append}
 use Rattle.chart_writer.specs.Tables.{edgeBytes}
 use Rattle.chart_writer.proofs.Placing.{upright-map}
 use Rattle.chart_writer.proofs.Runs.{level-bytes, upright-bytes, stroke-size}

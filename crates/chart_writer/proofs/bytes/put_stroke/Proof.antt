@@ -3,7 +3,7 @@ use mathlib.Core.Path.{sym, _∙_}
 use borrow.Author.Needs.{needs}
 use native.Mathlib.Omega.{arith}
 use Rattle.codec.specs.Numbers.{bytes16}
-use Rattle.codec.proofs.Stores.{sets-append}
+use Rattle.lists.proofs.Stores.{sets-append}
 use Rattle.chart_writer.specs.Tables.{edgeBytes}
 use Rattle.chart_writer.proofs.Runs.{stroke-size}
 use Rattle.chart_writer.proofs.bytes.put_stroke.Statement.{statement}

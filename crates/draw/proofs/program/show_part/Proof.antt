@@ -8,7 +8,7 @@ use Rattle.polygon.specs.Polygon.{Polygon}
 use Rattle.codec.specs.Answer.{answered, written, write}
 use Rattle.sheet.specs.Held.{polygonOf}
 use Rattle.sheet.proofs.Hand.{keys-count}
-use Rattle.levels.proofs.Storing.{blank}
+use Rattle.lists.proofs.Places.{blank}
 use Rattle.chart.specs.Chart.{chartOf}
 use Rattle.chart.specs.Bytes.{bytesOf}
 use Rattle.log_line.specs.Line.{line}

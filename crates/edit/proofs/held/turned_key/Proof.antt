@@ -5,7 +5,8 @@ use borrow.Author.Needs.{needs}
 use native.Mathlib.Omega.{arith}
 use Rattle.keys.specs.Keys.{edgesOf}
 use Rattle.edit.specs.Tables.{Common}
-use Rattle.edit.proofs.Turning.{first-found, second-found, blank}
+use Rattle.lists.proofs.Places.{blank}
+use Rattle.edit.proofs.Turning.{first-found, second-found}
 use Rattle.edit.proofs.held.turned_key.Statement.{statement}
 use Rattle.edit.proofs.held.turned_key.Tie as tie
 

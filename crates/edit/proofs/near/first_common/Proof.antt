@@ -4,7 +4,7 @@ use mathlib.Core.Logic.{⊎-elim}
 use Prim.Native.Nat.{ℕ, _≤_, _<_, _-_}
 use native.Mathlib.Omega.{arith}
 use lib.ListN.{getD}
-use Rattle.edit.proofs.Marking.{between-more}
+use Rattle.lists.proofs.Places.{between-more}
 use Rattle.edit.proofs.near.first_common.Statement.{statement}
 use Rattle.edit.proofs.near.first_common.Tie as tie
 

@@ -5,7 +5,7 @@ use Prim.Native.Nat.{ℕ, _≤_, _<_, _-_}
 use borrow.Author.Count.{below-more}
 use native.Mathlib.Omega.{arith}
 use lib.ListN.{length, getD}
-use Rattle.keys.proofs.Removal.{mem-at, at-mem}
+use Rattle.lists.proofs.Places.{mem-at, at-mem}
 use Rattle.keys.proofs.change.has.Statement.{statement}
 use Rattle.keys.proofs.change.has.Tie as tie
 

@@ -4,7 +4,7 @@ use Prim.Native.Nat.{ℕ, suc, _≤_, _<_, _-_}
 use native.Mathlib.Numerals.{add-one}
 use native.Mathlib.Omega.{arith}
 use lib.ListN.{length, getD, length-set}
-use Rattle.keys.proofs.Tables.{table-next}
+use Rattle.lists.proofs.Places.{table-next}
 use Rattle.keys.proofs.cross.begin.Statement.{statement}
 use Rattle.keys.proofs.cross.begin.Tie as tie
 

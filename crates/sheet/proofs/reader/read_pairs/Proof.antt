@@ -4,7 +4,7 @@ use mathlib.Core.Bool.{true≢false, false≢true}
 use Prim.Native.Nat.{_-_}
 use native.Mathlib.Omega.{arith}
 use lib.ListN.{length}
-use Rattle.polygon.proofs.Lists.{all-mem}
+use Rattle.lists.proofs.Lists.{all-mem}
 use Rattle.sheet.proofs.Pairs.{Listed, listed-none, listed-next, pairs-at}
 use Rattle.sheet.proofs.reader.read_pairs.Statement.{statement}
 use Rattle.sheet.proofs.reader.read_pairs.Tie as tie

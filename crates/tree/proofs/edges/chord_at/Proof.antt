@@ -1,9 +1,8 @@
 -- By the place.
-use mathlib.Core.Path.{sym, _∙_, ap}
+use mathlib.Core.Path.{sym, _∙_}
 use Prim.Native.Nat.{_-_}
 use borrow.Author.Needs.{needs}
 use native.Mathlib.Omega.{arith}
-use lib.ListN.{getD}
 use Rattle.tree.proofs.Sides.{with-before, with-there, with-behind}
 use Rattle.tree.proofs.edges.chord_at.Statement.{statement}
 use Rattle.tree.proofs.edges.chord_at.Tie as tie

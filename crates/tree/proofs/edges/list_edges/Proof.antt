@@ -1,13 +1,13 @@
 -- The merged lists are those of Listing.antt.
 use mathlib.Core.Path.{_≡_, sym, _∙_, ap}
-use Prim.Native.Nat.{ℕ, _+_, _*_, _-_, _<_}
+use Prim.Native.Nat.{_+_, _*_, _-_, _<_}
 use borrow.Author.Needs.{needs}
 use native.Mathlib.Omega.{arith}
 use lib.ListN.{length, length-map}
-use Rattle.polygon.specs.Lists.{All}
+use Rattle.lists.specs.Lists.{All}
+use Rattle.lists.proofs.Places.{at-all}
 use Rattle.keys.specs.Keys.{edgeOf, edgesOf}
 use Rattle.keys.specs.Sort.{merge}
-use Rattle.keys.proofs.Crosses.{at-all}
 use Rattle.tree.specs.Sides.{side, sides, withKey}
 use Rattle.tree.proofs.Sides.{with-length}
 use Rattle.tree.proofs.Listing.{chords-low, edges-listed}

@@ -1,13 +1,12 @@
--- The laws of the words about lists in specs/Lists.antt: membership, "all of them", the elements that pass a test, sorted lists, the numbers below n.
--- They rest on nothing else of this crate.
+-- The laws of the words about lists in specs/Lists.antt: membership, "all of them", one of two values, the elements that pass a test, sorted lists.
 use mathlib.Core.Path.{_≡_, refl, ap, ap₂, sym, _∙_, subst}
 use mathlib.Core.Logic.{_⊎_, inl, inr}
-use mathlib.Core.List.{List, [], _∷_, _++_, map}
-use Prim.Native.Nat.{ℕ, zero, suc, _+_, _≤_, _<_}
-use native.Mathlib.Decide.{decLt}
+use mathlib.Core.List.{List, [], _∷_, _++_, map, reverse, reverse-cons, flatMap, append-assoc}
+use mathlib.Mathlib.Data.List.Basic.{map-reverseAux}
+use Prim.Native.Nat.{suc, _+_, _≤_}
 use native.Mathlib.Omega.{arith}
 use lib.ListN.{length}
-use Rattle.polygon.specs.Lists.{Mem, head, tail, Sub, All, all-nil, all-cons, Sorted, sorted-nil, sorted-cons, choose, put, keep, numbers, below}
+use Rattle.lists.specs.Lists.{Mem, head, tail, Sub, All, all-nil, all-cons, Sorted, sorted-nil, sorted-cons, choose, put, keep, not?}
 
 module _ {A : Type 0} where
   -- membership
@@ -76,6 +75,33 @@ unfolding choose
 choose-no (yes p) x h = absurd (h p)
 choose-no (no p) x h = refl
 
+-- reversed and mapped lists
+module _ {A : Type 0} where
+  pub all-reverse : {P : A → Type 0} {l : List A} → All P l → All P (reverse l)
+  all-reverse all-nil = all-nil
+  all-reverse {P} (all-cons {x} {l} p a) = subst (All P) (sym (reverse-cons x l)) (all-append (all-reverse a) (all-cons p all-nil))
+
+  pub mem-reverse : {z : A} {l : List A} → Mem z l → Mem z (reverse l)
+  mem-reverse {z} (head {x} {l} e) = subst (Mem z) (sym (reverse-cons x l)) (mem-right (reverse l) (head e))
+  mem-reverse {z} (tail {x} {l} m) = subst (Mem z) (sym (reverse-cons x l)) (mem-left (x ∷ []) (mem-reverse m))
+
+module _ {A B : Type 0} (f : A → B) where
+  pub map-reverse : (l : List A) → map f (reverse l) ≡ reverse (map f l)
+  map-reverse l = map-reverseAux f l []
+
+  pub mem-map : {z : A} {l : List A} → Mem z l → Mem (f z) (map f l)
+  mem-map (head e) = head (ap f e)
+  mem-map (tail m) = tail (mem-map m)
+
+  pub mem-unmap : {y : B} (l : List A) → Mem y (map f l) → (x : A) × Mem x l × (y ≡ f x)
+  mem-unmap (a ∷ l) (head e) = (a, here, e)
+  mem-unmap (a ∷ l) (tail m) = let (x, k, e) = mem-unmap l m in (x, tail k, e)
+
+pub flat-append : {A B : Type 0} (f : A → List B) (xs ys : List A) → flatMap f (xs ++ ys) ≡ flatMap f xs ++ flatMap f ys
+unfolding flatMap
+flat-append f [] ys = refl
+flat-append f (x ∷ xs) ys = ap (λ (l : List _). f x ++ l) (flat-append f xs ys) ∙ sym (append-assoc (f x) (flatMap f xs) (flatMap f ys))
+
 -- the elements that pass a test
 module _ {A : Type 0} where
   put-all : {P : Type 0} {Q : A → Type 0} (d : Dec P) (x : A) {xs : List A} → (P → Q x) → All Q xs → All Q (put d x xs)
@@ -141,6 +167,59 @@ module _ {A : Type 0} where
     count3 (x ∷ xs) (all-cons (inr (inl p)) a) = omega (arith, count3 xs a, put-long (f x) x (keep f xs), put-in (g x) x (keep g xs) p, put-long (h x) x (keep h xs))
     count3 (x ∷ xs) (all-cons (inr (inr p)) a) = omega (arith, count3 xs a, put-long (f x) x (keep f xs), put-long (g x) x (keep g xs), put-in (h x) x (keep h xs) p)
 
+put-append : {A P : Type 0} (d : Dec P) (x : A) (xs ys : List A) → put d x xs ++ ys ≡ put d x (xs ++ ys)
+unfolding put
+put-append (yes p) x xs ys = refl
+put-append (no p) x xs ys = refl
+
+pub keep-append : {A : Type 0} {P : A → Type 0} (d : (x : A) → Dec (P x)) (xs ys : List A) → keep d (xs ++ ys) ≡ keep d xs ++ keep d ys
+unfolding keep
+keep-append d [] ys = refl
+keep-append d (x ∷ xs) ys = ap (put (d x) x) (keep-append d xs ys) ∙ sym (put-append (d x) x (keep d xs) (keep d ys))
+
+-- one element more, and how many pass
+module _ {A : Type 0} {P : A → Type 0} (d : (x : A) → Dec (P x)) where
+  pub keep-yes : (x : A) (xs : List A) → P x → keep d (x ∷ xs) ≡ x ∷ keep d xs
+  unfolding keep put
+  keep-yes x xs p = go (d x)
+    where
+      go : (k : Dec (P x)) → put k x (keep d xs) ≡ x ∷ keep d xs
+      go (yes q) = refl
+      go (no q) = absurd (q p)
+
+  pub keep-no : (x : A) (xs : List A) → ¬ P x → keep d (x ∷ xs) ≡ keep d xs
+  unfolding keep put
+  keep-no x xs p = go (d x)
+    where
+      go : (k : Dec (P x)) → put k x (keep d xs) ≡ keep d xs
+      go (yes q) = absurd (p q)
+      go (no q) = refl
+
+-- each passes, or does not
+pub keep-split : {A : Type 0} {P : A → Type 0} (d : (x : A) → Dec (P x)) (xs : List A) → length (keep d xs) + length (keep (λ x. not? (d x)) xs) ≡ length xs
+unfolding keep
+keep-split d [] = refl
+keep-split {P = P} d (x ∷ xs) = go (d x) (keep-split d xs)
+  where
+    go : Dec (P x) → length (keep d xs) + length (keep (λ y. not? (d y)) xs) ≡ length xs → length (keep d (x ∷ xs)) + length (keep (λ y. not? (d y)) (x ∷ xs)) ≡ suc (length xs)
+    go (yes p) e = rw (keep-yes d x xs p, keep-no (λ y. not? (d y)) x xs (λ f. f p)) (omega arith)
+    go (no p) e = rw (keep-no d x xs p, keep-yes (λ y. not? (d y)) x xs p) (omega arith)
+
+module _ {A : Type 0} {P : A → Type 0} (d : (x : A) → Dec (P x)) where
+  -- all pass exactly if none is left out
+  pub keep-every : {xs : List A} → All P xs → length (keep d xs) ≡ length xs
+  unfolding keep
+  keep-every all-nil = refl
+  keep-every (all-cons {x} {l} p a) = rw (keep-yes d x l p) (ap suc (keep-every a))
+
+  pub keep-full : (xs : List A) → length xs ≤ length (keep d xs) → All P xs
+  keep-full [] h = all-nil
+  keep-full (x ∷ xs) h = go (d x) (keep-full xs)
+    where
+      go : Dec (P x) → (length xs ≤ length (keep d xs) → All P xs) → All P (x ∷ xs)
+      go (yes p) f = all-cons p (f (let k = rw (keep-yes d x xs p) at h in omega arith))
+      go (no p) f = absurd (let k = rw (keep-no d x xs p) at h in omega (arith, keep-split d xs))
+
 -- sorted lists
 module _ {A : Type 0} {R : A → A → Type 0} where
   pub sorted-append : {P Q : A → Type 0} → ((x y : A) → P x → Q y → R x y) → {xs ys : List A} → Sorted R xs → Sorted R ys → All P xs → All Q ys → Sorted R (xs ++ ys)
@@ -201,40 +280,3 @@ module _ {A : Type 0} {R : A → A → Type 0} (one-way : (x y : A) → R x y �
   sorted-same (x ∷ xs) (y ∷ ys) (sorted-cons a s) (sorted-cons b t) f g =
       let e : x ≡ y = heads x y (head-or b (f x here)) (head-or a (g y here)) in
       ap₂ _∷_ e (sorted-same xs ys s t (tail-sub x y xs ys e a f) (tail-sub y x ys xs (sym e) b g))
-
--- the numbers below n
-pub numbers-count : (k u : ℕ) → length (numbers k u) ≡ k
-unfolding numbers
-numbers-count zero u = refl
-numbers-count (suc k) u = ap suc (numbers-count k (suc u))
-
-pub numbers-in : (k u : ℕ) → All (λ x. (u ≤ x) × (x < u + k)) (numbers k u)
-unfolding numbers
-numbers-in zero u = all-nil
-numbers-in (suc k) u = all-cons {x = u} (omega arith) (all-imp (λ x h. omega arith) (numbers-in k (suc u)))
-
-pub numbers-sorted : (k u : ℕ) → Sorted _<_ (numbers k u)
-unfolding numbers
-numbers-sorted zero u = sorted-nil
-numbers-sorted (suc k) u = sorted-cons (all-imp (λ x h. h .0) (numbers-in k (suc u))) (numbers-sorted k (suc u))
-
-pub numbers-mem : (k u x : ℕ) → u ≤ x → x < u + k → Mem x (numbers k u)
-unfolding numbers
-numbers-mem zero u x h i = absurd (omega arith)
-numbers-mem (suc k) u x h i = go (decLt u x) (numbers-mem k (suc u) x)
-  where
-    go : Dec (u < x) → (suc u ≤ x → x < suc u + k → Mem x (numbers k (suc u))) → Mem x (u ∷ numbers k (suc u))
-    go (yes p) f = there (f p (omega arith))
-    go (no p) f = head {x = u} (omega arith)
-
-pub below-count : (n : ℕ) → length (below n) ≡ n
-unfolding below
-below-count n = numbers-count n 0
-
-pub below-sorted : (n : ℕ) → Sorted _<_ (below n)
-unfolding below
-below-sorted n = numbers-sorted n 0
-
-pub below-mem : (n x : ℕ) → x < n → Mem x (below n)
-unfolding below
-below-mem n x h = numbers-mem n 0 x (omega arith) (omega arith)

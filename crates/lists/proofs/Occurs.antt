@@ -1,11 +1,9 @@
--- The laws of `occurs`: over append, reverse and flatten, beside membership, and at most once in a sorted list.
--- Rests on nothing else of this crate.
+-- How often an element stands in a list: over append, reverse and flatten, beside membership, and at most once in a sorted list.
 use mathlib.Core.Path.{_≡_, refl, sym, _∙_, ap, subst}
 use mathlib.Core.List.{List, [], _∷_, _++_, reverse, reverse-cons, flatten}
 use Prim.Native.Nat.{_+_, _≤_}
 use native.Mathlib.Omega.{arith}
-use Rattle.polygon.specs.Lists.{Mem, head, tail, All, all-nil, all-cons, Sorted, sorted-nil, sorted-cons}
-use Rattle.umbrella.specs.Occurs.{times, occurs}
+use Rattle.lists.specs.Lists.{Mem, head, tail, All, all-nil, all-cons, Sorted, sorted-nil, sorted-cons, times, occurs}
 
 pub times-yes : {P : Type 0} (k : Dec P) → P → times k ≡ 1
 unfolding times

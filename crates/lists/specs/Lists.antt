@@ -1,14 +1,19 @@
--- Words about lists that every definition here uses: membership, "all of them", sorted, the ones that pass a test; and decisions about them.
+-- Words about lists that every definition uses: membership, "all of them", sorted, the ones that pass a test, how often; and decisions about them.
 -- Their laws are in proofs/Lists.antt.
 use mathlib.Core.Path.{_≡_}
-use mathlib.Core.Logic.{_⊎_, inl, inr}
+use mathlib.Core.Logic.{_⊎_, inl, inr, Dec·and}
 use mathlib.Core.List.{List, [], _∷_}
-use Prim.Native.Nat.{ℕ, zero, suc}
+use Prim.Native.Nat.{ℕ, zero, suc, _+_}
 
 -- z is in the list
 pub data Mem {A : Type 0} (z : A) : List A → Type 0 where
   head : {x : A} {l : List A} → z ≡ x → Mem z (x ∷ l)
   tail : {x : A} {l : List A} → Mem z l → Mem z (x ∷ l)
+
+-- z is element j of the list
+pub data Nth {A : Type 0} (z : A) : ℕ → List A → Type 0 where
+  now : {x : A} {l : List A} → z ≡ x → Nth z 0 (x ∷ l)
+  next : {j : ℕ} {x : A} {l : List A} → Nth z j l → Nth z (suc j) (x ∷ l)
 
 -- all of the first are in the second
 abbrev pub Sub : {A : Type 0} → List A → List A → Type 0
@@ -45,6 +50,15 @@ numbers (suc k) u = u ∷ numbers k (suc u)
 
 unfoldable pub below : ℕ → List ℕ
 below n = numbers n 0
+
+-- how often an element stands in a list: 1 for each decision that is yes
+unfoldable pub times : {P : Type 0} → Dec P → ℕ
+times (yes p) = 1
+times (no p) = 0
+
+unfoldable pub occurs : {A : Type 0} → ((x y : A) → Dec (x ≡ y)) → A → List A → ℕ
+occurs d x [] = 0
+occurs d x (y ∷ ys) = times (d x y) + occurs d x ys
 
 -- decisions: not, or, all, sorted, in the list
 unfoldable pub not? : {A : Type 0} → Dec A → Dec (¬ A)
@@ -98,3 +112,11 @@ mem? d x (y ∷ ys) = step (d x y) (mem? d x ys)
     step (yes e) k = yes (head e)
     step (no f) (yes m) = yes (tail m)
     step (no f) (no g) = no (λ m. elim (cases m) [ inl e ↦ f e | inr k ↦ g k ])
+
+-- for a statement that says the same; three together
+unfoldable pub recast? : {A B : Type 0} → (A → B) → (B → A) → Dec A → Dec B
+recast? f g (yes a) = yes (f a)
+recast? f g (no h) = no (λ b. h (g b))
+
+unfoldable pub three? : {A B C : Type 0} → Dec A → Dec B → Dec C → Dec (A × B × C)
+three? a b c = recast? (λ h. (h .0, h .1 .0, h .1 .1)) (λ h. (h .0, (h .1, h .2))) (Dec·and a (Dec·and b c))
