@@ -7,7 +7,7 @@ use native.Mathlib.Omega.{arith}
 use lib.ListN.{length, drop, length-append}
 use Rattle.lists.specs.Lists.{numbers, below}
 use Rattle.codec.specs.Numbers.{bytes16, get16}
-use Rattle.sheet.proofs.Bytes.{get16-after, get16-back}
+use Rattle.codec.proofs.Numbers.{get16-after, get16-back}
 use Rattle.chart.specs.Chart.{Chart, barsOf, Bar}
 use Rattle.chart.specs.Bytes.{barBytes, strokeBytes, bytesOf}
 use Rattle.bar_list.specs.declared.Bar.{Bar as Record}

@@ -6,7 +6,8 @@ use Rattle.lists.specs.Lists.{All}
 use Rattle.codec.specs.Answer.{written}
 use Rattle.codec.specs.Unpacked.{ReadsBack}
 use Rattle.codec.proofs.Answers.{reads-back}
-use Rattle.sheet.proofs.Refusals.{small-number, ordered-settled}
+use Rattle.sheet.proofs.Refusals.{ordered-settled}
+use Rattle.codec.proofs.Refusals.{small-number}
 use Rattle.sheet.proofs.Size.{ordered-size}
 use Rattle.edit.specs.Rules.{Edit, addEar, removeEar, flip}
 use Rattle.edit.specs.Calls.{edited}

@@ -9,7 +9,7 @@ use lib.Seq.{getD-append-add}
 use Rattle.lists.specs.Lists.{All, all-nil, all-cons, numbers, below}
 use Rattle.lists.proofs.Places.{number-at}
 use Rattle.codec.specs.Numbers.{bytes16, get16}
-use Rattle.sheet.proofs.Bytes.{get16-after, get16-back}
+use Rattle.codec.proofs.Numbers.{get16-after, get16-back}
 use Rattle.chart.specs.Chart.{Bar, Stroke, upright, level, Chart, barsOf}
 use Rattle.chart.specs.Bytes.{barBytes, strokeBytes, bytesOf}
 use Rattle.chart.proofs.Sizes.{bars-count, bars-size}

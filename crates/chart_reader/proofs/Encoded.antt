@@ -9,7 +9,7 @@ use lib.ListN.{length, drop, getD}
 use lib.Seq.{drop-cons, drop-length}
 use Rattle.lists.specs.Lists.{All, all-cons, numbers, below}
 use Rattle.codec.specs.Numbers.{bytes16, get16}
-use Rattle.sheet.proofs.Bytes.{Byte, byte-at}
+use Rattle.codec.proofs.Numbers.{Byte, byte-at}
 use Rattle.chart.specs.Chart.{barsOf}
 use Rattle.chart.specs.Bytes.{barBytes, strokeBytes, bytesOf}
 use Rattle.chart_reader.specs.Decode.{countIn, barAt, strokeSize, shaped, strokeAt, places, behind, strokePlaces, chartIn, Formed}

@@ -6,8 +6,10 @@ use Rattle.lists.specs.Lists.{All, numbers}
 use Rattle.lists.proofs.Lists.{here, there, all-imp}
 use Rattle.lists.proofs.Places.{numbers-in}
 use Rattle.codec.specs.Answer.{written}
-use Rattle.sheet.specs.Refusals.{RefusedBy, holds, Proper, Settled}
-use Rattle.sheet.proofs.Refusals.{settled, ask-refuses, outcome-refuses}
+use Rattle.sheet.specs.Refusals.{RefusedBy, holds}
+use Rattle.codec.specs.Refusals.{Proper, Settled}
+use Rattle.sheet.proofs.Refusals.{ask-refuses, outcome-refuses}
+use Rattle.codec.proofs.Refusals.{settled}
 use Rattle.chart_reader.specs.Reader.{chartTests, readChart, chartRead}
 
 read-refuses : (s : List ℕ) → RefusedBy chartTests (readChart s)

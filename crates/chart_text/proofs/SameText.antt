@@ -14,7 +14,7 @@ use Rattle.umbrella.specs.Best.{planOf}
 use Rattle.umbrella.proofs.Theorems.{umbrellas-bound}
 use Rattle.codec.specs.Numbers.{get16}
 use Rattle.sheet.specs.Sheet.{held}
-use Rattle.sheet.proofs.Bytes.{Byte, byte-at}
+use Rattle.codec.proofs.Numbers.{Byte, byte-at}
 use Rattle.chart.specs.Chart.{Chart}
 use Rattle.chart.specs.Bytes.{StrokeFits, Fits}
 use Rattle.log_line.proofs.Reading.{Small, line-told}

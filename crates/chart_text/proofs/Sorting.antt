@@ -12,28 +12,13 @@ use Rattle.lists.specs.Lists.{All, all-nil, all-cons, choose, numbers, below}
 use Rattle.lists.proofs.Lists.{all-imp, all-map}
 use Rattle.lists.proofs.Places.{numbers-in, below-next, map-places}
 use Rattle.keys.specs.Sort.{insertKey, sortKeys}
-use Rattle.keys.proofs.Insert.{insert-below, insert-past}
+use Rattle.keys.proofs.Insert.{insert-below, insert-past, all-sort}
 use Rattle.chart.specs.Chart.{Stroke, Chart}
 use Rattle.chart_reader.specs.Decode.{strokeAt, chartIn}
 use Rattle.chart_reader.specs.Held.{Placed}
 use Rattle.chart_reader.proofs.Stroked.{strokes-room}
 use Rattle.chart_text.specs.Text.{standing, enter, leftToRight, strokeLines}
 use Rattle.chart_text.specs.Ordered.{strokeOf, keyFor, strokeKeys, strokesOf, linesOf}
-
--- what holds of each key holds of each in order
-all-insert : {Q : ℕ → Type 0} (x : ℕ) (ys : List ℕ) → Q x → All Q ys → All Q (insertKey x ys)
-unfolding insertKey
-all-insert x [] q a = all-cons q all-nil
-all-insert {Q} x (y ∷ ys) q (all-cons p a) = go (decLt x y) (all-insert x ys q a)
-  where
-    go : Dec (x < y) → All Q (insertKey x ys) → All Q (insertKey x (y ∷ ys))
-    go (yes h) b = rw (insert-below x y ys h) (all-cons q (all-cons p a))
-    go (no h) b = rw (insert-past x y ys (omega arith)) (all-cons p b)
-
-all-sort : {Q : ℕ → Type 0} {xs : List ℕ} → All Q xs → All Q (sortKeys xs)
-unfolding sortKeys
-all-sort all-nil = all-nil
-all-sort (all-cons {x} {l} q a) = all-insert x (sortKeys l) q (all-sort a)
 
 -- y is a key whose number is above that of x; f is the stroke of a key
 abbrev Later : Chart → (ℕ → Stroke) → ℕ → ℕ → Type 0

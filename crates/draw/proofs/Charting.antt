@@ -10,7 +10,7 @@ use Rattle.polygon.specs.Edges.{edges}
 use Rattle.polygon.specs.Tree.{Tree, span}
 use Rattle.polygon.proofs.Edges.{edges-in, edges-ascending}
 use Rattle.keys.specs.Keys.{edgesOf}
-use Rattle.sheet.proofs.Hand.{edge-at}
+use Rattle.keys.proofs.InOrder.{edges-at}
 use Rattle.umbrella.specs.Plan.{Plan, levels}
 use Rattle.umbrella.specs.Best.{best}
 use Rattle.umbrella.proofs.Theorems.{umbrellas-bound}
@@ -57,7 +57,7 @@ module _ {n : ℕ} {t : Tree} {tr ds : List ℕ} {p : Piece} (F : Filled n t tr 
   keyed : Keyed (2 * n - 3) tr
   keyed j h =
       let inside : All (λ e. (0 ≤ e .0) × (e .0 < e .1) × (e .1 ≤ 0 + span t)) (edgesOf (take (2 * n - 3) tr)) = rw (P .listed) (edges-in 0 t) in
-      let b = edge-at (take (2 * n - 3) tr) inside j (omega (arith, length-take-le (2 * n - 3) tr (omega (arith, P .tree-kept, sized F)))) in
+      let b = edges-at (take (2 * n - 3) tr) inside j (omega (arith, length-take-le (2 * n - 3) tr (omega (arith, P .tree-kept, sized F)))) in
       omega (arith, b, sized F, getD-take (2 * n - 3) tr j 0 h)
 
   pub placed-edges : Edges (2 * n - 3) tr

@@ -4,17 +4,16 @@ use mathlib.Core.Path.{_≡_, ap, _∙_}
 use mathlib.Core.List.{List}
 use mathlib.Core.Option.{none, some}
 use Prim.Native.Nat.{ℕ, _+_, _≤_, min}
-use native.Mathlib.Decide.{decLe}
 use native.Mathlib.Omega.{arith}
 use lib.ListN.{length, take}
-use lib.Seq.{take-all, take-at, take-append-seam}
+use lib.Seq.{take-at, take-append-seam}
 use Rattle.polygon.specs.Polygon.{Polygon, Valid}
 use Rattle.codec.specs.declared.Written.{Written}
 use Rattle.codec.specs.declared.Written.the-variants.{Bytes, Refused}
 use Rattle.codec.specs.Answer.{Answer, write, whole, written, answered}
 use Rattle.codec.proofs.Answers.{written-fits, bytes-left}
 use Rattle.codec.specs.Input.{Begins}
-use Rattle.codec.proofs.Input.{begins-take}
+use Rattle.codec.proofs.Input.{begins-settles}
 use Rattle.lists.proofs.Stores.{sets-front}
 use Rattle.sheet.specs.Sheet.{Reading, refused, held, readSheet}
 use Rattle.sheet.proofs.Long.{long-input}
@@ -30,15 +29,6 @@ use Rattle.draw.specs.Answer.{charted}
 use Rattle.draw.specs.Printed.{factsOf, printedOf}
 use Rattle.draw.specs.Program.{savedOf, outputOf, output, shown, Lengths}
 use Rattle.draw.proofs.Size.{chart-bytes}
-
--- what the first n bytes of any longer input settle, the bytes that were read of an input settle, if n are lent
-pub begins-settles : {A : Type 0} (f : List ℕ → A) (n : ℕ) → ((s : List ℕ) → n ≤ length s → f (take n s) ≡ f s)
-    → (lent input : List ℕ) (size : ℕ) → length lent ≡ n → Begins lent size input → f (take (min size n) lent) ≡ f input
-begins-settles {A} f n long lent input size h b = ap f (begins-take lent input size n h b) ∙ go (decLe n (length input))
-  where
-    go : Dec (n ≤ length input) → f (take n input) ≡ f input
-    go (yes l) = long input l
-    go (no l) = ap f (take-all n input (omega arith))
 
 pub begins-output : (lent input : List ℕ) (size : ℕ) → length lent ≡ 4092 → Begins lent size input → (chart text : List ℕ) → output (take (min size 4092) lent) chart text ≡ output input chart text
 unfolding output

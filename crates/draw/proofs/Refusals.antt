@@ -8,8 +8,10 @@ use native.Mathlib.Omega.{arith}
 use lib.ListN.{length}
 use Rattle.codec.specs.Answer.{OnlyShort, written}
 use Rattle.sheet.specs.Sheet.{Reading}
-use Rattle.sheet.specs.Refusals.{sheetTests, RefusedBy, by, holds, Refuses, number, writes, Settled}
-use Rattle.sheet.proofs.Refusals.{settled, read-refuses, tests-proper}
+use Rattle.sheet.specs.Refusals.{sheetTests, RefusedBy, by, holds}
+use Rattle.codec.specs.Refusals.{Refuses, number, writes, Settled}
+use Rattle.sheet.proofs.Refusals.{read-refuses, tests-proper}
+use Rattle.codec.proofs.Refusals.{settled}
 use Rattle.chart.specs.Chart.{Bar, Chart, barsOf}
 use Rattle.chart.specs.Bytes.{bytesOf}
 use Rattle.chart.proofs.Sizes.{bars-count}

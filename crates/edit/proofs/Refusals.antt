@@ -7,8 +7,10 @@ use Rattle.lists.proofs.Lists.{here, there, mem-left, mem-right, all-append}
 use Rattle.polygon.specs.Polygon.{Polygon}
 use Rattle.codec.specs.Answer.{written}
 use Rattle.sheet.specs.Sheet.{Reading}
-use Rattle.sheet.specs.Refusals.{sheetTests, RefusedBy, by, holds, Proper, Settled}
-use Rattle.sheet.proofs.Refusals.{settled, ask-refuses, outcome-refuses, read-refuses, tests-proper}
+use Rattle.sheet.specs.Refusals.{sheetTests, RefusedBy, by, holds}
+use Rattle.codec.specs.Refusals.{Proper, Settled}
+use Rattle.sheet.proofs.Refusals.{ask-refuses, outcome-refuses, read-refuses, tests-proper}
+use Rattle.codec.proofs.Refusals.{settled}
 use Rattle.edit.specs.Rules.{Edit, addEar, removeEar, flip, ruleTests, rule}
 use Rattle.edit.specs.Calls.{onHeld, edited}
 

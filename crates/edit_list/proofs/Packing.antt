@@ -6,7 +6,7 @@ use native.Mathlib.Decide.{ℕ-discrete}
 use native.Mathlib.Omega.{arith}
 use lib.ListN.{length, take, length-take}
 use Rattle.lists.specs.Lists.{All, all-nil, all-cons, choose}
-use Rattle.sheet.proofs.Bytes.{get32-below}
+use Rattle.codec.proofs.Numbers.{get32-below}
 use Rattle.edit.specs.Rules.{Edit}
 use Rattle.edit.specs.Calls.{edited, called}
 use Rattle.edit_list.specs.declared.Ran.{Ran}

@@ -13,7 +13,8 @@ use Rattle.lists.proofs.Places.{numbers-mem}
 use Rattle.polygon.specs.Polygon.{Polygon}
 use Rattle.sheet.specs.Sheet.{Reading, held, readSheet}
 use Rattle.sheet.specs.Refusals.{sheetTests, RefusedBy, by, holds}
-use Rattle.sheet.proofs.Refusals.{whole-finished, refusal-refuses, read-refuses, tests-proper, ordered-settled}
+use Rattle.sheet.proofs.Refusals.{read-refuses, tests-proper, ordered-settled}
+use Rattle.codec.proofs.Refusals.{whole-finished, refusal-refuses}
 use Rattle.edit.specs.Rules.{addEar, removeEar, flip}
 use Rattle.edit.proofs.Refusals.{edited-settled}
 use Rattle.edit_list.specs.Script.{faultOf}

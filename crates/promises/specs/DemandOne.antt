@@ -11,7 +11,7 @@ use Rattle.polygon.specs.Polygon.{Polygon}
 use Rattle.codec.specs.Answer.{Outcome, written}
 use Rattle.codec.specs.Numbers.{run16}
 use Rattle.sheet.specs.Sheet.{held, readSheet, ordered}
-use Rattle.sheet.specs.Refusals.{Proper, Finished, Refusal, Settled}
+use Rattle.codec.specs.Refusals.{Proper, Finished, Refusal, Settled}
 use Rattle.edit.specs.Rules.{addEar, removeEar, flip}
 use Rattle.edit.specs.Calls.{edited}
 use Rattle.edit_list.specs.Script.{scriptOf}

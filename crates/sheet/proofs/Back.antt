@@ -14,7 +14,7 @@ use Rattle.codec.specs.Numbers.{bytes16, bytes32, get16, get32}
 use Rattle.sheet.specs.Sheet.{held, pairBytes, numberBytes, numberBit, mapByte, readSheet, normalSheet}
 use Rattle.sheet.specs.Listing.{pairsOf, Lists}
 use Rattle.sheet.proofs.Fields.{more-stands, length-is}
-use Rattle.sheet.proofs.Bytes.{get16-back, get32-after, get32-back}
+use Rattle.codec.proofs.Numbers.{get16-back, get32-after, get32-back}
 use Rattle.sheet.proofs.Normal.{pairs-back, pairs-length, normal-length, map-byte}
 use Rattle.sheet.proofs.Accepts.{lists-held}
 

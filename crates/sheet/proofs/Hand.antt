@@ -1,14 +1,11 @@
 -- A part in the code's hands: the one law from what was read to what is answered, and what is known of the keys.
 use mathlib.Core.Path.{_≡_, ap, sym}
 use mathlib.Core.List.{List}
-use Prim.Native.Nat.{ℕ, _-_, _≤_, _<_}
+use Prim.Native.Nat.{ℕ, _-_, _≤_}
 use native.Mathlib.Omega.{arith}
-use lib.ListN.{length, take, getD, length-map, List·getD-map}
+use lib.ListN.{length, take}
 use lib.Seq.{length-take-le}
-use Rattle.lists.specs.Lists.{All}
-use Rattle.lists.proofs.Places.{at-all}
-use Rattle.polygon.specs.Polygon.{Edge, _—_}
-use Rattle.keys.specs.Keys.{edgeOf, edgesOf}
+use Rattle.keys.proofs.InOrder.{edges-at}
 use Rattle.sheet.specs.declared.Head.{Head}
 use Rattle.sheet.specs.declared.Read.{Read}
 use Rattle.sheet.specs.declared.Read.the-variants.{Refused, Held}
@@ -34,10 +31,6 @@ in-hand {q} {r} {h} {ks} R e = go (rw e at R)
     go : Reads q (Held h) ks → InHand h ks
     go (gives p P) = P
 
--- what holds of all edges holds of the edge of a key
-pub edge-at : {P : Edge → Type 0} (ks : List ℕ) → All P (edgesOf ks) → (j : ℕ) → j < length ks → P (edgeOf (getD ks j 0))
-edge-at ks a j h = rw (List·getD-map edgeOf ks j 0) at (at-all (0 — 0) a j (omega (arith, length-map ks edgeOf)))
-
 module _ {h : Head} {ks : List ℕ} (P : InHand h ks) where
   -- the keys lie in the table
   pub keys-lie : h .n - 3 ≤ length ks
@@ -47,4 +40,4 @@ module _ {h : Head} {ks : List ℕ} (P : InHand h ks) where
   keys-count = length-take-le (h .n - 3) ks keys-lie
 
   pub keys-small : Small (take (h .n - 3) ks)
-  keys-small j i = let d = edge-at (take (h .n - 3) ks) (P .valid .triangulated .diagonals) j i in omega (arith, d .forth, d .corner, P .valid .most)
+  keys-small j i = let d = edges-at (take (h .n - 3) ks) (P .valid .triangulated .diagonals) j i in omega (arith, d .forth, d .corner, P .valid .most)

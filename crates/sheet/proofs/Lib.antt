@@ -1,6 +1,5 @@
 pub mod Asks
 pub mod Fields
-pub mod Bytes
 pub mod Normal
 pub mod Valid
 pub mod Accepts

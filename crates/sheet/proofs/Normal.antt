@@ -12,7 +12,7 @@ use Rattle.polygon.specs.Order.{lower-first}
 use Rattle.codec.specs.Numbers.{bytes16}
 use Rattle.sheet.specs.Sheet.{bit0, bit1, bit2, pairs, pairBytes, numberBytes, numberBit, mapByte, more, normalSheet}
 use Rattle.sheet.proofs.Fields.{more-bit}
-use Rattle.sheet.proofs.Bytes.{get16-after, get16-back}
+use Rattle.codec.proofs.Numbers.{get16-after, get16-back}
 
 -- the pairs behind a prefix, and how many they are
 pub pairs-after : (xs ys : List ℕ) (at k : ℕ) → pairs (xs ++ ys) (length xs + at) k ≡ pairs ys at k

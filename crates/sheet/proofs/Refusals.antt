@@ -1,40 +1,16 @@
--- Every answer is a finished result or one refusal, by a number of a list; and the numbers that refuse a sheet.
-use mathlib.Core.Path.{_≡_, refl}
-use mathlib.Core.Logic.{inl, inr}
+-- The numbers that refuse a sheet.
+use mathlib.Core.Path.{_≡_}
 use mathlib.Core.List.{List, [], _∷_, _++_}
-use Prim.Native.Nat.{ℕ, _≤_, _<_}
-use native.Mathlib.Decide.{decLe}
+use Prim.Native.Nat.{ℕ}
 use native.Mathlib.Omega.{arith}
-use lib.ListN.{length}
-use lib.Seq.{take-append-seam, drop-append-seam}
 use Rattle.lists.specs.Lists.{Mem, All, numbers}
-use Rattle.lists.proofs.Lists.{here, there, mem-left, mem-right, all-mem, all-imp}
+use Rattle.lists.proofs.Lists.{here, there, all-mem, all-imp}
 use Rattle.lists.proofs.Places.{numbers-in}
-use Rattle.codec.specs.Answer.{Outcome, refuse, write, Answer, refusal, whole, fit, written}
+use Rattle.codec.specs.Answer.{written}
 use Rattle.sheet.specs.Sheet.{Reading, refused, ask, readSheet, outcome, ordered}
-use Rattle.sheet.specs.Refusals.{sheetTests, RefusedBy, by, holds, Refuses, number, writes, Proper, Finished, Refusal, Settled}
-
--- the two cases of an answer
-pub whole-finished : (bs out : List ℕ) → Finished bs out (whole bs out)
-whole-finished bs out = record { zero = refl; told = refl; result = take-append-seam bs _; beyond = drop-append-seam bs _ }
-
-pub refusal-refuses : {ks : List ℕ} {k : ℕ} (out : List ℕ) → Mem k ks → Proper k → Refusal ks out (refusal k out)
-refusal-refuses out m p = record { published = m; proper = p; nothing = refl; untouched = refl }
-
--- an operation that refuses by ks, with its output looked at: by ks or by 8
-pub settled : {ks : List ℕ} (o : Outcome) (out : List ℕ) → All Proper ks → Refuses ks o → Settled (ks ++ (8 ∷ [])) o out (written o out)
-unfolding written fit
-settled (refuse k) out P (number m) = inr (refusal-refuses out (mem-left (8 ∷ []) m) (all-mem P m))
-settled {ks} (write bs) out P writes = go (decLe (length bs) (length out))
-  where
-    go : (d : Dec (length bs ≤ length out)) → Settled (ks ++ (8 ∷ [])) (write bs) out (fit d bs out)
-    go (yes p) = inl (bs, refl, whole-finished bs out)
-    go (no p) = inr (refusal-refuses out (mem-right ks here) (omega arith, omega arith))
-
--- so its number is one of two bytes
-pub small-number : {ks : List ℕ} {o : Outcome} {out : List ℕ} {a : Answer} → Settled ks o out a → a .number < 65536
-small-number (inl F) = omega (arith, F .2 .zero)
-small-number (inr R) = R .proper .1
+use Rattle.codec.specs.Refusals.{Refuses, number, writes, Proper, Settled}
+use Rattle.codec.proofs.Refusals.{settled}
+use Rattle.sheet.specs.Refusals.{sheetTests, RefusedBy, by, holds}
 
 -- a test by a number of the list, and then tests by numbers of the list
 pub ask-refuses : {ks : List ℕ} {P : Type 0} (k : ℕ) (d : Dec P) {r : Reading} → Mem k ks → RefusedBy ks r → RefusedBy ks (ask k d r)

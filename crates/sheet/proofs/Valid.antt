@@ -11,7 +11,7 @@ use Rattle.polygon.proofs.Sort.{sort-all, sort-length, sort-ascends}
 use Rattle.codec.specs.Numbers.{get16}
 use Rattle.sheet.specs.Sheet.{held, partNumber, readSheet}
 use Rattle.sheet.proofs.Asks.{edgesIn, partIn, Form, held-form}
-use Rattle.sheet.proofs.Bytes.{Byte, get32-below}
+use Rattle.codec.proofs.Numbers.{Byte, get32-below}
 use Rattle.sheet.proofs.Normal.{pairs-count}
 
 -- the pairs of an accepted sheet, in order, triangulate its corners

@@ -1,14 +1,12 @@
 -- The sides, the root edge and the diagonals of a part in one ascending list are the edges of its tree.
 use mathlib.Core.Path.{_≡_, refl, sym, _∙_, ap, subst}
 use mathlib.Core.Logic.{inl, inr}
-use mathlib.Core.List.{List, _∷_, _++_, map, map-append}
+use mathlib.Core.List.{List, _∷_, _++_, map-append}
 use Prim.Native.Nat.{ℕ, suc, _+_, _-_, _<_, _≤_}
 use native.Mathlib.Omega.{arith}
-use native.Mathlib.Decide.{decLt}
-use lib.ListN.{length, getD, length-map, List·getD-map}
-use Rattle.lists.specs.Lists.{Mem, head, tail, All, all-nil, all-cons, sorted-cons, below, choose}
-use Rattle.lists.proofs.Lists.{here, there, mem-left, mem-right, all-append, all-map, all-imp, all-mem, all-self, sorted-append, sorted-map}
-use Rattle.lists.proofs.Places.{numbers-in, below-sorted, below-mem, all-at, at-all}
+use Rattle.lists.specs.Lists.{Mem, All, all-cons, sorted-cons, below}
+use Rattle.lists.proofs.Lists.{here, there, mem-left, mem-right, mem-map, all-append, all-map, all-imp, all-mem, all-self, sorted-append, sorted-map}
+use Rattle.lists.proofs.Places.{numbers-in, below-sorted, below-mem, all-at}
 use Rattle.polygon.specs.Polygon.{Edge, _—_, Ascending, Linked, Triangulated}
 use Rattle.polygon.specs.Order.{Distinct, sort}
 use Rattle.polygon.specs.Tree.{treeOf}
@@ -17,15 +15,11 @@ use Rattle.polygon.proofs.Sort.{sort-is, distinct-of}
 use Rattle.polygon.proofs.TreeTheorem.{TreeIs, tree-of}
 use Rattle.keys.specs.Keys.{edgeOf, edgesOf}
 use Rattle.keys.specs.Sort.{insertKey, sortKeys, merge}
-use Rattle.keys.proofs.Insert.{merge-sorts}
-use Rattle.keys.proofs.InOrder.{edge-of-key, sort-edges, ascends-same, edges-ascend}
+use Rattle.keys.proofs.Insert.{merge-sorts, all-insert}
+use Rattle.keys.proofs.InOrder.{edge-of-key, sort-edges, ascends-same, edges-ascend, edges-at}
 use Rattle.polygon.specs.Edges.{edges}
 use Rattle.polygon.proofs.Edges.{edges-linked, edges-ascending}
 use Rattle.tree.specs.Sides.{side, sides}
-
-mem-map : {A B : Type 0} (f : A → B) {z : A} {l : List A} → Mem z l → Mem (f z) (map f l)
-mem-map f (head e) = head (ap f e)
-mem-map f (tail m) = tail (mem-map f m)
 
 -- the edge of a side's key
 abbrev SideOf : ℕ → Edge → Type 0
@@ -43,19 +37,6 @@ sides-ascend k h =
 -- an ascending list of keys is sorted
 in-order : (ks : List ℕ) → Ascending (edgesOf ks) → ks ≡ sortKeys ks
 in-order ks s = sym (ascends-same ks (edges-ascend ks s))
-
-all-insert : {P : ℕ → Type 0} (x : ℕ) {ys : List ℕ} → P x → All P ys → All P (insertKey x ys)
-unfolding insertKey choose
-all-insert x p all-nil = all-cons p all-nil
-all-insert {P} x {ys = y ∷ ys} p (all-cons q a) = go (decLt x y) (all-insert x p a)
-  where
-    go : (d : Dec (x < y)) → All P (insertKey x ys) → All P (choose d (x ∷ (y ∷ ys)) (y ∷ insertKey x ys))
-    go (yes h) b = all-cons p (all-cons q a)
-    go (no h) b = all-cons q b
-
--- a property of the edge of each key
-pub edge-at : {Q : Edge → Type 0} (ks : List ℕ) → All Q (edgesOf ks) → (i : ℕ) → i < length ks → Q (edgeOf (getD ks i 0))
-edge-at {Q} ks a i h = subst Q (List·getD-map edgeOf ks i 0) (at-all (edgeOf 0) a i (omega (arith, length-map ks edgeOf)))
 
 module _ (n : ℕ) (ks : List ℕ) (P : Triangulated n (edgesOf ks)) (small : n ≤ 1024) where
   -- all keys, and their edges
@@ -95,7 +76,7 @@ module _ (n : ℕ) (ks : List ℕ) (P : Triangulated n (edgesOf ks)) (small : n 
 
   -- the diagonals and the root edge come before a side at the last corner
   pub chords-low : All (λ k. k < side (n - 1)) (insertKey (n - 1) ks)
-  chords-low = all-insert (n - 1) (omega (arith, P .full)) (all-at 0 ks (λ j h. let d = edge-at ks (P .diagonals) j h in omega (arith, d .forth, d .corner)))
+  chords-low = all-insert (n - 1) (omega (arith, P .full)) (all-at 0 ks (λ j h. let d = edges-at ks (P .diagonals) j h in omega (arith, d .forth, d .corner)))
 
   -- the sides merged with them are the edges of the tree
   pub edges-listed : edgesOf (merge (sides (n - 1)) (insertKey (n - 1) ks)) ≡ edges 0 (treeOf n (edgesOf ks))

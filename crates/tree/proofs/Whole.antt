@@ -12,7 +12,7 @@ use Rattle.polygon.proofs.Edges.{edges-in, edges-count}
 use Rattle.polygon.proofs.TreeTheorem.{tree-of}
 use Rattle.keys.specs.Keys.{edgeOf, edgesOf}
 use Rattle.tree.specs.Shows.{edgeAt, Lasts, Whole}
-use Rattle.tree.proofs.Listing.{edge-at}
+use Rattle.keys.proofs.InOrder.{edges-at}
 use Rattle.tree.proofs.ShowsTree.{shows-all}
 
 -- the places before 2,048 are kept: those of the first m edges, and those behind them
@@ -35,7 +35,7 @@ module _ (n : ℕ) (ks : List ℕ) (P : Triangulated n (edgesOf ks)) (small : n 
   -- the keys are of edges of at most 1,024 corners
   pub keyed : (j : ℕ) → j < 2 * n - 3 → getD tr j 0 < 1047552
   keyed j h =
-      let b = edge-at {Q = λ e. (0 ≤ e .0) × (e .0 < e .1) × (e .1 ≤ 0 + span t)} (take (2 * n - 3) tr) (rw E (edges-in 0 t)) j (omega (arith, length-take-le (2 * n - 3) tr (omega arith))) in
+      let b = edges-at {Q = λ e. (0 ≤ e .0) × (e .0 < e .1) × (e .1 ≤ 0 + span t)} (take (2 * n - 3) tr) (rw E (edges-in 0 t)) j (omega (arith, length-take-le (2 * n - 3) tr (omega arith))) in
       omega (arith, b, size, getD-take (2 * n - 3) tr j 0 h)
 
   stands : (i : ℕ) → i < length (edges 0 t) → edgeAt tr i ≡ getD (edges 0 t) i (0 — 0)

@@ -6,7 +6,7 @@ use native.Mathlib.Omega.{arith}
 use lib.ListN.{length}
 use lib.Seq.{length-take-le}
 use Rattle.log_line.proofs.Putting.{put-length}
-use Rattle.chart_text.proofs.Inputs.{begins-itself}
+use Rattle.codec.proofs.Input.{begins-itself}
 use Rattle.unbend.proofs.answer.Statement.{statement}
 use Rattle.unbend.proofs.answer.Tie as tie
 

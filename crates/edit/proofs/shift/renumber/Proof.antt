@@ -3,7 +3,7 @@ use mathlib.Core.Path.{refl, ap, _∙_}
 use Prim.Native.Nat.{_-_}
 use native.Mathlib.Omega.{arith}
 use lib.ListN.{length}
-use Rattle.sheet.proofs.Hand.{edge-at}
+use Rattle.keys.proofs.InOrder.{edges-at}
 use Rattle.edit.specs.Tables.{moved, Movable}
 use Rattle.edit.proofs.Shifting.{Mapping, mapping-next, mapping-end}
 use Rattle.edit.proofs.shift.renumber.Statement.{statement}
@@ -31,7 +31,7 @@ moved-requires : tie.Need-moved-requires Inv-loop μ-loop
 moved-requires c κs =
     let at-test = c .before .before in
     let start = at-test .before .before .before .before in
-    rw (c .low .ensures) (edge-at {P = λ e. Movable (start .args .shift) (e .0) × Movable (start .args .shift) (e .1)} (start .args .keys .now) (start .pre .1) (at-test .before .loop .j) (at-test .loop-test .taken) .0)
+    rw (c .low .ensures) (edges-at {Q = λ e. Movable (start .args .shift) (e .0) × Movable (start .args .shift) (e .1)} (start .args .keys .now) (start .pre .1) (at-test .before .loop .j) (at-test .loop-test .taken) .0)
 
 mul-high : tie.Need-mul-high Inv-loop μ-loop
 mul-high c = omega arith
@@ -46,7 +46,7 @@ moved-requires-2 : tie.Need-moved-requires-2 Inv-loop μ-loop
 moved-requires-2 c κs =
     let at-test = c .before .before .before .before .before in
     let start = at-test .before .before .before .before in
-    rw (c .high .ensures .0) (edge-at {P = λ e. Movable (start .args .shift) (e .0) × Movable (start .args .shift) (e .1)} (start .args .keys .now) (start .pre .1) (at-test .before .loop .j) (at-test .loop-test .taken) .1)
+    rw (c .high .ensures .0) (edges-at {Q = λ e. Movable (start .args .shift) (e .0) × Movable (start .args .shift) (e .1)} (start .args .keys .now) (start .pre .1) (at-test .before .loop .j) (at-test .loop-test .taken) .1)
 
 key-requires : tie.Need-key-requires Inv-loop μ-loop
 key-requires c κs = omega arith
