@@ -7,6 +7,7 @@ ghost use Rattle.keys.specs.Keys.{keyOf, edgesOf};
 ghost use Rattle.sheet.specs.Held.{polygonOf, Small, InHand, Reads};
 ghost use Rattle.edit.specs.Rules.{addEar, removeEar, flip, rule, entering, common};
 ghost use Rattle.edit.specs.Tables.{editOf};
+use crate::near::MARKS;
 use crate::near::first_common;
 use crate::near::high_neighbour;
 use crate::near::is_ear;
@@ -14,6 +15,8 @@ use crate::near::low_neighbour;
 use crate::near::mark;
 use crate::shift::Shift;
 use crate::shift::renumber;
+use keys::CORNERS;
+use keys::DIAGONALS;
 use keys::change::has;
 use keys::change::remove;
 use keys::key;
@@ -48,11 +51,11 @@ fn add_to(h: Head, keys: &mut [u32], side: usize) -> Read
     if side >= n {
         return Read::Refused(9);
     }
-    if n == 1024 {
+    if n == CORNERS {
         return Read::Refused(10);
     }
     let m = n - 3;
-    let mut moved = [0u32; 1021];
+    let mut moved = [0u32; DIAGONALS];
     renumber(&keys[..m], Shift::Up(side, 1), &mut moved);
     let new = [entering_key(n, side)];
     merge(&new, &moved[..m], keys);
@@ -81,7 +84,7 @@ fn remove_from(h: Head, keys: &mut [u32], corner: usize) -> Read
     }
     let a = low_neighbour(n, corner);
     let b = high_neighbour(n, corner);
-    let mut rest = [0u32; 1021];
+    let mut rest = [0u32; DIAGONALS];
     let left = remove(&keys[..m], key(a, b), &mut rest);
     renumber(&rest[..left], Shift::Down(corner, 1), keys);
     Read::Held(Head {
@@ -96,9 +99,9 @@ fn turned_key(keys: &[u32], n: usize, a: usize, b: usize) -> u32
     requires { ⌜ (3 ≤ n) × (n ≤ 1024) × (a < n) × (b < n) × Small (now keys) ⌝ }
     ensures { λ r. ⌜ ((x y : ℕ) → common n (edgesOf (now (keys .entry))) (a — b) ≡ x ∷ (y ∷ []) → r ≡ keyOf (x — y)) ⌝ }
 {
-    let mut near = [0u8; 1025];
+    let mut near = [0u8; MARKS];
     mark(keys, n, a, &mut near);
-    let mut far = [0u8; 1025];
+    let mut far = [0u8; MARKS];
     mark(keys, n, b, &mut far);
     let x = first_common(&near, &far, 0, n);
     if x == n {
@@ -124,7 +127,7 @@ fn turn(h: Head, keys: &mut [u32], a: usize, b: usize) -> Read
         return Read::Refused(13);
     }
     let turned = [turned_key(&keys[..m], n, a, b)];
-    let mut rest = [0u32; 1021];
+    let mut rest = [0u32; DIAGONALS];
     let left = remove(&keys[..m], k, &mut rest);
     merge(&turned, &rest[..left], keys);
     Read::Held(h)

@@ -9,6 +9,7 @@ ghost use Rattle.edit.specs.Tables.{editOf};
 use crate::held::Edit;
 use crate::held::edit_part;
 use codec::Written;
+use keys::DIAGONALS;
 use sheet::Read;
 use sheet::reader::read_sheet;
 use sheet::writer::write_sheet;
@@ -21,7 +22,7 @@ pub mod shift;
 pub fn edit(sheet: &[u8], e: Edit, out: &mut [u8]) -> Written
     ensures { λ r. ⌜ answered r (now (out .exit)) ≡ written (edited (editOf e) (now (sheet .entry))) (now (out .entry)) ⌝ }
 {
-    let mut keys = [0u32; 1021];
+    let mut keys = [0u32; DIAGONALS];
     match read_sheet(sheet, &mut keys) {
         Read::Refused(k) => Written::Refused(k),
         Read::Held(h) => match edit_part(h, &mut keys, e) {

@@ -8,8 +8,12 @@ ghost use Rattle.keys.specs.Keys.{edgeOf, edgesOf};
 ghost use Rattle.sheet.specs.Held.{Small};
 ghost use Rattle.edit.specs.Rules.{neighbours, Away};
 ghost use Rattle.edit.specs.Tables.{Near, Common, OtherEnd};
+use keys::CORNERS;
 use keys::high;
 use keys::low;
+
+// A place for each corner, and one more.
+pub const MARKS: usize = 1025;
 
 // The lower of the two corners to which the sides of k lead.
 pub fn low_neighbour(n: usize, k: usize) -> usize
@@ -68,7 +72,7 @@ fn other_end(k: u32, c: usize) -> usize
     if high(k) == c {
         return low(k);
     }
-    1024
+    CORNERS
 }
 
 // Marks by 1 the corners that a side or a diagonal joins to c. The last place of the table is for the edges that do not end at c.

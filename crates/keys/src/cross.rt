@@ -7,6 +7,8 @@ ghost use lib.ListN.{length, getD};
 ghost use Rattle.polygon.specs.Polygon.{NoneCross};
 ghost use Rattle.keys.specs.Keys.{edgesOf};
 ghost use Rattle.keys.specs.Tops.{Diagonals, Tops, Apexes, Reaches, Fails};
+use crate::CORNERS;
+use crate::DIAGONALS;
 use crate::high;
 use crate::low;
 
@@ -16,7 +18,7 @@ fn begin(top: &mut [u16])
     ensures { λ _. ⌜ ((c : ℕ) → c < 1024 → getD (now (top .exit)) c 0 ≡ suc c) ⌝ }
 {
     let mut c = 0;
-    while c < 1024 {
+    while c < CORNERS {
         top[c] = (c + 1) as u16;
         c += 1;
     }
@@ -64,8 +66,8 @@ pub fn crosses(keys: &[u32], n: usize) -> bool
     ensures { λ r. ⌜ (r ≡ false → NoneCross (edgesOf (now (keys .entry)))) ⌝ }
     ensures { λ r. ⌜ (r ≡ true → NoneCross (edgesOf (now (keys .entry))) → ⊥) ⌝ }
 {
-    let mut top = [0u16; 1024];
-    let mut apex = [0u16; 1021];
+    let mut top = [0u16; CORNERS];
+    let mut apex = [0u16; DIAGONALS];
     apexes(keys, n, &mut top, &mut apex);
     !reaches(keys, &top, &apex)
 }

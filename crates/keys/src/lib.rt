@@ -10,12 +10,19 @@ pub mod cross;
 pub mod merge;
 pub mod sort;
 
+// How many corners a part has at most, how many diagonals, and how many edges: sides and diagonals.
+pub const CORNERS: usize = 1024;
+
+pub const DIAGONALS: usize = 1021;
+
+pub const EDGES: usize = 2045;
+
 // The key of the edge (a,b).
 pub fn key(a: usize, b: usize) -> u32
     requires { ⌜ (a < 1024) × (b < 1024) ⌝ }
     ensures { λ r. ⌜ r ≡ keyOf (a — b) ⌝ }
 {
-    (a * 1024 + b) as u32
+    (a * CORNERS + b) as u32
 }
 
 // The lower corner of a key's edge.

@@ -6,6 +6,7 @@ ghost use Rattle.sheet.specs.Sheet.{ordered};
 use crate::reader::read_sheet;
 use crate::writer::write_sheet;
 use codec::Written;
+use keys::DIAGONALS;
 
 pub mod reader;
 pub mod writer;
@@ -27,7 +28,7 @@ pub enum Read {
 pub fn normalize(sheet: &[u8], out: &mut [u8]) -> Written
     ensures { λ r. ⌜ answered r (now (out .exit)) ≡ written (ordered (now (sheet .entry))) (now (out .entry)) ⌝ }
 {
-    let mut keys = [0u32; 1021];
+    let mut keys = [0u32; DIAGONALS];
     match read_sheet(sheet, &mut keys) {
         Read::Refused(k) => Written::Refused(k),
         Read::Held(h) => write_sheet(h, &keys, out),

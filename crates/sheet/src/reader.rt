@@ -12,6 +12,7 @@ use crate::Head;
 use crate::Read;
 use codec::get16;
 use codec::get32;
+use keys::CORNERS;
 use keys::cross::crosses;
 use keys::key;
 use keys::sort::order;
@@ -58,7 +59,7 @@ fn read_head(sheet: &[u8]) -> Read
     if n < 3 {
         return Read::Refused(3);
     }
-    if n > 1024 {
+    if n > CORNERS {
         return Read::Refused(3);
     }
     if !agrees(map, n) {
