@@ -87,4 +87,4 @@ pub record SameChart (s t : List ℕ) (p q : Polygon) (cs ds : List Call) : Type
   -- Draw with it
   pub equal-bars : SamePart (partLeft p cs) (partLeft q ds) → (out out' : List ℕ) (bars bars' : List Bar)
       → let a = drawnWithBars (sheetLeft s cs) out bars in let b = drawnWithBars (sheetLeft t ds) out' bars' in
-      a .answer .number ≡ 0 → b .answer .number ≡ 0 → SameBytes (a .answer) (b .answer) × (take (partLeft p cs .n) (a .bars) ≡ take (partLeft q ds .n) (b .bars))
+      a .answer .number ≡ 0 → b .answer .number ≡ 0 → SameBytes (a .answer) (b .answer) × (take (partLeft p cs .n) (a .second) ≡ take (partLeft q ds .n) (b .second))

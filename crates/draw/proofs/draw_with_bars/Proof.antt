@@ -45,16 +45,17 @@ use denote.Triple.Table.{entered, cited}
 use denote.Triple.Walked.{says, Stays, stay-none-slice, stay-slice, gave-slice, walkOf, goes-none-slice, goes-slice, goes-gave-slice, Walks, ends-at, walked, walk-meets}
 use denote.Exit.{yes}
 use Rattle.bar_list.specs.declared.Bar.{Bar}
-use Rattle.draw.specs.declared.Drawn.{Drawn}
-use Rattle.draw.specs.declared.Drawn.the-variants.{Chart, Refused}
+use Rattle.codec.specs.declared.BothWritten.{BothWritten}
+use Rattle.codec.specs.declared.BothWritten.the-variants.{Lengths, Refused}
+use Rattle.codec.specs.TwoOutputs.{answeredBoth}
 use Rattle.bar_list.specs.Bars.{filled}
 use Rattle.bar_list.specs.OfChart.{barOf}
 use Rattle.draw.specs.Answer.{drawnWithBars}
-use Rattle.draw.specs.WithBars.{drawing, filledBy, Fits}
+use Rattle.draw.specs.WithBars.{filledBy, BarsFit}
 use Rattle.bar_list.proofs.Filled.{filled-len}
 use Rattle.bar_list.proofs.Bar as T
-use Rattle.draw.proofs.Drawn as D
-use Rattle.draw.proofs.Drawn.Laws as D′
+use Rattle.codec.proofs.BothWritten as D
+use Rattle.codec.proofs.BothWritten.Laws as D′
 use Rattle.draw.proofs.draw_for as draw-for
 use Rattle.draw.proofs.draw_for.Symbol as draw-for-def
 use Rattle.draw.proofs.draw_for.Symbol.{name as #draw·draw-for}
@@ -111,12 +112,12 @@ abbrev BarRef : Ty
 BarRef = tyRef erased mut (pointee (T.the-row .written))
 
 -- an answer's machine value
-abbrev val : Drawn → Val
+abbrev val : BothWritten → Val
 val = EL.val D.the-type D′.the-laws
 
 -- the bars are as many as they were, after either answer
-after-len : (d : Drawn) (s : List ℕ) (ys : List Bar) (m : ℕ) → Fits d (length ys) m → length (filledBy d s ys) ≡ length ys
-after-len (Chart k n) s ys m f = filled-len s n ys (f .0)
+after-len : (d : BothWritten) (s : List ℕ) (ys : List Bar) (m : ℕ) → BarsFit d (length ys) m → length (filledBy d s ys) ≡ length ys
+after-len (Lengths k n) s ys m f = filled-len s n ys (f .0)
 after-len (Refused k) s ys m f = refl
 
 module _ {M : Type 1} (𝓤 : URA M) (H : Heap 𝓤) (A : Atoms 𝓤) (W : Given 𝓤 H A) (mem : Memory → SProp 𝓤) (run : Routine → Fun 𝓤) (κ₀ κ₁ κ₂ : Lft) (bounds : AllOutlive 3 (draw-with-bars.signature .outlives) (κ₀, (κ₁, (κ₂, tt)))) (q₀ q₁ q₂ : Share)
@@ -163,20 +164,20 @@ module _ {M : Type 1} (𝓤 : URA M) (H : Heap 𝓤) (A : Atoms 𝓤) (W : Given
   abbrev BarsOwn : Fml
   BarsOwn = MutSlice (named 2) κ₂ T.the-row .own x (s ∷ [])
 
-  typed : (d : Drawn) (w : Val) → Is D.the-row d (w ∷ []) → Holds (hasTy D′.mir w) × WT w
+  typed : (d : BothWritten) (w : Val) → Is D.the-row d (w ∷ []) → Holds (hasTy D′.mir w) × WT w
   typed d w is = EL.lawful D.the-type D′.the-laws 𝓤 H A W tt .typed d _ is .0
 
   -- what `draw_for` says of the answer d and of out's list zs, and what is known of them after the call
-  abbrev Answers : Drawn → List ℕ → Type 0
-  Answers d zs = (bars : List Bar) → length bars ≡ length ys → drawing d zs (filledBy d zs bars) ≡ drawnWithBars (c .now) outs (map barOf bars)
+  abbrev Answers : BothWritten → List ℕ → Type 0
+  Answers d zs = (bars : List Bar) → length bars ≡ length ys → answeredBoth d zs (map barOf (filledBy d zs bars)) ≡ drawnWithBars (c .now) outs (map barOf bars)
 
-  abbrev Known : Drawn → List ℕ → Type 0
-  Known d zs = Answers d zs × Fits d (length ys) (length outs) × (length zs ≡ length outs) × Is D.the-row d (val d ∷ [])
+  abbrev Known : BothWritten → List ℕ → Type 0
+  Known d zs = Answers d zs × BarsFit d (length ys) (length outs) × (length zs ≡ length outs) × Is D.the-row d (val d ∷ [])
 
-  abbrev After : Drawn → List ℕ → List Bar → List (Item 𝓤) → List (Item 𝓤)
+  abbrev After : BothWritten → List ℕ → List Bar → List (Item 𝓤) → List (Item 𝓤)
   After d zs l Γ = ‵ (D.the-row .own d (val d ∷ [])) ∷ ‵ (flft κ₀ q₀) ∷ ‵ (flft κ₁ q₁) ∷ ‵ (flft κ₂ q₂) ∷ ‵ (OutOwn κ₁ γₒ zs os) ∷ ‵ (finally T.the-row γ l) ∷ ‵ SheetOwn ∷ Γ
 
-  exits : (d : Drawn) (zs : List ℕ) → Known d zs → ent 𝓤 (⋆ 𝓤 H A (After d zs (filledBy d zs ys) [])) (Post (val d))
+  exits : (d : BothWritten) (zs : List ℕ) → Known d zs → ent 𝓤 (⋆ 𝓤 H A (After d zs (filledBy d zs ys) [])) (Post (val d))
   exits d zs k =
       qed W (After d zs (filledBy d zs ys) []) ∵
       suffices ! _ (ends-at 𝓤 H A draw-with-bars.ended stayed (draw-with-bars.clauses 𝓤 H A mem run) W (((κ₀, (κ₁, (κ₂, tt))), (q₀, (q₁, (q₂, tt))), bounds, a, vals), tt) (val d) d (tt, (zs, (filledBy d zs ys, tt))) (tt, (k .2, (after-len d zs ys (length outs) (k .1), tt)))) $ says ! (k .0 ys refl) $
@@ -207,13 +208,13 @@ module _ {M : Type 1} (𝓤 : URA M) (H : Heap 𝓤) (A : Atoms 𝓤) (W : Given
       E = (D′.mir, l₀) ∷ (Sheet, l₁) ∷ (Out, l₂) ∷ (Bars, l₃) ∷ (word, l₄) ∷ (D′.mir, l₅) ∷ (word, l₆) ∷ (ByteRef, l₇) ∷ (sliceTy ByteRef, l₈) ∷ (tyUnit, l₉) ∷ (ByteShr, l₁₀) ∷ (sliceTy ByteShr, l₁₁) ∷ (BarRef, l₁₂) ∷ (sliceTy BarRef, l₁₃) ∷ []
 
       -- the locals, in their order, once the answer d has landed; and that each dies
-      abbrev Locals : Drawn → List (Item 𝓤)
+      abbrev Locals : BothWritten → List (Item 𝓤)
       Locals d = ‵ (froom D′.mir l₀ 0) ∷ ‵ (fat fullShare Sheet l₁ 0 cs) ∷ ‵ (fat fullShare Out l₂ 0 os) ∷ ‵ (fat fullShare Bars l₃ 0 s) ∷ ‵ (fat fullShare word l₄ 0 (vint w64 (length ys))) ∷ ‵ (fat fullShare D′.mir l₅ 0 (val d))
           ∷ ‵ (froom word l₆ 0) ∷ ‵ (froom ByteRef l₇ 0) ∷ ‵ (froom (sliceTy ByteRef) l₈ 0) ∷ ‵ (froom tyUnit l₉ 0) ∷ ‵ (froom ByteShr l₁₀ 0) ∷ ‵ (froom (sliceTy ByteShr) l₁₁ 0) ∷ ‵ (froom BarRef l₁₂ 0) ∷ ‵ (froom (sliceTy BarRef) l₁₃ 0)
           ∷ ‵ (fdies D′.mir l₀) ∷ ‵ (fdies Sheet l₁) ∷ ‵ (fdies Out l₂) ∷ ‵ (fdies Bars l₃) ∷ ‵ (fdies word l₄) ∷ ‵ (fdies D′.mir l₅) ∷ ‵ (fdies word l₆) ∷ ‵ (fdies ByteRef l₇) ∷ ‵ (fdies (sliceTy ByteRef) l₈) ∷ ‵ (fdies tyUnit l₉) ∷ ‵ (fdies ByteShr l₁₀) ∷ ‵ (fdies (sliceTy ByteShr) l₁₁) ∷ ‵ (fdies BarRef l₁₂) ∷ ‵ (fdies (sliceTy BarRef) l₁₃) ∷ []
 
       -- before the match: the bars are still owned
-      abbrev Before : Drawn → List ℕ → List (Item 𝓤)
+      abbrev Before : BothWritten → List ℕ → List (Item 𝓤)
       Before d zs = ‵ (D.the-row .own d (val d ∷ [])) ∷ ‵ (flft κ₀ q₀) ∷ ‵ (flft κ₁ q₁) ∷ ‵ (flft κ₂ q₂) ∷ ‵ (OutOwn κ₁ γₒ zs os) ∷ ‵ BarsOwn ∷ ‵ SheetOwn ∷ Locals d
 
       -- what is to hold where an arm ends
@@ -221,7 +222,7 @@ module _ {M : Type 1} (𝓤 : URA M) (H : Heap 𝓤) (A : Atoms 𝓤) (W : Given
       Then = anyQ (afterSeq 𝓤 H (Wp 𝓤 H C Λ E parts.t-6 (atReturn 𝓤 H E Post)) (atReturn 𝓤 H E Post))
 
       -- what follows the match: the answer is copied into the result, which is returned, and the locals are freed
-      leaves : (d : Drawn) (zs : List ℕ) → Known d zs → Sq W (After d zs (filledBy d zs ys) (Locals d)) (runs C Λ E parts.t-6 (atRet E Post))
+      leaves : (d : BothWritten) (zs : List ℕ) → Known d zs → Sq W (After d zs (filledBy d zs ys) (Locals d)) (runs C Λ E parts.t-6 (atRet E Post))
       leaves d zs k =
           assigns ! (of-opd ! (load ! (from ! (stop !)) (look ! 12 refl))) (from ! (stop !)) (init ! 7 refl (typed d (val d) (k .3))) $
           returns ! (look ! 7 refl) $ forget ! 7 refl $ forget ! 8 refl $ forget ! 9 refl $ forget ! 10 refl $ forget ! 11 refl $ forget ! 12 refl $
@@ -229,7 +230,7 @@ module _ {M : Type 1} (𝓤 : URA M) (H : Heap 𝓤) (A : Atoms 𝓤) (W : Given
           move ! (7 ∷ 14 ∷ []) $ free1 ! $ move ! (7 ∷ 13 ∷ []) $ free1 ! $ move ! (7 ∷ 12 ∷ []) $ free1 ! $ move ! (7 ∷ 11 ∷ []) $ free1 ! $ move ! (7 ∷ 10 ∷ []) $ free1 ! $ move ! (7 ∷ 9 ∷ []) $ free1 ! $ move ! (7 ∷ 8 ∷ []) $ free1 ! $ free0 ! $ by ! (exits d zs k)
 
       -- the match, by cases on the answer: the tag is then a numeral
-      matched : (d : Drawn) (zs : List ℕ) → Known d zs → Sq W (Before d zs) (runs C Λ E parts.s-5 Then)
+      matched : (d : BothWritten) (zs : List ℕ) → Known d zs → Sq W (Before d zs) (runs C Λ E parts.s-5 Then)
       matched (Refused r) zs k =
           switches ! (load ! (from ! (vrt ! refl (fld ! refl (stop !)))) (look-tag ! 12 (whole !))) (
             (λ e. absurd (one-not-zero e)),
@@ -243,7 +244,7 @@ module _ {M : Type 1} (𝓤 : URA M) (H : Heap 𝓤) (A : Atoms 𝓤) (W : Given
               (λ n. absurd (n .1 refl)),
             ),
           )
-      matched (Chart m n) zs k =
+      matched (Lengths m n) zs k =
           switches ! (load ! (from ! (vrt ! refl (fld ! refl (stop !)))) (look-tag ! 12 (whole !))) (
             (λ _.
                 assigns ! (of-opd ! (load ! (from ! (vrt ! refl (fld ! refl (stop !)))) (look-in ! 12 (in-variant ! 0 1 refl refl (whole !))))) (from ! (stop !)) (init ! 13 refl (tt, record { fits = n-fits })) $
@@ -274,7 +275,7 @@ module _ {M : Type 1} (𝓤 : URA M) (H : Heap 𝓤) (A : Atoms 𝓤) (W : Given
                 -- [out; κ₁'s token; κ₂'s, and true; the bars' last list; true; the answer; κ₀'s token; sheet; the locals; …]
                 move ! (2 ∷ []) $ split ! $ move ! (1 ∷ []) $ drop ! $ move ! (4 ∷ []) $ drop ! $
                 -- [κ₂'s token; out; κ₁'s token; the bars' last list; the answer; κ₀'s token; sheet; the locals; …]
-                move ! (4 ∷ 5 ∷ 2 ∷ 0 ∷ 1 ∷ 3 ∷ 6 ∷ []) $ leaves (Chart m n) zs k)))))))),
+                move ! (4 ∷ 5 ∷ 2 ∷ 0 ∷ 1 ∷ 3 ∷ 6 ∷ []) $ leaves (Lengths m n) zs k)))))))),
             ((λ e. absurd (zero-not-one e)), (λ m. absurd (m .0 .1 refl))),
           )
         where
@@ -301,11 +302,11 @@ module _ {M : Type 1} (𝓤 : URA M) (H : Heap 𝓤) (A : Atoms 𝓤) (W : Given
         move ! (7 ∷ 0 ∷ []) $ join ! $ move ! (4 ∷ 2 ∷ 0 ∷ []) $ use3 W (raw (DrawFor 𝓤 H A mem run .pre (to-draw ν δ))) (goes-draw ν δ) $
         -- [the call's pre; what is kept of out; κ₂'s token, and true; bars; true; sheet; _13; …]
         calls-at ! fm (DrawFor 𝓤 H A mem run) known-draw (to-draw ν δ) (and-then ! (load ! (from ! (stop !)) (look ! 30 refl)) (and-then ! (load ! (from ! (stop !)) (look ! 16 refl)) (and-then ! (load ! (from ! (stop !)) (look ! 24 refl)) (no-more !)))) (λ w.
-        use1 W (later (some (λ (r : Drawn). ((‵ (flft κ₀ q₀) ⊛ ‵ (flft (ν ∷ []) fullShare) ⊛ ‵ ftrue) ⊛ ‵ (D.the-row .own r (w ∷ []))) ⊛ raw (ensured 𝓤 H A draw-for.ended (draw-for.clauses 𝓤 H A mem run) (κ₀, (ν ∷ [], tt)) (c, (y δ outs, (length ys, tt))) tt r)))) (id⊢ 𝓤 _) $ await ! tt $ pick ! (λ d.
+        use1 W (later (some (λ (r : BothWritten). ((‵ (flft κ₀ q₀) ⊛ ‵ (flft (ν ∷ []) fullShare) ⊛ ‵ ftrue) ⊛ ‵ (D.the-row .own r (w ∷ []))) ⊛ raw (ensured 𝓤 H A draw-for.ended (draw-for.clauses 𝓤 H A mem run) (κ₀, (ν ∷ [], tt)) (c, (y δ outs, (length ys, tt))) tt r)))) (id⊢ 𝓤 _) $ await ! tt $ pick ! (λ d.
         -- what `draw_for` ensures, at some last list of out: two clauses, under ∗
         split ! $ move ! (1 ∷ []) $ use1 W (some (λ (ws : Unit {0} × (List ℕ × (Unit {0} × Unit {0}))). ‵ (lasts draw-for.ended (κ₀, (ν ∷ [], tt)) (c, (y δ outs, (length ys, tt))) ws)
-        ⊛ raw (fact 𝓤 (Answers d (ws .1 .0))) ⊛ raw (fact 𝓤 (Fits d (length ys) (length outs))))) (id⊢ 𝓤 _) $ pick ! (λ ws.
-        split ! $ move ! (1 ∷ []) $ split ! $ heard ! (Answers d (ws .1 .0)) (λ e₀. heard ! (Fits d (length ys) (length outs)) (λ e₁.
+        ⊛ raw (fact 𝓤 (Answers d (ws .1 .0))) ⊛ raw (fact 𝓤 (BarsFit d (length ys) (length outs))))) (id⊢ 𝓤 _) $ pick ! (λ ws.
+        split ! $ move ! (1 ∷ []) $ split ! $ heard ! (Answers d (ws .1 .0)) (λ e₀. heard ! (BarsFit d (length ys) (length outs)) (λ e₁.
         fsplit ! $ drop ! $ fsplit ! $ fsplit ! $ move ! (1 ∷ []) $ feqL ! (λ l.
         -- [out's last list; true; the tokens and the answer; what is kept of out; κ₂'s; bars; true; sheet; _13; …]
         move ! (2 ∷ []) $ split ! $ move ! (1 ∷ []) $ peeks ! D.the-row (Is D.the-row) (shows 𝓤 H A D.the-row) d (w ∷ []) (λ is.
