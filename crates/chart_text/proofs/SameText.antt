@@ -17,7 +17,7 @@ use Rattle.sheet.specs.Sheet.{held}
 use Rattle.sheet.proofs.Bytes.{Byte, byte-at}
 use Rattle.chart.specs.Chart.{Chart}
 use Rattle.chart.specs.Bytes.{StrokeFits, Fits}
-use Rattle.log_line.proofs.Reading.{Small, line-told}
+use Rattle.log_line.proofs.Reading.{SmallFacts, line-told}
 use Rattle.chart_reader.specs.Decode.{shaped, edgeAt, strokeAt, strokePlaces, chartIn}
 use Rattle.chart_reader.proofs.Same.{Same}
 use Rattle.chart_reader.proofs.Accepts.{Held}
@@ -25,7 +25,7 @@ use Rattle.chart_text.specs.Text.{chartFacts, cornerLines, strokeLines, 
 use Rattle.chart_text.proofs.Told.{Readable, lines-tell}
 
 -- the numbers of the first line are small
-facts-small : (c : Chart) (p : Polygon) → Fits c → Valid p → Small (chartFacts c p)
+facts-small : (c : Chart) (p : Polygon) → Fits c → Valid p → SmallFacts (chartFacts c p)
 facts-small c p F v =
     let b = umbrellas-bound (planOf p) in
     let T = tree-of (p .n) (p .ds) (v .triangulated) in

@@ -11,7 +11,7 @@ use Rattle.codec.specs.Answer.{Outcome, refuse, write, Answer, fit, written}
 use Rattle.edit.specs.Rules.{Edit}
 use Rattle.edit.specs.Calls.{edited, called, sheetAfter}
 use Rattle.edit_list.specs.Desk.{placed, Desk, deskOf, current, other, buffer, answerOf, answeredDesk, deskStep}
-use Rattle.edit_list.specs.Steps.{Lies, Spacious}
+use Rattle.edit_list.specs.Steps.{SheetLies, Spacious}
 
 -- an answer is no longer than the output, and keeps the output's length
 pub written-within : (o : Outcome) (out : List ℕ) → (written o out .size ≤ length out) × (length (written o out .bytes) ≡ length out)
@@ -68,11 +68,11 @@ module _ (place size room : ℕ) (front back : List ℕ) (a : Answer) (S : Spaci
       go (suc zero) = length-refilled back (S .1)
       go (suc (suc k)) = refl
 
-  lies-still : Lies (deskOf place size front back) → Lies (answeredDesk (deskOf place size front back) room a)
+  lies-still : SheetLies (deskOf place size front back) → SheetLies (answeredDesk (deskOf place size front back) room a)
   unfolding answeredDesk choose
   lies-still l = go (ℕ-discrete (a .number) 0)
     where
-      go : (n : Dec (a .number ≡ 0)) → Lies (deskOf (choose n (other place) place) (choose n (a .size) size) (answeredDesk (deskOf place size front back) room a .front) (answeredDesk (deskOf place size front back) room a .back))
+      go : (n : Dec (a .number ≡ 0)) → SheetLies (deskOf (choose n (other place) place) (choose n (a .size) size) (answeredDesk (deskOf place size front back) room a .front) (answeredDesk (deskOf place size front back) room a .back))
       go (yes p) q = (omega (arith, front-kept, W .size-within, S .0), omega (arith, back-kept, W .size-within, S .1))
       go (no p) q = (omega (arith, front-kept, l q .0), omega (arith, back-kept, l q .1))
 
@@ -94,7 +94,7 @@ module _ (place size room : ℕ) (front back : List ℕ) (a : Answer) (S : Spaci
 pub record Sound (front back : ℕ) (d : Desk) : Type 0 where
   pub front-length : length (d .front) ≡ front
   pub back-length : length (d .back) ≡ back
-  pub lies : Lies d
+  pub lies : SheetLies d
 
 module _ (first : List ℕ) {front back : ℕ} (d : Desk) (x : Edit × ℕ) (D : Sound front back d) (S : (x .1 ≤ front) × (x .1 ≤ back)) where
   pub spacious : Spacious (x .1) d

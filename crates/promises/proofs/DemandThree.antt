@@ -1,5 +1,5 @@
 -- Demand 3 is proved: the list theorem of the crate edit, with the plan's and the chart's theorems on the part that the list leaves.
-use mathlib.Core.Path.{_≡_, refl, ap, sym, _∙_}
+use mathlib.Core.Path.{_≡_, ap, sym, _∙_}
 use mathlib.Core.List.{List}
 use Prim.Native.Nat.{ℕ, _<_}
 use lib.ListN.{length, take}

@@ -19,7 +19,7 @@ use Rattle.edit_list.specs.Script.{scriptOf}
 use Rattle.edit_list.specs.Desk.{begin, numbersOf}
 use Rattle.edit_list.specs.Result.{Result, finished, resultOf}
 use Rattle.umbrella.specs.Best.{planOf}
-use Rattle.plan.specs.Answer.{Answer, countsOf, planned}
+use Rattle.plan.specs.Answer.{PlanAnswer, countsOf, planned}
 use Rattle.chart.specs.Chart.{Bar, Chart, barsOf, chartOf}
 use Rattle.chart.specs.Bytes.{bytesOf}
 use Rattle.chart_reader.specs.Reader.{chartRead}
@@ -30,11 +30,11 @@ abbrev pub Answers : List ℕ → Outcome → Type 0
 Answers ks o = (out : List ℕ) → Settled ks o out (written o out)
 
 -- Plan, which writes nothing
-pub record PlanFinished (p : Polygon) (a : Answer) : Type 0 where
+pub record PlanFinished (p : Polygon) (a : PlanAnswer) : Type 0 where
   pub zero : a .number ≡ 0
   pub counts : a ≡ countsOf (planOf p)
 
-pub record PlanRefusal (ks : List ℕ) (a : Answer) : Type 0 where
+pub record PlanRefusal (ks : List ℕ) (a : PlanAnswer) : Type 0 where
   pub published : Mem (a .number) ks
   pub proper : Proper (a .number)
   pub no-levels : a .levels ≡ 0

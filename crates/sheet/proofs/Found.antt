@@ -21,16 +21,16 @@ use Rattle.sheet.specs.declared.Head.{Head}
 use Rattle.sheet.specs.declared.Read.{Read}
 use Rattle.sheet.specs.declared.Read.the-variants.{Refused, Held}
 use Rattle.sheet.specs.Sheet.{refused, held, readSheet, pairs}
-use Rattle.sheet.specs.Held.{polygonOf, HeadOf, Says, Reads, gives}
+use Rattle.sheet.specs.Held.{polygonOf, HeadOf, HeadSays, Reads, gives}
 use Rattle.sheet.proofs.Asks.{refused-5, refused-6, refused-7, accepted, edgesIn, partIn}
 use Rattle.sheet.proofs.Fields.{length-is}
 use Rattle.sheet.proofs.Valid.{read-triangulated}
 
 -- the two cases of a head
-pub says-refused : (s : List ℕ) (r : Read) (k : ℕ) → Says s r → r ≡ Refused k → readSheet s ≡ refused k
+pub says-refused : (s : List ℕ) (r : Read) (k : ℕ) → HeadSays s r → r ≡ Refused k → readSheet s ≡ refused k
 says-refused s r k h e = rw e at h
 
-pub says-held : (s : List ℕ) (r : Read) (h : Head) → Says s r → r ≡ Held h → HeadOf s h
+pub says-held : (s : List ℕ) (r : Read) (h : Head) → HeadSays s r → r ≡ Held h → HeadOf s h
 says-held s r h S e = rw e at S
 
 none-cross-sub : (xs ys : List Edge) → Sub xs ys → NoneCross ys → NoneCross xs

@@ -1,16 +1,15 @@
 -- Every answer is a finished result or one refusal, by a number of a list; and the numbers that refuse a sheet.
-use mathlib.Core.Path.{_≡_, refl}
+use mathlib.Core.Path.{refl}
 use mathlib.Core.Logic.{inl, inr}
 use mathlib.Core.List.{List, [], _∷_, _++_}
-use Prim.Native.Nat.{ℕ, _≤_, _<_}
-use native.Mathlib.Decide.{decLe}
+use Prim.Native.Nat.{ℕ, _<_}
 use native.Mathlib.Omega.{arith}
-use lib.ListN.{length}
 use lib.Seq.{take-append-seam, drop-append-seam}
 use Rattle.polygon.specs.Lists.{Mem, All, numbers}
 use Rattle.polygon.proofs.Lists.{here, there, mem-left, mem-right, all-mem, all-imp, numbers-in}
-use Rattle.codec.specs.Answer.{Outcome, refuse, write, Answer, refusal, whole, fit, written}
-use Rattle.sheet.specs.Sheet.{Reading, refused, ask, readSheet, outcome, ordered}
+use Rattle.codec.specs.Answer.{Outcome, refuse, write, Answer, refusal, whole, written}
+use Rattle.codec.proofs.Answers.{written-is}
+use Rattle.sheet.specs.Sheet.{Reading, ask, readSheet, outcome, ordered}
 use Rattle.sheet.specs.Refusals.{sheetTests, RefusedBy, by, holds, Refuses, number, writes, Proper, Finished, Refusal, Settled}
 
 -- the two cases of an answer
@@ -22,13 +21,13 @@ refusal-refuses out m p = record { published = m; proper = p; nothing = refl; un
 
 -- an operation that refuses by ks, with its output looked at: by ks or by 8
 pub settled : {ks : List ℕ} (o : Outcome) (out : List ℕ) → All Proper ks → Refuses ks o → Settled (ks ++ (8 ∷ [])) o out (written o out)
-unfolding written fit
+unfolding written
 settled (refuse k) out P (number m) = inr (refusal-refuses out (mem-left (8 ∷ []) m) (all-mem P m))
-settled {ks} (write bs) out P writes = go (decLe (length bs) (length out))
-  where
-    go : (d : Dec (length bs ≤ length out)) → Settled (ks ++ (8 ∷ [])) (write bs) out (fit d bs out)
-    go (yes p) = inl (bs, refl, whole-finished bs out)
-    go (no p) = inr (refusal-refuses out (mem-right ks here) (omega arith, omega arith))
+settled {ks} (write bs) out P writes =
+    elim (written-is bs out) [
+      | inl w ↦ inl (bs, refl, rw (w .1) (whole-finished bs out))
+      | inr w ↦ inr (rw (w .1) (refusal-refuses out (mem-right ks here) (omega arith, omega arith)))
+    ]
 
 -- so its number is one of two bytes
 pub small-number : {ks : List ℕ} {o : Outcome} {out : List ℕ} {a : Answer} → Settled ks o out a → a .number < 65536
@@ -62,10 +61,3 @@ tests-proper = all-imp (λ k h. (omega arith, omega arith)) (numbers-in 7 1)
 pub ordered-settled : (s out : List ℕ) → Settled (sheetTests ++ (8 ∷ [])) (ordered s) out (written (ordered s) out)
 unfolding ordered
 ordered-settled s out = settled _ out tests-proper (outcome-refuses (read-refuses s))
-
--- so the number of a refusal is not 0
-pub refused-proper : (s : List ℕ) (k : ℕ) → readSheet s ≡ refused k → Proper k
-refused-proper s k e = go (rw e at (read-refuses s))
-  where
-    go : {j : ℕ} → RefusedBy sheetTests (refused j) → Proper j
-    go (by m) = all-mem tests-proper m
