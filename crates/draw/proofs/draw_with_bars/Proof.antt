@@ -164,7 +164,8 @@ module _ {M : Type 1} (𝓤 : URA M) (H : Heap 𝓤) (A : Atoms 𝓤) (W : Given
   exits : (d : BothWritten) (zs : List ℕ) → Known d zs → ent 𝓤 (⋆ 𝓤 H A (After d zs (filledBy d zs ys) [])) (Post (val d))
   exits d zs k =
       qed W (After d zs (filledBy d zs ys) []) ∵
-      suffices ! _ (ends-at 𝓤 H A draw-with-bars.ended stayed (draw-with-bars.clauses 𝓤 H A mem run) W (((κ₀, (κ₁, (κ₂, tt))), (q₀, (q₁, (q₂, tt))), bounds, a, vals), tt) (val d) d (tt, (zs, (filledBy d zs ys, tt))) (tt, (k .2, (after-len d zs ys (length outs) (k .1), tt)))) $ says ! (k .0 ys refl) $
+      suffices ! _ (ends-at 𝓤 H A draw-with-bars.ended stayed (draw-with-bars.clauses 𝓤 H A mem run) W
+      (((κ₀, (κ₁, (κ₂, tt))), (q₀, (q₁, (q₂, tt))), bounds, a, vals), tt) (val d) d (tt, (zs, (filledBy d zs ys, tt))) (tt, (k .2, (after-len d zs ys (length outs) (k .1), tt)))) $ says ! (k .0 ys refl) $
       nothing ! $ move ! (4 ∷ 0 ∷ []) $ join ! $ move ! (3 ∷ 0 ∷ []) $ join ! $ move ! (2 ∷ 0 ∷ []) $ join ! $ frame ! $
       -- [the result; out; the bars' last list; what the sheet owns]
       nothing ! $ move ! (3 ∷ 0 ∷ []) $ fjoin ! $ move ! (2 ∷ 0 ∷ []) $ fjoin ! $ move ! (2 ∷ 0 ∷ []) $ fjoin ! $ frame ! $ done !
@@ -249,7 +250,8 @@ module _ {M : Type 1} (𝓤 : URA M) (H : Heap 𝓤) (A : Atoms 𝓤) (W : Given
                 move ! (0 ∷ 6 ∷ []) $ join ! $ move ! (2 ∷ 5 ∷ 0 ∷ []) $ use3 W (raw (FillBars 𝓤 H A mem run .pre (to-fill ν δ zs n))) (goes-fill ν δ zs n n-fits enough) $
                 -- [the call's pre; what is kept of out; the answer; κ₀'s token; sheet; the locals; …]
                 calls-at-last ! fm (FillBars 𝓤 H A mem run) known-fill (to-fill ν δ zs n) (and-then ! (load ! (from ! (stop !)) (look ! 16 refl)) (and-then ! (load ! (from ! (stop !)) (look ! 11 refl)) (and-then ! (load ! (from ! (stop !)) (look ! 18 refl)) (no-more !)))) (λ u.
-                use1 W (later (some (λ (r : Unit {0}). ((‵ (flft (ν ∷ []) fullShare) ⊛ ‵ (flft κ₂ q₂) ⊛ ‵ ftrue) ⊛ ‵ (unit .own r (u ∷ []))) ⊛ raw (ensured 𝓤 H A fill-bars.ended (fill-bars.clauses 𝓤 H A mem run) (ν ∷ [], (κ₂, tt)) (y δ zs, (n, (x, tt))) tt r)))) (id⊢ 𝓤 _) $ await ! tt $ pick ! (λ r.
+                use1 W (later (some (λ (r : Unit {0}). ((‵ (flft (ν ∷ []) fullShare) ⊛ ‵ (flft κ₂ q₂) ⊛ ‵ ftrue) ⊛ ‵ (unit .own r (u ∷ [])))
+                ⊛ raw (ensured 𝓤 H A fill-bars.ended (fill-bars.clauses 𝓤 H A mem run) (ν ∷ [], (κ₂, tt)) (y δ zs, (n, (x, tt))) tt r)))) (id⊢ 𝓤 _) $ await ! tt $ pick ! (λ r.
                 split ! $ move ! (1 ∷ []) $ use1 W (some (λ (ws : Unit {0} × (Unit {0} × (List Bar × Unit {0}))). ‵ (lasts fill-bars.ended (ν ∷ [], (κ₂, tt)) (y δ zs, (n, (x, tt))) ws) ⊛ raw (fact 𝓤 (ws .1 .1 .0 ≡ filled zs n ys)))) (id⊢ 𝓤 _) $ pick ! (λ ws.
                 split ! $ move ! (1 ∷ []) $ heard ! (ws .1 .1 .0 ≡ filled zs n ys) (λ e. fsplit ! $ drop ! $ fsplit ! $ drop ! $ fsplit ! $ fsplit ! $ move ! (1 ∷ []) $ drop ! $
                 rewrite ! 0 (λ (l : List Bar). ‵ (finally T.the-row γ l)) e refl $
@@ -290,7 +292,8 @@ module _ {M : Type 1} (𝓤 : URA M) (H : Heap 𝓤) (A : Atoms 𝓤) (W : Given
         move ! (7 ∷ 0 ∷ []) $ join ! $ move ! (4 ∷ 2 ∷ 0 ∷ []) $ use3 W (raw (DrawFor 𝓤 H A mem run .pre (to-draw ν δ))) (goes-draw ν δ) $
         -- [the call's pre; what is kept of out; κ₂'s token, and true; bars; true; sheet; _13; …]
         calls-at ! fm (DrawFor 𝓤 H A mem run) known-draw (to-draw ν δ) (and-then ! (load ! (from ! (stop !)) (look ! 30 refl)) (and-then ! (load ! (from ! (stop !)) (look ! 16 refl)) (and-then ! (load ! (from ! (stop !)) (look ! 24 refl)) (no-more !)))) (λ w.
-        use1 W (later (some (λ (r : BothWritten). ((‵ (flft κ₀ q₀) ⊛ ‵ (flft (ν ∷ []) fullShare) ⊛ ‵ ftrue) ⊛ ‵ (D.the-row .own r (w ∷ []))) ⊛ raw (ensured 𝓤 H A draw-for.ended (draw-for.clauses 𝓤 H A mem run) (κ₀, (ν ∷ [], tt)) (c, (y δ outs, (length ys, tt))) tt r)))) (id⊢ 𝓤 _) $ await ! tt $ pick ! (λ d.
+        use1 W (later (some (λ (r : BothWritten). ((‵ (flft κ₀ q₀) ⊛ ‵ (flft (ν ∷ []) fullShare) ⊛ ‵ ftrue) ⊛ ‵ (D.the-row .own r (w ∷ [])))
+        ⊛ raw (ensured 𝓤 H A draw-for.ended (draw-for.clauses 𝓤 H A mem run) (κ₀, (ν ∷ [], tt)) (c, (y δ outs, (length ys, tt))) tt r)))) (id⊢ 𝓤 _) $ await ! tt $ pick ! (λ d.
         -- what `draw_for` ensures, at some last list of out: two clauses, under ∗
         split ! $ move ! (1 ∷ []) $ use1 W (some (λ (ws : Unit {0} × (List ℕ × (Unit {0} × Unit {0}))). ‵ (lasts draw-for.ended (κ₀, (ν ∷ [], tt)) (c, (y δ outs, (length ys, tt))) ws)
         ⊛ raw (fact 𝓤 (Answers d (ws .1 .0))) ⊛ raw (fact 𝓤 (BarsFit d (length ys) (length outs))))) (id⊢ 𝓤 _) $ pick ! (λ ws.
