@@ -1,16 +1,16 @@
 -- The way down into the larger parts: what the loop keeps, and one turn of it.
 -- Rests on Passing.antt.
-use mathlib.Core.Path.{_≡_, refl, sym, _∙_, ap}
+use mathlib.Core.Path.{_≡_, refl, _∙_}
 use mathlib.Core.Logic.{_⊎_, inl, inr}
 use mathlib.Core.List.{List}
 use Prim.Native.Nat.{ℕ, suc, _+_, _-_, _<_, _≤_}
 use native.Mathlib.Omega.{arith}
 use lib.ListN.{length, getD, set}
 use lib.Seq.{getD-set-same, getD-set-other}
-use Rattle.polygon.specs.Tree.{Tree, leaf, node}
+use Rattle.polygon.specs.Tree.{Tree, node}
 use Rattle.tree.specs.declared.Piece.{Piece}
 use Rattle.tree.specs.declared.Two.{Two}
-use Rattle.tree.specs.Shows.{apexAt, rightAt, Shows, beyond}
+use Rattle.tree.specs.Shows.{Shows, beyond}
 use Rattle.tree.proofs.Pieces.{Parts, opened, closed}
 use Rattle.levels.specs.Numbered.{Deep, flat, Grows, Leaves, Passed, begun, left, right}
 use Rattle.levels.proofs.Storing.{grows-on, grows-self, leaves-grow}

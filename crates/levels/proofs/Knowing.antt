@@ -1,12 +1,12 @@
 -- What is known of the two parts of a piece whose numbers stand in the table.
-use mathlib.Core.Path.{_≡_, refl, sym, _∙_, ap}
+use mathlib.Core.Path.{_≡_}
 use mathlib.Core.List.{List}
 use Prim.Native.Nat.{ℕ, _+_, _-_, _<_, _≤_}
 use native.Mathlib.Omega.{arith}
-use Rattle.polygon.specs.Tree.{Tree, node, span}
+use Rattle.polygon.specs.Tree.{Tree, node}
 use Rattle.umbrella.specs.Numbers.{ud}
 use Rattle.tree.specs.Shows.{apexAt, rightAt}
-use Rattle.tree.proofs.Pieces.{Parts, opened, one-piece}
+use Rattle.tree.proofs.Pieces.{Parts, opened}
 use Rattle.levels.specs.Numbered.{six, sixAt, Deep, deep, Known}
 use Rattle.levels.proofs.Storing.{deep-root}
 

@@ -8,7 +8,7 @@ use lib.ListN.{length, getD}
 use Rattle.polygon.specs.Tree.{Tree, node, span}
 use Rattle.tree.specs.Shows.{rightAt, Shows, triangle}
 use Rattle.tree.proofs.Pieces.{ends, inside}
-use Rattle.levels.specs.Numbered.{six, join, sixAt, withSix, Deep, flat, deep, Grows, Passed, begun, left, right, Rising}
+use Rattle.levels.specs.Numbered.{six, join, sixAt, withSix, Deep, deep, Grows, Passed, begun, left, right, Rising}
 use Rattle.levels.proofs.Storing.{six-node, join-fits, six-same, deep-root, deep-grows, store-grows}
 
 shows-left : {tr : List ℕ} {e u v : ℕ} {l r : Tree} → Shows tr e u v (node l r) → (w : ℕ) × Shows tr (e - 1) u w l

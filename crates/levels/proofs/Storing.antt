@@ -1,8 +1,8 @@
 -- The numbers of an edge stored in the table, and that numbers which are right stay right.
 -- Rests on the theorems of the crate umbrella, and on Pieces.antt of the crate tree.
-use mathlib.Core.Path.{_≡_, refl, sym, _∙_, ap}
+use mathlib.Core.Path.{_≡_, refl, _∙_, ap}
 use mathlib.Core.List.{List}
-use Prim.Native.Nat.{ℕ, zero, suc, _+_, _*_, _-_, _<_, _≤_, max}
+use Prim.Native.Nat.{ℕ, zero, suc, _+_, _*_, _<_, _≤_, max}
 use native.Mathlib.Decide.{ℕ-discrete}
 use native.Mathlib.Numerals.{add-one}
 use native.Mathlib.Omega.{arith}
@@ -13,7 +13,7 @@ use Rattle.umbrella.specs.Numbers.{ud}
 use Rattle.umbrella.specs.Best.{best}
 use Rattle.umbrella.proofs.Inequalities.{inequalities}
 use Rattle.umbrella.proofs.Theorems.{computed-has, umbrellas-bound}
-use Rattle.tree.specs.Shows.{rightAt, Shows, side, triangle}
+use Rattle.tree.specs.Shows.{Shows, side, triangle}
 use Rattle.tree.proofs.Pieces.{one-piece, inside}
 use Rattle.levels.specs.declared.Six.{Six}
 use Rattle.levels.specs.Numbered.{six, join, sixAt, withSix, Deep, flat, deep, Grows, Leaves}

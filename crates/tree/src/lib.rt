@@ -69,12 +69,13 @@ fn place_lasts(tree: &mut [u32], m: usize)
     }
 }
 
-// Fills the table from the keys of a part's diagonals, and gives the whole part.
+// Fills a table of zeros from the keys of a part's diagonals, and gives the whole part.
 pub fn build(keys: &[u32], n: usize, tree: &mut [u32]) -> Piece
     requires part { ⌜ Triangulated n (edgesOf (now keys)) × (n ≤ 1024) ⌝ }
     requires room { ⌜ length (now tree) ≡ 3072 ⌝ }
+    requires fresh { ⌜ ((i : ℕ) → getD (now tree) i 0 ≡ 0) ⌝ }
     ensures edges { λ _. ⌜ edgesOf (take (2 * n - 3) (now (tree .exit))) ≡ edges 0 (treeOf n (edgesOf (now (keys .entry)))) ⌝ }
-    ensures rest { λ _. ⌜ ((j : ℕ) → 2 * n - 3 ≤ j → j < 2048 → getD (now (tree .exit)) j 0 ≡ getD (now (tree .entry)) j 0) ⌝ }
+    ensures rest { λ _. ⌜ ((j : ℕ) → 2 * n - 3 ≤ j → j < 2048 → getD (now (tree .exit)) j 0 ≡ 0) ⌝ }
     ensures whole { λ r. ⌜ Whole n (treeOf n (edgesOf (now (keys .entry)))) (now (tree .exit)) r ⌝ }
 {
     let m = 2 * n - 3;

@@ -1,5 +1,4 @@
 -- The loop's invariant is `Descending`; the span falls at each call.
-use mathlib.Core.Path.{_≡_, refl, sym, _∙_, ap}
 use mathlib.Core.Logic.{⊎-elim}
 use Prim.Native.Nat.{ℕ, _-_, _+_, _<_}
 use native.Mathlib.Omega.{arith}
@@ -7,7 +6,7 @@ use lib.ListN.{length-set}
 use Rattle.tree.proofs.Pieces.{corners, opened, one-piece}
 use Rattle.levels.specs.Numbered.{Rising}
 use Rattle.levels.proofs.Storing.{grows-on}
-use Rattle.levels.proofs.Descending.{Descending, descending-begins, Dealt, side-deep, dealt-side, Halves, halves}
+use Rattle.levels.proofs.Descending.{Descending, descending-begins, side-deep, dealt-side, Halves, halves}
 use borrow.Fn.Kinds.{In}
 use borrow.Fn.PlainCycle.{Measures, is, falls, and}
 use Rattle.levels.proofs.levels.Reads as levels

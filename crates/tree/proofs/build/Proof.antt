@@ -1,6 +1,6 @@
 -- By Whole.antt.
-use mathlib.Core.Path.{_≡_, refl, sym, _∙_, ap}
-use Prim.Native.Nat.{ℕ, _*_, _-_}
+use mathlib.Core.Path.{_≡_, refl, _∙_, ap}
+use Prim.Native.Nat.{_*_, _-_}
 use borrow.Author.Needs.{needs}
 use native.Mathlib.Omega.{arith}
 use lib.ListN.{length, take, getD}
@@ -23,7 +23,7 @@ list-edges-requires : tie.Need-list-edges-requires
 list-edges-requires c κs = search needs
 
 listed : (c : tie.After-list-edges) → length (c .list-edges .last .1 .1 .0) ≡ 3072
-listed c = c .list-edges .kept .1 .1 .0 ∙ c .before .before .before .before .pre .1
+listed c = c .list-edges .kept .1 .1 .0 ∙ c .before .before .before .before .pre .1 .0
 
 place-lasts-requires : tie.Need-place-lasts-requires
 place-lasts-requires c κs =
@@ -68,7 +68,7 @@ returns c =
     let start = at-list .before .before .before .before in (
       edges-are (c .before .before .before),
       (
-        λ j h k. kept-rest (2 * start .args .n - 3) j (c .before .before .before .place-lasts .last .0) (at-list .list-edges .last .1 .1 .0) (start .args .tree .now) h k (c .before .before .before .place-lasts .ensures .0) (at-list .list-edges .ensures .1),
+        λ j h k. kept-rest j (c .before .before .before .place-lasts .last .0) (at-list .list-edges .last .1 .1 .0) k (c .before .before .before .place-lasts .ensures .0) ∙ at-list .list-edges .ensures .1 j h,
         shown (c .before .before .before),
       ),
     )
