@@ -2,13 +2,13 @@
 -- Rests on Walking.antt and Orders.antt.
 use mathlib.Core.Path.{_≡_, refl, sym, _∙_, ap}
 use mathlib.Core.Bool.{Bool, true, false}
-use mathlib.Core.List.{List, [], _∷_, _++_}
-use Prim.Native.Nat.{ℕ, suc, _+_, _*_, _-_, _<_, _≤_}
+use mathlib.Core.List.{List, [], _∷_}
+use Prim.Native.Nat.{ℕ, _+_, _*_, _-_, _<_, _≤_}
 use native.Mathlib.Omega.{arith}
 use lib.ListN.{length, set, length-set, length-map}
 use lib.Seq.{sets, length-sets}
-use Rattle.polygon.specs.Polygon.{Edge, _—_}
-use Rattle.polygon.specs.Tree.{Tree, leaf, node, span}
+use Rattle.polygon.specs.Polygon.{_—_}
+use Rattle.polygon.specs.Tree.{Tree, leaf, span}
 use Rattle.polygon.proofs.Order.{low-of, high-of}
 use Rattle.umbrella.specs.Numbers.{ud, handle}
 use Rattle.umbrella.specs.declared.roles.Role.{Role}
@@ -17,7 +17,7 @@ use Rattle.umbrella.specs.Roles.{fromRight, isHung, stepAt, stepOf}
 use Rattle.tree.specs.declared.Piece.{Piece}
 use Rattle.tree.specs.declared.Two.{Two}
 use Rattle.tree.specs.Shows.{edgeAt, apexAt, Shows, beyond}
-use Rattle.tree.proofs.Pieces.{at-edge, closed, corners, ends, inside, one-piece}
+use Rattle.tree.proofs.Pieces.{at-edge, closed, corners, ends, inside}
 use Rattle.levels.specs.declared.Six.{Six}
 use Rattle.levels.specs.Numbered.{six, sixAt, Known}
 use Rattle.levels.proofs.Knowing.{KnownParts, known-parts}

@@ -1,7 +1,7 @@
 -- The columns of a rim or a stem in the order in which it is built; and there are fewer columns than twice the sides.
-use mathlib.Core.Path.{_≡_, refl, sym, _∙_}
+use mathlib.Core.Path.{_≡_, refl, _∙_}
 use mathlib.Core.Bool.{Bool, true, false, true≢false, false≢true}
-use mathlib.Core.List.{List, [], _∷_, _++_, reverse, reverse-append, reverse-reverse, reverse-cons}
+use mathlib.Core.List.{List, [], _∷_, _++_, reverse, reverse-append, reverse-reverse}
 use Prim.Native.Nat.{ℕ, suc, _+_, _*_, _-_, _≤_, _<_}
 use native.Mathlib.Omega.{arith}
 use lib.ListN.{length, length-append, length-reverse}
@@ -47,13 +47,6 @@ lay-one false e = refl
 pub lay-none : (b : Bool) → lay b [] ≡ []
 lay-none true = refl
 lay-none false = refl
-
-pub only-hung : (p : Role) → isHung p ≡ true → p ≡ Hung
-only-hung Hung h = refl
-only-hung LeftRim h = absurd (false≢true h)
-only-hung RightRim h = absurd (false≢true h)
-only-hung FromLeft h = absurd (false≢true h)
-only-hung FromRight h = absurd (false≢true h)
 
 -- the columns of a rim or a stem at a side and at a triangle
 pub side-columns : (p : Role) (d : ℕ) (t : Tree) (u v : ℕ) → isHung p ≡ false → t ≡ leaf → columns p d t u v ≡ (u — v) ∷ []

@@ -2,12 +2,13 @@
 -- Rests on Following.antt.
 use mathlib.Core.Path.{_≡_, refl, sym, _∙_, ap}
 use mathlib.Core.Bool.{Bool, true, false}
-use mathlib.Core.List.{List, [], _∷_, _++_, reverse, reverse-append}
+use mathlib.Core.List.{List, [], _∷_, _++_, reverse-append}
 use Prim.Native.Nat.{ℕ, _+_, _*_, _-_, _<_, _≤_}
 use native.Mathlib.Omega.{arith}
 use lib.ListN.{length, set, length-set}
 use lib.Seq.{sets}
-use Rattle.polygon.specs.Tree.{Tree, leaf, node, span}
+use Rattle.polygon.specs.Polygon.{Edge}
+use Rattle.polygon.specs.Tree.{Tree, leaf, node}
 use Rattle.umbrella.specs.Numbers.{ud}
 use Rattle.umbrella.specs.declared.roles.Role.{Role}
 use Rattle.umbrella.specs.declared.roles.Role.the-variants.{Hung, LeftRim, RightRim}
@@ -17,14 +18,14 @@ use Rattle.tree.specs.declared.Two.{Two}
 use Rattle.tree.specs.Shows.{apexAt, beyond}
 use Rattle.umbrella.proofs.Wide.{nine}
 use Rattle.tree.proofs.Pieces.{closed, ends}
-use Rattle.levels.specs.Numbered.{six, sixAt, Known}
+use Rattle.levels.specs.Numbered.{Known}
 use Rattle.levels.proofs.Knowing.{KnownParts, known-parts}
 use Rattle.drawing.specs.declared.lines.Line.{Line}
 use Rattle.drawing.specs.declared.lines.Way.{Way}
 use Rattle.drawing.specs.declared.lines.Rims.{Rims}
 use Rattle.drawing.specs.Columns.{columns}
 use Rattle.drawing.specs.Lines.{onLine, farLine, nearLine, ranks}
-use Rattle.drawing.specs.Walk.{rimsOf, lay, Drawn, Walked, Room}
+use Rattle.drawing.specs.Walk.{rimsOf, lay, Walked, Room}
 use Rattle.drawing.proofs.Orders.{lay-none, hung-side, rims}
 use Rattle.drawing.proofs.OnLines.{hung-ranks}
 use Rattle.drawing.proofs.Walking.{none, seq, same, left-then-right, right-then-left, ranks-length}
@@ -56,6 +57,13 @@ pub record RimPair (tr ds : List ℕ) (p : Piece) (w : Way) (t : Tree) (at : ℕ
   pub room-second : (cols₁ rows₂ : List ℕ) (m : ℕ) → Walked tr (r .first) (rimWay (r .role) w n far near) first at cols rows₁ cols₁ rows₂ m → Room (r .second) (rimWay (r .other) w n far near) m cols₁ rows₂
   pub walked : (cols₁ rows₂ : List ℕ) (m : ℕ) (cols₂ rows₃ : List ℕ) (q : ℕ) → Walked tr (r .first) (rimWay (r .role) w n far near) first at cols rows₁ cols₁ rows₂ m
       → Walked tr (r .second) (rimWay (r .other) w n far near) second m cols₁ rows₂ cols₂ rows₃ q → Walked tr p w t at cols rows cols₂ rows₃ q
+
+-- the columns of two rims, turned or not
+turned-both : {b : Bool} (xs ys : List Edge) → b ≡ true → lay b (xs ++ ys) ≡ lay b ys ++ lay b xs
+turned-both xs ys e = rw e (reverse-append xs ys)
+
+kept-both : {b : Bool} (xs ys : List Edge) → b ≡ false → lay b (xs ++ ys) ≡ lay b xs ++ lay b ys
+kept-both xs ys e = rw e
 
 on-line-small : (down : Bool) (base r : ℕ) → onLine down base r ≤ base + r
 on-line-small true base r = omega arith
@@ -98,50 +106,51 @@ module _ {tr ds cols rows : List ℕ} {p : Piece} {w : Way} {t : Tree} {at n : �
       let i : ud (node l r) - 1 ≡ n - 1 = ap (_- 1) (sym (levels-are ∙ ap ud (K .parts .is))) in
       ap (λ (y : Role). columns y (w .d) t (p .u) (p .v)) hung ∙ (ap (λ (y : Tree). columns Hung (w .d) y (p .u) (p .v)) (K .parts .is) ∙ (rims (w .d) l r (p .u) (p .v) (n - 1) i ∙ rw (← K .parts .middle)))
 
-  laid : (b : Bool) → w .turned ≡ b → lay (w .turned) (columns (w .role) (w .d) t (p .u) (p .v)) ≡ lay b (columns LeftRim (n - 1) l (p .u) c ++ columns RightRim (n - 1) r c (p .v))
-  laid b e = ap (λ (b : Bool). lay b (columns (w .role) (w .d) t (p .u) (p .v))) e ∙ ap (lay b) columns-are
-
   rows-are : ranks (w .role) (w .d) (w .far) (w .near) t ≡ ranks LeftRim (n - 1) far near l ++ (far .base ∷ ranks RightRim (n - 1) far near r)
-  rows-are = ap (λ (y : Role). ranks y (w .d) (w .far) (w .near) t) hung ∙ (ap (λ (y : Tree). ranks Hung (w .d) (w .far) (w .near) y) (K .parts .is) ∙ hung-ranks (w .d) (w .far) (w .near) l r n (n - 1) (sym (levels-are ∙ ap ud (K .parts .is))) refl)
+  rows-are =
+      ap (λ (y : Role). ranks y (w .d) (w .far) (w .near) t) hung
+      ∙ (ap (λ (y : Tree). ranks Hung (w .d) (w .far) (w .near) y) (K .parts .is) ∙ hung-ranks (w .d) (w .far) (w .near) l r n (n - 1) (sym (levels-are ∙ ap ud (K .parts .is))) refl)
 
   middle : p .u + 1 + length (ranks LeftRim (n - 1) far near l) ≡ c
   middle = omega (arith, ranks-length l LeftRim (n - 1) far near, K .parts .middle)
 
+  -- the rims in one order: the columns of the first and then those of the second, and the rows of both with that of the third corner, are those of the piece
+  in-order : (z : Rims) {t₁ t₂ : Tree} → Known tr ds (z .first .e) (z .first .u) (z .first .v) t₁ → Known tr ds (z .second .e) (z .second .u) (z .second .v) t₂
+      → (z .first .u < z .first .v) × (z .second .u < z .second .v) × ((z .first .v - z .first .u) + (z .second .v - z .second .u) ≡ p .v - p .u)
+      → isHung (z .role) ≡ false → isHung (z .other) ≡ false
+      → lay (w .turned) (columns (w .role) (w .d) t (p .u) (p .v)) ≡ lay (w .turned) (columns (z .role) (n - 1) t₁ (z .first .u) (z .first .v)) ++ lay (w .turned) (columns (z .other) (n - 1) t₂ (z .second .u) (z .second .v))
+      → sets (sets rows₁ (z .first .u + 1) (ranks (z .role) (n - 1) far near t₁)) (z .second .u + 1) (ranks (z .other) (n - 1) far near t₂) ≡ sets rows (p .u + 1) (ranks (w .role) (w .d) (w .far) (w .near) t)
+      → RimPair tr ds p w t at cols rows rows₁ n far near z
+  in-order z {t₁} {t₂} k₁ k₂ wide h₁ h₂ both-columns both-rows = record {
+    first = t₁;
+    second = t₂;
+    known-first = k₁;
+    known-second = k₂;
+    narrow-first = omega arith;
+    narrow-second = omega arith;
+    not-hung-first = h₁;
+    not-hung-second = h₂;
+    room-first = room-at (z .first) (z .role) at cols rows₁ (omega arith) (omega (arith, R .fits)) (R .columns-size) size;
+    room-second = λ cols₁ rows₂ m W.
+        room-at (z .second) (z .other) m cols₁ rows₂ (omega arith) (omega (arith, R .fits, walked-end (k₁ .shows) W)) (walked-columns (k₁ .shows) W ∙ R .columns-size) (walked-rows (k₁ .shows) W ∙ size);
+    walked = λ cols₁ rows₂ m cols₂ rows₃ q W X. record {
+      drawn = same (sym both-columns) (seq (W .drawn) (X .drawn));
+      ranked = X .ranked ∙ (ap (λ (o : List ℕ). sets o (z .second .u + 1) (ranks (z .other) (n - 1) far near t₂)) (W .ranked) ∙ both-rows);
+    };
+  }
+    where
+      size : length rows₁ ≡ 1024
+      size = length-set rows c (far .base) ∙ R .rows-size
+
   pair : (b : Bool) → w .turned ≡ b → RimPair tr ds p w t at cols rows rows₁ n far near (rimsOf (beyond tr p) b)
-  pair true e = record {
-    first = r;
-    second = l;
-    known-first = K .known-r;
-    known-second = K .known-l;
-    narrow-first = omega (arith, K .parts);
-    narrow-second = omega (arith, K .parts);
-    not-hung-first = refl;
-    not-hung-second = refl;
-    room-first = room-at _ RightRim at cols rows₁ (omega (arith, K .parts)) (omega (arith, R .fits, K .parts)) (R .columns-size) (length-set rows c (far .base) ∙ R .rows-size);
-    room-second = λ cols₁ rows₂ m W. room-at _ LeftRim m cols₁ rows₂ (omega (arith, K .parts)) (omega (arith, R .fits, K .parts, walked-end (K .known-r .shows) W)) (walked-columns (K .known-r .shows) W ∙ R .columns-size) (walked-rows (K .known-r .shows) W ∙ (length-set rows c (far .base) ∙ R .rows-size));
-    walked = λ cols₁ rows₂ m cols₂ rows₃ q W X. record {
-      drawn = same (sym (laid true e ∙ reverse-append (columns LeftRim (n - 1) l (p .u) c) (columns RightRim (n - 1) r c (p .v)))) (seq (same (ap (λ (b : Bool). lay b (columns RightRim (n - 1) r c (p .v))) e) (W .drawn)) (same (ap (λ (b : Bool). lay b (columns LeftRim (n - 1) l (p .u) c)) e) (X .drawn)));
-      ranked = X .ranked ∙ (ap (λ (o : List ℕ). sets o (p .u + 1) (ranks LeftRim (n - 1) far near l)) (W .ranked)
-          ∙ (right-then-left (p .u) c (far .base) (ranks LeftRim (n - 1) far near l) (ranks RightRim (n - 1) far near r) rows middle ∙ ap (sets rows (p .u + 1)) (sym rows-are)));
-    };
-  }
-  pair false e = record {
-    first = l;
-    second = r;
-    known-first = K .known-l;
-    known-second = K .known-r;
-    narrow-first = omega (arith, K .parts);
-    narrow-second = omega (arith, K .parts);
-    not-hung-first = refl;
-    not-hung-second = refl;
-    room-first = room-at _ LeftRim at cols rows₁ (omega (arith, K .parts)) (omega (arith, R .fits, K .parts)) (R .columns-size) (length-set rows c (far .base) ∙ R .rows-size);
-    room-second = λ cols₁ rows₂ m W. room-at _ RightRim m cols₁ rows₂ (omega (arith, K .parts)) (omega (arith, R .fits, K .parts, walked-end (K .known-l .shows) W)) (walked-columns (K .known-l .shows) W ∙ R .columns-size) (walked-rows (K .known-l .shows) W ∙ (length-set rows c (far .base) ∙ R .rows-size));
-    walked = λ cols₁ rows₂ m cols₂ rows₃ q W X. record {
-      drawn = same (sym (laid false e)) (seq (same (ap (λ (b : Bool). lay b (columns LeftRim (n - 1) l (p .u) c)) e) (W .drawn)) (same (ap (λ (b : Bool). lay b (columns RightRim (n - 1) r c (p .v))) e) (X .drawn)));
-      ranked = X .ranked ∙ (ap (λ (o : List ℕ). sets o (c + 1) (ranks RightRim (n - 1) far near r)) (W .ranked)
-          ∙ (left-then-right (p .u) c (far .base) (ranks LeftRim (n - 1) far near l) (ranks RightRim (n - 1) far near r) rows middle ∙ ap (sets rows (p .u + 1)) (sym rows-are)));
-    };
-  }
+  pair true e =
+      in-order (rimsOf (beyond tr p) true) (K .known-r) (K .known-l) (omega (arith, K .parts)) refl refl
+      (ap (lay (w .turned)) columns-are ∙ turned-both _ _ e)
+      (right-then-left (p .u) c (far .base) (ranks LeftRim (n - 1) far near l) (ranks RightRim (n - 1) far near r) rows middle ∙ ap (sets rows (p .u + 1)) (sym rows-are))
+  pair false e =
+      in-order (rimsOf (beyond tr p) false) (K .known-l) (K .known-r) (omega (arith, K .parts)) refl refl
+      (ap (lay (w .turned)) columns-are ∙ kept-both _ _ e)
+      (left-then-right (p .u) c (far .base) (ranks LeftRim (n - 1) far near l) (ranks RightRim (n - 1) far near r) rows middle ∙ ap (sets rows (p .u + 1)) (sym rows-are))
 
   -- as the code has it
   pub rim-pair : (y : Two) (z : Rims) (f g : Line) → y ≡ beyond tr p → z ≡ rimsOf y (w .turned) → f ≡ far → g ≡ near → RimPair tr ds p w t at cols rows (set rows (y .left .v) (f .base)) n f g z

@@ -2,18 +2,17 @@
 -- Rests on Orders.antt and Sets.antt.
 use mathlib.Core.Path.{_≡_, refl, sym, _∙_, ap}
 use mathlib.Core.Bool.{Bool, true, false, true≢false}
-use mathlib.Core.List.{List, [], _∷_, _++_, map, reverse, map-append, reverse-append}
-use Prim.Native.Nat.{ℕ, suc, _+_, _*_, _-_, _<_, _≤_}
+use mathlib.Core.List.{List, [], _∷_, _++_, reverse, map-append}
+use Prim.Native.Nat.{ℕ, suc, _+_, _≤_}
 use native.Mathlib.Nat.{add-zero}
 use native.Mathlib.Decide.{decLe}
 use native.Mathlib.Omega.{arith}
 use lib.ListN.{length, set, length-append, length-reverse}
 use lib.Seq.{sets}
-use Rattle.polygon.specs.Lists.{All, all-nil, all-cons, choose}
+use Rattle.polygon.specs.Lists.{all-nil, all-cons, choose}
 use Rattle.polygon.specs.Polygon.{Edge}
 use Rattle.polygon.specs.Tree.{Tree, leaf, node, span}
 use Rattle.polygon.proofs.Lists.{all-append}
-use Rattle.umbrella.specs.Numbers.{ud}
 use Rattle.umbrella.specs.declared.roles.Role.{Role}
 use Rattle.umbrella.specs.declared.roles.Role.the-variants.{Hung, LeftRim, RightRim, FromLeft, FromRight}
 use Rattle.umbrella.specs.declared.roles.Step.{Step}
@@ -22,7 +21,7 @@ use Rattle.tree.specs.Shows.{edgeAt}
 use Rattle.chart.proofs.Lists.{all-reverse, map-reverse}
 use Rattle.drawing.specs.declared.lines.Line.{Line}
 use Rattle.drawing.specs.Lines.{aside, linesOf, ranks}
-use Rattle.drawing.specs.Walk.{differ, besideLine, lay, Held, Drawn, Turned}
+use Rattle.drawing.specs.Walk.{differ, besideLine, Held, Drawn, Turned}
 use Rattle.drawing.proofs.OnLines.{own-ranks}
 use Rattle.drawing.proofs.Sets.{sets-append, sets-set, sets-comm, turned-run}
 

@@ -2,7 +2,7 @@
 // n - 3 different diagonals cross nowhere exactly if for each of them, (u,v), the farthest corner that its apex is joined to is v.
 ghost use mathlib.Core.Path.{_≡_};
 ghost use mathlib.Core.Bool.{true, false};
-ghost use Prim.Native.Nat.{ℕ, suc, _+_, _%_, _<_, _≤_};
+ghost use Prim.Native.Nat.{ℕ, suc, _+_, _<_, _≤_};
 ghost use lib.ListN.{length, getD};
 ghost use Rattle.polygon.specs.Polygon.{NoneCross};
 ghost use Rattle.keys.specs.Keys.{edgesOf};

@@ -2,7 +2,7 @@
 -- Rests on Counted.antt, and on what the crates tree and levels show of their tables.
 use mathlib.Core.Path.{_≡_, refl, _∙_, ap, ap₂}
 use mathlib.Core.Logic.{_⊎_, inl, inr}
-use mathlib.Core.Bool.{Bool, true, false, false≢true}
+use mathlib.Core.Bool.{Bool, true, false}
 use mathlib.Core.List.{List}
 use Prim.Native.Nat.{ℕ, _+_, _-_, _≤_, _<_, min, max}
 use native.Mathlib.Omega.{arith}
@@ -12,13 +12,14 @@ use Rattle.umbrella.specs.declared.roles.Role.{Role}
 use Rattle.umbrella.specs.declared.roles.Role.the-variants.{Hung, LeftRim, RightRim, FromLeft, FromRight}
 use Rattle.umbrella.specs.declared.roles.Step.{Step}
 use Rattle.umbrella.specs.Roles.{isHung, stepAt, stepOf, levelsUnder}
+use Rattle.umbrella.proofs.Induction.{only-hung}
 use Rattle.tree.specs.declared.Piece.{Piece}
 use Rattle.tree.specs.declared.Two.{Two}
-use Rattle.tree.specs.Shows.{apexAt, rightAt, beyond}
-use Rattle.tree.proofs.Pieces.{Parts, opened, closed, corners, ends, one-piece}
+use Rattle.tree.specs.Shows.{beyond}
+use Rattle.tree.proofs.Pieces.{closed, corners, ends, one-piece}
 use Rattle.levels.specs.declared.Six.{Six}
-use Rattle.levels.specs.Numbered.{six, sixAt, Deep, deep, Known}
-use Rattle.levels.proofs.Storing.{deep-root}
+use Rattle.levels.specs.Numbered.{six, sixAt, Known}
+use Rattle.levels.proofs.Knowing.{KnownParts}
 use Rattle.plan.specs.declared.counts.Tally.{Tally}
 use Rattle.plan.specs.declared.counts.Spot.{Spot}
 use Rattle.plan.specs.declared.counts.Fork.{Fork}
@@ -48,31 +49,6 @@ few x y h (node l r) p d =
     let k : ℕ = levelsUnder p d (ud (node l r) - 1) in
     omega (arith, adds-few x y p (s .crossed), few x y h l (s .left) k, few x y h r (s .right) k)
 
-pub only-hung : (p : Role) → isHung p ≡ true → p ≡ Hung
-only-hung Hung h = refl
-only-hung LeftRim h = absurd (false≢true h)
-only-hung RightRim h = absurd (false≢true h)
-only-hung FromLeft h = absurd (false≢true h)
-only-hung FromRight h = absurd (false≢true h)
-
--- what the tables hold of a piece that is no side
-pub record KnownParts (tr ds : List ℕ) (p : Piece) (t : Tree) : Type 0 where
-  pub parts : Parts tr (p .e) (p .u) (p .v) t
-  pub known-l : Known tr ds (p .e - 1) (p .u) (apexAt tr (p .e)) (parts .l)
-  pub known-r : Known tr ds (rightAt tr (p .e)) (apexAt tr (p .e)) (p .v) (parts .r)
-  pub numbers-are : sixAt ds (p .e) ≡ six (node (parts .l) (parts .r))
-  pub not-empty : 1 ≤ sixAt ds (p .e) .ud
-
-pub known-parts : {tr ds : List ℕ} {p : Piece} {t : Tree} → Known tr ds (p .e) (p .u) (p .v) t → p .u + 1 < p .v → KnownParts tr ds p t
-unfolding ud
-known-parts {tr} {ds} {p} {t} K a = go (rw (d .is) at (K .deep))
-  where
-    d : Parts tr (p .e) (p .u) (p .v) t
-    d = opened (K .shows) a
-
-    go : Deep tr ds (p .e) (node (d .l) (d .r)) → KnownParts tr ds p t
-    go (deep h x y) = record { parts = d; known-l = record { shows = d .shows-l; deep = x }; known-r = record { shows = d .shows-r; deep = y }; numbers-are = h; not-empty = omega (arith, ap (λ (s : Six). s .ud) h) }
-
 -- what a triangle adds, as it is worked out
 pub fork-is : (p : Role) (s : Step) (x y : Spot) {m n g : ℕ} → m ≡ adds p 1 0 → g ≡ atGate 1 (s .crossed) → n ≡ adds p 0 g → _≡_ {A = Fork} (record { adds = record { umbrellas = m; stems = n }; small = x; large = y }) (forkOf p s x y)
 fork-is p s x y e f g = rw (e, g, f)
@@ -93,7 +69,7 @@ pub record NumbersRead (tr ds : List ℕ) (x : Spot) (b : Two) (l r own : Six) :
   pub right-is : r ≡ sixAt ds (b .right .e)
   pub own-is : own ≡ sixAt ds (x .piece .e)
 
-module _ {tr ds : List ℕ} {x : Spot} {b : Two} {l r own : Six} {t : Tree} (N : NumbersRead tr ds x b l r own) (K : KnownParts tr ds (x .piece) t) where
+module _ {tr ds : List ℕ} {x : Spot} {b : Two} {l r own : Six} {t : Tree} (N : NumbersRead tr ds x b l r own) (K : KnownParts tr ds (x .piece .e) (x .piece .u) (x .piece .v) t) where
   abbrev a : Tree
   a = K .parts .l
 
@@ -101,13 +77,13 @@ module _ {tr ds : List ℕ} {x : Spot} {b : Two} {l r own : Six} {t : Tree} (N :
   c = K .parts .r
 
   l-is : l ≡ six a
-  l-is = N .left-is ∙ (ap (λ (z : Two). sixAt ds (z .left .e)) (N .two-is) ∙ deep-root (K .known-l .deep))
+  l-is = N .left-is ∙ (ap (λ (z : Two). sixAt ds (z .left .e)) (N .two-is) ∙ K .six-l)
 
   r-is : r ≡ six c
-  r-is = N .right-is ∙ (ap (λ (z : Two). sixAt ds (z .right .e)) (N .two-is) ∙ deep-root (K .known-r .deep))
+  r-is = N .right-is ∙ (ap (λ (z : Two). sixAt ds (z .right .e)) (N .two-is) ∙ K .six-r)
 
   own-levels : own .ud ≡ ud (node a c)
-  own-levels = ap (λ (z : Six). z .ud) (N .own-is ∙ K .numbers-are)
+  own-levels = ap (λ (z : Six). z .ud) (N .own-is ∙ K .six-t)
 
   -- the counts are those of a triangle's piece
   of-node : (y z : ℕ) → total y z (x .role) (x .d) t ≡ total y z (x .role) (x .d) (node a c)

@@ -59,7 +59,7 @@ fn adds(role: Role, x: u16, y: u16) -> u16
 }
 
 // The larger of the two pieces beyond a triangle is left for last; k levels are under their umbrella.
-fn by_size(role: Role, k: u16, t: Two, s: Step) -> Fork
+fn larger_last(role: Role, k: u16, t: Two, s: Step) -> Fork
     requires { ⌜ (t .left .u ≤ t .left .v) × (t .right .u ≤ t .right .v) ⌝ }
     ensures { λ r. ⌜ (r ≡ forkOf role s (spot k (t .left) (s .left)) (spot k (t .right) (s .right)))
         ⊎ (r ≡ forkOf role s (spot k (t .right) (s .right)) (spot k (t .left) (s .left))) ⌝ }
@@ -145,7 +145,7 @@ fn triangle(tree: &[u32; PLACES], depths: &[u16; NUMBERS], x: Spot) -> Fork
         }
     }
     let s = step_at(role, x.d, l.ud, r.ud, l.handle);
-    by_size(role, levels_under(role, x.d, own), t, s)
+    larger_last(role, levels_under(role, x.d, own), t, s)
 }
 
 // Counts in the piece p, by its role with d levels under the umbrella; for a hung piece d is not looked at.

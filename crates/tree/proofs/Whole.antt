@@ -22,18 +22,18 @@ kept-front m l o h e = sym (take-take m 2048 l h) ∙ (ap (take m) e ∙ take-ta
 pub kept-rest : (j : ℕ) (l o : List ℕ) → j < 2048 → take 2048 l ≡ take 2048 o → getD l j 0 ≡ getD o j 0
 kept-rest j l o k e = sym (getD-take 2048 l j 0 k) ∙ (ap (λ (x : List ℕ). getD x j 0) e ∙ getD-take 2048 o j 0 k)
 
+-- the keys are of edges of n corners, at most 1,024
+pub keyed : {n : ℕ} (t : Tree) (tr : List ℕ) → span t + 1 ≡ n → n ≤ 1024 → 2 * n - 3 ≤ length tr → edgesOf (take (2 * n - 3) tr) ≡ edges 0 t → (j : ℕ) → j < 2 * n - 3 → getD tr j 0 < 1047552
+keyed {n} t tr size small room E j h =
+    let b = edge-at {Q = λ e. (0 ≤ e .0) × (e .0 < e .1) × (e .1 ≤ 0 + span t)} (take (2 * n - 3) tr) (rw E (edges-in 0 t)) j (omega (arith, length-take-le (2 * n - 3) tr room)) in
+    omega (arith, b, getD-take (2 * n - 3) tr j 0 h)
+
 module _ (n : ℕ) (ks : List ℕ) (P : Triangulated n (edgesOf ks)) (small : n ≤ 1024) (tr : List ℕ) (room : length tr ≡ 3072) (E : edgesOf (take (2 * n - 3) tr) ≡ edges 0 (treeOf n (edgesOf ks))) where
   abbrev t : Tree
   t = treeOf n (edgesOf ks)
 
   size : span t + 1 ≡ n
   size = omega (arith, tree-of n (edgesOf ks) P .size, P .full)
-
-  -- the keys are of edges of at most 1,024 corners
-  pub keyed : (j : ℕ) → j < 2 * n - 3 → getD tr j 0 < 1047552
-  keyed j h =
-      let b = edge-at {Q = λ e. (0 ≤ e .0) × (e .0 < e .1) × (e .1 ≤ 0 + span t)} (take (2 * n - 3) tr) (rw E (edges-in 0 t)) j (omega (arith, length-take-le (2 * n - 3) tr (omega arith))) in
-      omega (arith, b, size, getD-take (2 * n - 3) tr j 0 h)
 
   stands : (i : ℕ) → i < length (edges 0 t) → edgeAt tr i ≡ getD (edges 0 t) i (0 — 0)
   stands i h =

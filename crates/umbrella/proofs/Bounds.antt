@@ -3,7 +3,8 @@
 use Prim.Native.Nat.{ℕ, suc, _+_, _≤_, max}
 use native.Mathlib.Omega.{arith}
 use Rattle.polygon.specs.Tree.{Tree, span}
-use Rattle.umbrella.specs.Plan.{Plan, none, plain, stemLeft, stemRight, LeftRim, leftEnd, leftOn, RightRim, rightEnd, rightOn, LeftGate, leftGate, leftPast, RightGate, rightGate, rightPast, Stem, endBoth, endLeft, endRight, goLeft, goRight, fold, foldLeft, foldRight, foldLeftGate, foldRightGate, foldStem, levels, umbrellas, stems}
+use Rattle.umbrella.specs.Plan.{Plan, none, plain, stemLeft, stemRight, LeftRim, leftEnd, leftOn, RightRim, rightEnd, rightOn, LeftGate, leftGate, leftPast, RightGate, rightGate}
+use Rattle.umbrella.specs.Plan.{rightPast, Stem, endBoth, endLeft, endRight, goLeft, goRight, fold, foldLeft, foldRight, foldLeftGate, foldRightGate, foldStem, levels, umbrellas, stems}
 
 -- of n sides: l levels, u umbrellas, s stems
 pub record Within (n l u s : ℕ) : Type 0 where

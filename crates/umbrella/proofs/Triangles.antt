@@ -10,7 +10,8 @@ use Rattle.polygon.specs.Lists.{Mem, All, all-nil, all-cons, Sorted, sorted-nil
 use Rattle.polygon.specs.Tree.{Tree, leaf, node, span}
 use Rattle.polygon.proofs.Lists.{here, there, mem-left, mem-right, all-append, all-imp, all-both, all-mem, sorted-append}
 use Rattle.polygon.proofs.Chords.{span-pos}
-use Rattle.umbrella.specs.Plan.{Plan, none, plain, stemLeft, stemRight, LeftRim, leftEnd, leftOn, RightRim, rightEnd, rightOn, LeftGate, leftGate, leftPast, RightGate, rightGate, rightPast, Stem, endBoth, endLeft, endRight, goLeft, goRight, fold, foldLeft, foldRight, foldLeftGate, foldRightGate, foldStem, umbrellas}
+use Rattle.umbrella.specs.Plan.{Plan, none, plain, stemLeft, stemRight, LeftRim, leftEnd, leftOn, RightRim, rightEnd, rightOn, LeftGate, leftGate, leftPast, RightGate}
+use Rattle.umbrella.specs.Plan.{rightGate, rightPast, Stem, endBoth, endLeft, endRight, goLeft, goRight, fold, foldLeft, foldRight, foldLeftGate, foldRightGate, foldStem, umbrellas}
 use Rattle.umbrella.specs.Occurs.{times, occurs}
 use Rattle.umbrella.specs.Triangles.{Triangle, same-triangle?, triangles, AtRoot, own, ownLeft, ownRight, ownLeftGate, ownRightGate, ownStem, shares, sharesLeft, sharesRight, sharesLeftGate, sharesRightGate, sharesStem, Taken}
 use Rattle.umbrella.proofs.Occurs.{occurs-append, occurs-flatten, mem-occurs, occurs-mem, occurs-once}

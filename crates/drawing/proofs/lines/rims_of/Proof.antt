@@ -1,6 +1,4 @@
 -- By the flag.
-use mathlib.Core.Path.{ap}
-use Rattle.drawing.specs.Walk.{rimsOf}
 use Rattle.drawing.proofs.lines.rims_of.Statement.{statement}
 use Rattle.drawing.proofs.lines.rims_of.Tie as tie
 

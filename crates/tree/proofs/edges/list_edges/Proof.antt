@@ -6,15 +6,6 @@ use Rattle.tree.proofs.Listing.{edges-listed}
 use Rattle.tree.proofs.edges.list_edges.Statement.{statement}
 use Rattle.tree.proofs.edges.list_edges.Tie as tie
 
-place-diagonals-requires : tie.Need-place-diagonals-requires
-place-diagonals-requires c κs = search needs
-
-place-outline-requires : tie.Need-place-outline-requires
-place-outline-requires c κs = search needs
-
-same-length : tie.Need-same-length
-same-length c = search needs
-
 returns : tie.Need-returns
 returns c =
     let start = c .before .before .before .before .before .before .before .before .before .before in
@@ -22,4 +13,4 @@ returns c =
     (ap edgesOf (m .0) ∙ edges-listed (start .args .n) (start .args .keys .now) (start .pre .0 .0) (start .pre .0 .1), m .1)
 
 pub list-edges-spec : {M : Type 1} → statement M
-list-edges-spec = tie.close (tie.spec place-diagonals-requires place-outline-requires same-length returns)
+list-edges-spec = tie.close (tie.spec (λ c κs. search needs) (λ c κs. search needs) (λ c. search needs) returns)

@@ -18,15 +18,6 @@ abbrev μ-loop : tie.MeasureT-loop
 loop-holds : tie.Need-loop-holds Inv-loop μ-loop
 loop-holds c = (omega arith, refl, record { there = λ j h. absurd (omega arith); free = λ k f. c .before .before .pre .1 .1 k })
 
-mul-k : tie.Need-mul-k Inv-loop μ-loop
-mul-k c = search needs
-
-shared-slice-read-k : tie.Need-shared-slice-read-k Inv-loop μ-loop
-shared-slice-read-k c = search needs
-
-low-requires : tie.Need-low-requires Inv-loop μ-loop
-low-requires c κs = search needs
-
 -- the diagonal's place
 places : (c : tie.After-low Inv-loop μ-loop) → let at-loop = c .before .before .before in let start = at-loop .before .before .before in
     (before (start .args .keys .now) (at-loop .loop .j) < start .args .n) × (placeOf (start .args .keys .now) (at-loop .loop .j) < 2 * start .args .n - 3)
@@ -46,12 +37,6 @@ mul-listed c = omega (arith, places (c .before), c .before .low .ensures, c .out
 
 slice-write-listed : tie.Need-slice-write-listed Inv-loop μ-loop
 slice-write-listed c = omega (arith, places (c .before), c .before .low .ensures, c .outline-before .ensures)
-
-add-j : tie.Need-add-j Inv-loop μ-loop
-add-j c = search needs
-
-loop-less : tie.Need-loop-less Inv-loop μ-loop
-loop-less c = search needs
 
 loop-again : tie.Need-loop-again Inv-loop μ-loop
 loop-again c =
@@ -75,4 +60,6 @@ returns c =
     rw (← e) (c .before .loop .inv .2)
 
 pub place-diagonals-spec : {M : Type 1} → statement M
-place-diagonals-spec = tie.close (tie.spec Inv-loop μ-loop loop-holds mul-k shared-slice-read-k low-requires outline-before-requires add-listed mul-listed slice-write-listed add-j loop-less loop-again same-length returns)
+place-diagonals-spec =
+    tie.close (tie.spec Inv-loop μ-loop loop-holds (λ c. search needs) (λ c. search needs) (λ c κs. search needs) outline-before-requires add-listed mul-listed slice-write-listed (λ c. search needs)
+    (λ c. search needs) loop-again same-length returns)

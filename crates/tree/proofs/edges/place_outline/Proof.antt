@@ -21,26 +21,14 @@ add-size c = let start = c .before .before in omega (arith, count (start .args .
 loop-holds : tie.Need-loop-holds Inv-loop μ-loop
 loop-holds c = let start = c .before .before in (omega arith, refl, omega (arith, count (start .args .keys .now) (start .pre .0 .0) (start .pre .0 .1)), filling-begins _ _ _)
 
-mul-y : tie.Need-mul-y Inv-loop μ-loop
-mul-y c = omega arith
-
 slice-read-y : tie.Need-slice-read-y Inv-loop μ-loop
 slice-read-y c = omega (arith, c .before .before .loop .inv .3 .merging .kept)
 
 outline-at-requires : tie.Need-outline-at-requires Inv-loop μ-loop
 outline-at-requires c κs = omega (arith, c .before .before .loop .inv .3 .merging .both)
 
-or-else-requires : tie.Need-or-else-requires Inv-loop μ-loop
-or-else-requires c κs = search needs
-
-mul-listed : tie.Need-mul-listed Inv-loop μ-loop
-mul-listed c = omega arith
-
 slice-write-listed : tie.Need-slice-write-listed Inv-loop μ-loop
 slice-write-listed c = omega (arith, c .before .before .before .before .loop .inv .3 .merging .kept)
-
-is-free-requires : tie.Need-is-free-requires Inv-loop μ-loop
-is-free-requires c κs = search needs
 
 -- the next edge
 turn : (c : tie.After-is-free Inv-loop μ-loop) → let at-loop = c .before .before .before .before .before in let start = at-loop .before .before .before in
@@ -62,12 +50,6 @@ turn c =
 add-i : tie.Need-add-i Inv-loop μ-loop
 add-i c = omega (arith, turn c .merging .both)
 
-add-k : tie.Need-add-k Inv-loop μ-loop
-add-k c = omega arith
-
-loop-less : tie.Need-loop-less Inv-loop μ-loop
-loop-less c = omega arith
-
 loop-again : tie.Need-loop-again Inv-loop μ-loop
 loop-again c = let at-loop = c .before .before .before .before .before in (omega arith, at-loop .loop .inv .1, at-loop .loop .inv .2, turn c)
 
@@ -84,4 +66,6 @@ returns c =
     (rw (← e) (merged (F .merging) (omega (arith, outline-count n))), λ j h. F .kept j (omega arith) ∙ none-behind keys (start .pre .0 .0) (start .pre .0 .1) (start .pre .1 .1) j h)
 
 pub place-outline-spec : {M : Type 1} → statement M
-place-outline-spec = tie.close (tie.spec Inv-loop μ-loop add-size loop-holds mul-y slice-read-y outline-at-requires or-else-requires mul-listed slice-write-listed is-free-requires add-i add-k loop-less loop-again same-length returns)
+place-outline-spec =
+    tie.close (tie.spec Inv-loop μ-loop add-size loop-holds (λ c. omega arith) slice-read-y outline-at-requires (λ c κs. search needs) (λ c. omega arith) slice-write-listed (λ c κs. search needs)
+    add-i (λ c. omega arith) (λ c. omega arith) loop-again same-length returns)

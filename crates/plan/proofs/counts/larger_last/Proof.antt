@@ -2,23 +2,8 @@
 use mathlib.Core.Logic.{inl, inr}
 use borrow.Author.Needs.{needs}
 use Rattle.plan.proofs.Counting.{fork-is}
-use Rattle.plan.proofs.counts.by_size.Statement.{statement}
-use Rattle.plan.proofs.counts.by_size.Tie as tie
-
-adds-requires : tie.Need-adds-requires
-adds-requires c κs = search needs
-
-at-gate-requires : tie.Need-at-gate-requires
-at-gate-requires c κs = search needs
-
-adds-requires-2 : tie.Need-adds-requires-2
-adds-requires-2 c κs = search needs
-
-sub-if1 : tie.Need-sub-if1
-sub-if1 c = search needs
-
-sub-if1-2 : tie.Need-sub-if1-2
-sub-if1-2 c = search needs
+use Rattle.plan.proofs.counts.larger_last.Statement.{statement}
+use Rattle.plan.proofs.counts.larger_last.Tie as tie
 
 returns : tie.Need-returns
 returns c =
@@ -32,5 +17,5 @@ returns-2 c =
     let start = at-adds2 .before .before .before in
     inl (fork-is (start .args .role) (start .args .s) _ _ (at-adds2 .before .before .adds .ensures) (at-adds2 .before .at-gate .ensures) (at-adds2 .adds2 .ensures))
 
-pub by-size-spec : {M : Type 1} → statement M
-by-size-spec = tie.close (tie.spec adds-requires at-gate-requires adds-requires-2 sub-if1 sub-if1-2 returns returns-2)
+pub larger-last-spec : {M : Type 1} → statement M
+larger-last-spec = tie.close (tie.spec (λ c κs. search needs) (λ c κs. search needs) (λ c κs. search needs) (λ c. search needs) (λ c. search needs) returns returns-2)
