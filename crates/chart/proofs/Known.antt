@@ -12,7 +12,7 @@ use Rattle.polygon.specs.Tree.{span, chordsAt, treeOf, grow, far, farther, near
 use Rattle.umbrella.specs.Plan.{fold}
 use Rattle.umbrella.specs.Numbers.{ud}
 use Rattle.umbrella.specs.Best.{best, umbrella, leftAt, rightAt, stemAt, over-node}
-use Rattle.umbrella.proofs.Known.{three, six, seven}
+use Rattle.umbrella.proofs.Known.{three, hexagon, seven}
 use Rattle.chart.specs.Places.{cols, rows}
 use Rattle.polygon.specs.Edges.{edges, edgesAt, edgesPast}
 use Rattle.chart.specs.Chart.{Bar, barsOf, meets?, first, last, stroke, layout, chart, chartOf}
@@ -44,7 +44,7 @@ pub record Known : Type 0 where
   -- "n = 5, (1,4) (1,3): 0: 0, 0-0; 1: 2, 0-4; 2: 1, 4-4; 3: 1, 2-3; 4: 0, 1-4."
   pub five-right-bars : barsOf (chartOf fiveRight) ≡ bar 0 0 0 ∷ bar 2 0 4 ∷ bar 1 4 4 ∷ bar 1 2 3 ∷ bar 0 1 4 ∷ []
   -- "n = 6, (0,2) (2,4) (0,4): 1 level, 1 stem, 6 columns."
-  pub six-columns : chartOf six .columns ≡ 6
+  pub six-columns : chartOf hexagon .columns ≡ 6
   -- "n = 7, (0,5) (1,5) (1,3) (3,5): 2 levels, 2 umbrellas, no stem, 7 columns."
   pub seven-columns : chartOf seven .columns ≡ 7
 

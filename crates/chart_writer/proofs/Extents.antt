@@ -12,7 +12,7 @@ use Rattle.polygon.specs.Lists.{choose}
 use Rattle.polygon.specs.Polygon.{Edge}
 use Rattle.polygon.proofs.Lists.{choose-yes, choose-no}
 use Rattle.keys.specs.Keys.{edgeOf}
-use Rattle.tree.specs.Shows.{edgeAt}
+use Rattle.tree.specs.Table.{edgeAt}
 use Rattle.chart.specs.Chart.{Meets, meets?, first, last}
 use Rattle.chart_writer.specs.Tables.{Uprights, Filled, Spans}
 use Rattle.chart_writer.proofs.Placing.{stored}

@@ -13,7 +13,7 @@ use Rattle.polygon.proofs.Lists.{choose-yes, choose-no}
 use Rattle.polygon.proofs.Sort.{distinct-of}
 use Rattle.keys.specs.Keys.{edgeOf, edgesOf}
 use Rattle.keys.proofs.Crosses.{all-at, at-all}
-use Rattle.tree.specs.Shows.{edgeAt}
+use Rattle.tree.specs.Table.{edgeAt}
 use Rattle.chart.specs.Chart.{upright, level, stroke}
 use Rattle.chart_writer.specs.Tables.{Edges, Among, column, strokeOf, mapByte}
 

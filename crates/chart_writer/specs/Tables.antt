@@ -8,7 +8,7 @@ use Rattle.polygon.specs.Lists.{choose, below}
 use Rattle.polygon.specs.Polygon.{Edge, Ascending}
 use Rattle.codec.specs.Numbers.{bytes16}
 use Rattle.keys.specs.Keys.{edgeOf, edgesOf}
-use Rattle.tree.specs.Shows.{edgeAt}
+use Rattle.tree.specs.Table.{edgeAt}
 use Rattle.chart.specs.Chart.{Bar, Stroke, upright, level, first, last}
 use Rattle.chart.specs.Bytes.{barBytes, strokeBytes}
 

@@ -3,7 +3,7 @@ ghost use mathlib.Core.Path.{_≡_};
 ghost use mathlib.Core.List.{map};
 ghost use Prim.Native.Nat.{ℕ, _<_, _≤_};
 ghost use lib.ListN.{length, getD};
-ghost use Rattle.tree.specs.Shows.{edgeAt};
+ghost use Rattle.tree.specs.Table.{edgeAt};
 ghost use Rattle.chart.specs.Chart.{first, last};
 ghost use Rattle.chart_writer.specs.Tables.{Uprights, Filled, Columns, Spans};
 use keys::high;

@@ -11,7 +11,7 @@ use Rattle.polygon.proofs.Edges.{edges-ascending}
 use Rattle.umbrella.specs.Plan.{Plan, levels}
 use Rattle.umbrella.specs.Best.{best}
 use Rattle.umbrella.proofs.Theorems.{umbrellas-bound}
-use Rattle.tree.specs.declared.Piece.{Piece}
+use Rattle.tree.specs.declared.Root.{Root}
 use Rattle.tree.proofs.Whole.{keyed}
 use Rattle.levels.specs.Numbered.{Filled}
 use Rattle.chart.specs.Places.{cols, rows}
@@ -19,7 +19,7 @@ use Rattle.chart.specs.Chart.{layout, chart}
 use Rattle.chart.specs.Bytes.{bytesOf}
 use Rattle.chart.proofs.Width.{width}
 use Rattle.chart_writer.specs.Tables.{Sizes, Edges, Among, Laid}
-use Rattle.drawing.specs.Placed.{Placed}
+use Rattle.drawing.specs.Located.{Located}
 use Rattle.drawing.specs.declared.Size.{Size}
 use Rattle.drawing.proofs.Whole.{sized}
 
@@ -28,7 +28,7 @@ sizes : {t : Tree} (p : Plan t) → 2 ≤ span t → span t ≤ 1023 → (1 ≤ 
 sizes {t} p h k = omega (arith, width p 0 (span t), umbrellas-bound p)
 
 -- a part drawn: what its writer asks for, and the chart that comes of it
-module _ {n : ℕ} {t : Tree} {tr ds : List ℕ} {p : Piece} (F : Filled n t tr ds p) (least : 3 ≤ n) {columns ranks : List ℕ} {s : Size} (P : Placed n t tr columns ranks s) where
+module _ {n : ℕ} {t : Tree} {tr ds : List ℕ} {p : Root} (F : Filled n t tr ds p) (least : 3 ≤ n) {columns ranks : List ℕ} {s : Size} (P : Located n t tr columns ranks s) where
   last : n - 1 ≡ span t
   last = omega (arith, sized F)
 

@@ -30,7 +30,7 @@ use sheet::Head;
 use sheet::Read;
 use sheet::reader::read_sheet;
 use tree::PLACES;
-use tree::Piece;
+use tree::Root;
 
 pub mod line;
 pub mod program;
@@ -52,7 +52,7 @@ fn write_part(
     n: usize,
     tree: &[u32; PLACES],
     depths: &[u16; NUMBERS],
-    p: Piece,
+    p: Root,
     out: &mut [u8],
 ) -> Charted
     requires least { ⌜ 3 ≤ n ⌝ }

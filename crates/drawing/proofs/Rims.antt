@@ -13,30 +13,30 @@ use Rattle.umbrella.specs.Numbers.{ud}
 use Rattle.umbrella.specs.declared.roles.Role.{Role}
 use Rattle.umbrella.specs.declared.roles.Role.the-variants.{Hung, LeftRim, RightRim}
 use Rattle.umbrella.specs.Roles.{isHung}
-use Rattle.tree.specs.declared.Piece.{Piece}
+use Rattle.tree.specs.declared.Root.{Root}
 use Rattle.tree.specs.declared.Two.{Two}
-use Rattle.tree.specs.Shows.{apexAt, beyond}
+use Rattle.tree.specs.Table.{apexAt, beyond}
 use Rattle.umbrella.proofs.Wide.{nine}
 use Rattle.tree.proofs.Pieces.{closed, ends}
-use Rattle.levels.specs.Numbered.{Known}
-use Rattle.levels.proofs.Knowing.{KnownParts, known-parts}
+use Rattle.levels.specs.Numbered.{Tabled}
+use Rattle.levels.proofs.Knowing.{TabledParts, tabled-parts}
 use Rattle.drawing.specs.declared.lines.Line.{Line}
 use Rattle.drawing.specs.declared.lines.Way.{Way}
 use Rattle.drawing.specs.declared.lines.Rims.{Rims}
 use Rattle.drawing.specs.Columns.{columns}
 use Rattle.drawing.specs.Lines.{onLine, farLine, nearLine, ranks}
-use Rattle.drawing.specs.Walk.{rimsOf, lay, Walked, Room}
-use Rattle.drawing.proofs.Orders.{lay-none, hung-side, rims}
+use Rattle.drawing.specs.Walk.{rimsOf, turnIf, Walked, Room}
+use Rattle.drawing.proofs.Orders.{turn-if-none, hung-side, rims}
 use Rattle.drawing.proofs.OnLines.{hung-ranks}
 use Rattle.drawing.proofs.Walking.{none, seq, same, left-then-right, right-then-left, ranks-length}
 use Rattle.drawing.proofs.Following.{walked-columns, walked-rows, walked-end}
 
 -- nothing is drawn of a piece that is empty
-pub hung-empty : {tr ds : List ℕ} {p : Piece} {w : Way} {t : Tree} (at : ℕ) (cols rows : List ℕ) → w .role ≡ Hung → Known tr ds (p .e) (p .u) (p .v) t → p .v ≤ p .u + 1 → Walked tr p w t at cols rows cols rows at
+pub hung-empty : {tr ds : List ℕ} {p : Root} {w : Way} {t : Tree} (at : ℕ) (cols rows : List ℕ) → w .role ≡ Hung → Tabled tr ds (p .e) (p .u) (p .v) t → p .v ≤ p .u + 1 → Walked tr p w t at cols rows cols rows at
 unfolding ranks
 hung-empty {tr} {p = p} {w} {t} at cols rows e k h =
     let q : t ≡ leaf = closed (k .shows) h in
-    let f : lay (w .turned) (columns (w .role) (w .d) t (p .u) (p .v)) ≡ [] = ap (λ (r : Role). lay (w .turned) (columns r (w .d) t (p .u) (p .v))) e ∙ (ap (lay (w .turned)) (hung-side (w .d) t (p .u) (p .v) q) ∙ lay-none (w .turned)) in
+    let f : turnIf (w .turned) (columns (w .role) (w .d) t (p .u) (p .v)) ≡ [] = ap (λ (r : Role). turnIf (w .turned) (columns r (w .d) t (p .u) (p .v))) e ∙ (ap (turnIf (w .turned)) (hung-side (w .d) t (p .u) (p .v) q) ∙ turn-if-none (w .turned)) in
     record { drawn = same (sym f) (none at cols); ranked = rw q }
 
 -- the ways of its rims
@@ -44,11 +44,11 @@ abbrev pub rimWay : Role → Way → ℕ → Line → Line → Way
 rimWay r w n far near = record { role = r; turned = w .turned; d = n - 1; far = far; near = near }
 
 -- the two rims in the order of their columns; in rows₁ the row of the third corner is stored
-pub record RimPair (tr ds : List ℕ) (p : Piece) (w : Way) (t : Tree) (at : ℕ) (cols rows rows₁ : List ℕ) (n : ℕ) (far near : Line) (r : Rims) : Type 0 where
+pub record RimPair (tr ds : List ℕ) (p : Root) (w : Way) (t : Tree) (at : ℕ) (cols rows rows₁ : List ℕ) (n : ℕ) (far near : Line) (r : Rims) : Type 0 where
   pub first : Tree
   pub second : Tree
-  pub known-first : Known tr ds (r .first .e) (r .first .u) (r .first .v) first
-  pub known-second : Known tr ds (r .second .e) (r .second .u) (r .second .v) second
+  pub known-first : Tabled tr ds (r .first .e) (r .first .u) (r .first .v) first
+  pub known-second : Tabled tr ds (r .second .e) (r .second .u) (r .second .v) second
   pub narrow-first : r .first .v - r .first .u < p .v - p .u
   pub narrow-second : r .second .v - r .second .u < p .v - p .u
   pub not-hung-first : isHung (r .role) ≡ false
@@ -59,19 +59,19 @@ pub record RimPair (tr ds : List ℕ) (p : Piece) (w : Way) (t : Tree) (at : ℕ
       → Walked tr (r .second) (rimWay (r .other) w n far near) second m cols₁ rows₂ cols₂ rows₃ q → Walked tr p w t at cols rows cols₂ rows₃ q
 
 -- the columns of two rims, turned or not
-turned-both : {b : Bool} (xs ys : List Edge) → b ≡ true → lay b (xs ++ ys) ≡ lay b ys ++ lay b xs
+turned-both : {b : Bool} (xs ys : List Edge) → b ≡ true → turnIf b (xs ++ ys) ≡ turnIf b ys ++ turnIf b xs
 turned-both xs ys e = rw e (reverse-append xs ys)
 
-kept-both : {b : Bool} (xs ys : List Edge) → b ≡ false → lay b (xs ++ ys) ≡ lay b xs ++ lay b ys
+kept-both : {b : Bool} (xs ys : List Edge) → b ≡ false → turnIf b (xs ++ ys) ≡ turnIf b xs ++ turnIf b ys
 kept-both xs ys e = rw e
 
 on-line-small : (down : Bool) (base r : ℕ) → onLine down base r ≤ base + r
 on-line-small true base r = omega arith
 on-line-small false base r = omega arith
 
-module _ {tr ds cols rows : List ℕ} {p : Piece} {w : Way} {t : Tree} {at n : ℕ} (k : Known tr ds (p .e) (p .u) (p .v) t) (apart : p .u + 1 < p .v) (R : Room p w at cols rows) (hung : w .role ≡ Hung) (levels-are : n ≡ ud t) where
-  K : KnownParts tr ds (p .e) (p .u) (p .v) t
-  K = known-parts k apart
+module _ {tr ds cols rows : List ℕ} {p : Root} {w : Way} {t : Tree} {at n : ℕ} (k : Tabled tr ds (p .e) (p .u) (p .v) t) (apart : p .u + 1 < p .v) (R : Room p w at cols rows) (hung : w .role ≡ Hung) (levels-are : n ≡ ud t) where
+  K : TabledParts tr ds (p .e) (p .u) (p .v) t
+  K = tabled-parts k apart
 
   abbrev l : Tree
   l = K .parts .l
@@ -95,7 +95,7 @@ module _ {tr ds cols rows : List ℕ} {p : Piece} {w : Way} {t : Tree} {at n : �
   few = omega (arith, levels-are, nine t (omega (arith, K .parts, ends (k .shows))))
 
   -- there is room for a rim
-  room-at : (y : Piece) (role : Role) (j : ℕ) (cols₁ rows₂ : List ℕ) → y .v - y .u < p .v - p .u → j + 2 * (y .v - y .u) ≤ 2048 → length cols₁ ≡ 2048 → length rows₂ ≡ 1024 → Room y (rimWay role w n far near) j cols₁ rows₂
+  room-at : (y : Root) (role : Role) (j : ℕ) (cols₁ rows₂ : List ℕ) → y .v - y .u < p .v - p .u → j + 2 * (y .v - y .u) ≤ 2048 → length cols₁ ≡ 2048 → length rows₂ ≡ 1024 → Room y (rimWay role w n far near) j cols₁ rows₂
   room-at y role j cols₁ rows₂ a b e f =
       let g : onLine (w .far .down) (w .far .base) (2 * n) ≤ w .far .base + 2 * n = on-line-small (w .far .down) (w .far .base) (2 * n) in
       let h : onLine (w .far .down) (w .far .base) 1 ≤ w .far .base + 1 = on-line-small (w .far .down) (w .far .base) 1 in
@@ -115,10 +115,10 @@ module _ {tr ds cols rows : List ℕ} {p : Piece} {w : Way} {t : Tree} {at n : �
   middle = omega (arith, ranks-length l LeftRim (n - 1) far near, K .parts .middle)
 
   -- the rims in one order: the columns of the first and then those of the second, and the rows of both with that of the third corner, are those of the piece
-  in-order : (z : Rims) {t₁ t₂ : Tree} → Known tr ds (z .first .e) (z .first .u) (z .first .v) t₁ → Known tr ds (z .second .e) (z .second .u) (z .second .v) t₂
+  in-order : (z : Rims) {t₁ t₂ : Tree} → Tabled tr ds (z .first .e) (z .first .u) (z .first .v) t₁ → Tabled tr ds (z .second .e) (z .second .u) (z .second .v) t₂
       → (z .first .u < z .first .v) × (z .second .u < z .second .v) × ((z .first .v - z .first .u) + (z .second .v - z .second .u) ≡ p .v - p .u)
       → isHung (z .role) ≡ false → isHung (z .other) ≡ false
-      → lay (w .turned) (columns (w .role) (w .d) t (p .u) (p .v)) ≡ lay (w .turned) (columns (z .role) (n - 1) t₁ (z .first .u) (z .first .v)) ++ lay (w .turned) (columns (z .other) (n - 1) t₂ (z .second .u) (z .second .v))
+      → turnIf (w .turned) (columns (w .role) (w .d) t (p .u) (p .v)) ≡ turnIf (w .turned) (columns (z .role) (n - 1) t₁ (z .first .u) (z .first .v)) ++ turnIf (w .turned) (columns (z .other) (n - 1) t₂ (z .second .u) (z .second .v))
       → sets (sets rows₁ (z .first .u + 1) (ranks (z .role) (n - 1) far near t₁)) (z .second .u + 1) (ranks (z .other) (n - 1) far near t₂) ≡ sets rows (p .u + 1) (ranks (w .role) (w .d) (w .far) (w .near) t)
       → RimPair tr ds p w t at cols rows rows₁ n far near z
   in-order z {t₁} {t₂} k₁ k₂ wide h₁ h₂ both-columns both-rows = record {
@@ -145,11 +145,11 @@ module _ {tr ds cols rows : List ℕ} {p : Piece} {w : Way} {t : Tree} {at n : �
   pair : (b : Bool) → w .turned ≡ b → RimPair tr ds p w t at cols rows rows₁ n far near (rimsOf (beyond tr p) b)
   pair true e =
       in-order (rimsOf (beyond tr p) true) (K .known-r) (K .known-l) (omega (arith, K .parts)) refl refl
-      (ap (lay (w .turned)) columns-are ∙ turned-both _ _ e)
+      (ap (turnIf (w .turned)) columns-are ∙ turned-both _ _ e)
       (right-then-left (p .u) c (far .base) (ranks LeftRim (n - 1) far near l) (ranks RightRim (n - 1) far near r) rows middle ∙ ap (sets rows (p .u + 1)) (sym rows-are))
   pair false e =
       in-order (rimsOf (beyond tr p) false) (K .known-l) (K .known-r) (omega (arith, K .parts)) refl refl
-      (ap (lay (w .turned)) columns-are ∙ kept-both _ _ e)
+      (ap (turnIf (w .turned)) columns-are ∙ kept-both _ _ e)
       (left-then-right (p .u) c (far .base) (ranks LeftRim (n - 1) far near l) (ranks RightRim (n - 1) far near r) rows middle ∙ ap (sets rows (p .u + 1)) (sym rows-are))
 
   -- as the code has it

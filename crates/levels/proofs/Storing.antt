@@ -13,7 +13,7 @@ use Rattle.umbrella.specs.Numbers.{ud}
 use Rattle.umbrella.specs.Best.{best}
 use Rattle.umbrella.proofs.Inequalities.{inequalities}
 use Rattle.umbrella.proofs.Theorems.{computed-has, umbrellas-bound}
-use Rattle.tree.specs.Shows.{Shows, side, triangle}
+use Rattle.tree.specs.Table.{TreeAt, side, triangle}
 use Rattle.tree.proofs.Pieces.{one-piece, inside}
 use Rattle.levels.specs.declared.Six.{Six}
 use Rattle.levels.specs.Numbered.{six, join, sixAt, withSix, Deep, flat, deep, Grows, Leaves}
@@ -96,7 +96,7 @@ module _ {tr ds : List ℕ} where
   deep-root (flat h) = h
   deep-root (deep h x y) = h
 
-  pub deep-grows : {ds′ : List ℕ} {e u v : ℕ} {t : Tree} → Grows tr ds ds′ → Shows tr e u v t → Deep tr ds e t → Deep tr ds′ e t
+  pub deep-grows : {ds′ : List ℕ} {e u v : ℕ} {t : Tree} → Grows tr ds ds′ → TreeAt tr e u v t → Deep tr ds e t → Deep tr ds′ e t
   deep-grows g (side {e} {u} {v} h k p q) (flat d) = flat (g .right e u v leaf (side h k p q) d)
   deep-grows g (triangle {e} {u} {v} {l} {r} i h k q x y) (deep d a b) = deep (g .right e u v (node l r) (triangle {l = l} {r = r} i h k q x y) d) (deep-grows g x a) (deep-grows g y b)
 
@@ -110,10 +110,10 @@ module _ {tr ds : List ℕ} where
   grows-self = record { right = λ e u v t s h. h }
 
 -- a place shows one piece only, so storing its numbers harms none that are right
-pub store-grows : {tr : List ℕ} {e u v : ℕ} {t : Tree} (ds : List ℕ) → length ds ≡ 12270 → Shows tr e u v t → Grows tr ds (withSix ds e (six t))
+pub store-grows : {tr : List ℕ} {e u v : ℕ} {t : Tree} (ds : List ℕ) → length ds ≡ 12270 → TreeAt tr e u v t → Grows tr ds (withSix ds e (six t))
 store-grows {tr} {e} {t = t} ds room s = record { right = λ f u′ v′ t′ s′ h. go f u′ v′ t′ s′ h (ℕ-discrete f e) }
   where
-    go : (f u′ v′ : ℕ) (t′ : Tree) → Shows tr f u′ v′ t′ → sixAt ds f ≡ six t′ → Dec (f ≡ e) → sixAt (withSix ds e (six t)) f ≡ six t′
+    go : (f u′ v′ : ℕ) (t′ : Tree) → TreeAt tr f u′ v′ t′ → sixAt ds f ≡ six t′ → Dec (f ≡ e) → sixAt (withSix ds e (six t)) f ≡ six t′
     go f u′ v′ t′ s′ h (yes q) = ap (sixAt (withSix ds e (six t))) q ∙ (six-same ds e (six t) (omega (arith, inside s)) ∙ ap six (one-piece s (rw q at s′)))
     go f u′ v′ t′ s′ h (no q) = six-other ds e (six t) f q ∙ h
 

@@ -13,7 +13,7 @@ use Rattle.polygon.proofs.Lists.{all-mem, all-of}
 use Rattle.polygon.proofs.Sort.{sort-all, sort-sub, sort-mem, sort-ascends}
 use Rattle.codec.specs.Numbers.{get16}
 use Rattle.keys.specs.Keys.{edgesOf}
-use Rattle.keys.specs.Sort.{ascends, sortKeys, Within}
+use Rattle.keys.specs.Sort.{ascends, sortKeys, FewBits}
 use Rattle.keys.specs.Tops.{Diagonals}
 use Rattle.keys.proofs.Insert.{length-sort}
 use Rattle.keys.proofs.InOrder.{sort-edges, ascends-edges, edges-ascend}
@@ -37,7 +37,7 @@ none-cross-sub : (xs ys : List Edge) → Sub xs ys → NoneCross ys → NoneCros
 none-cross-sub xs ys f N = all-of xs (λ p m. all-of xs (λ q k. all-mem (all-mem N (f p m)) (f q k)))
 
 -- keys of diagonals are small
-pub small-all : (n : ℕ) (ks : List ℕ) → n ≤ 1024 → All (Diagonal n) (edgesOf ks) → Within 20 ks
+pub small-all : (n : ℕ) (ks : List ℕ) → n ≤ 1024 → All (Diagonal n) (edgesOf ks) → FewBits 20 ks
 small-all n [] h a = all-nil
 small-all n (k ∷ ks) h (all-cons d a) = all-cons {x = k} (omega (arith, d .forth, d .corner)) (small-all n ks h a)
 

@@ -1,5 +1,5 @@
 pub mod Pieces
-pub mod ShowsTree
+pub mod Table
 pub mod Lasting
 pub mod Outline
 pub mod Listing

@@ -11,9 +11,9 @@ use Rattle.polygon.specs.Tree.{Tree, span, treeOf}
 use Rattle.polygon.proofs.Edges.{edges-in, edges-count}
 use Rattle.polygon.proofs.TreeTheorem.{tree-of}
 use Rattle.keys.specs.Keys.{edgeOf, edgesOf}
-use Rattle.tree.specs.Shows.{edgeAt, Lasts, Whole}
+use Rattle.tree.specs.Table.{edgeAt, Lasts, Whole}
 use Rattle.tree.proofs.Outline.{edge-at}
-use Rattle.tree.proofs.ShowsTree.{shows-all}
+use Rattle.tree.proofs.Table.{shows-all}
 
 -- the places before 2,048 are kept: those of the first m edges, and those behind them
 pub kept-front : (m : ℕ) (l o : List ℕ) → m ≤ 2048 → take 2048 l ≡ take 2048 o → take m l ≡ take m o

@@ -8,7 +8,7 @@ use Rattle.polygon.specs.Edges.{edges}
 use Rattle.polygon.specs.Tree.{span, treeOf}
 use Rattle.polygon.proofs.TreeTheorem.{tree-of}
 use Rattle.keys.specs.Keys.{edgesOf}
-use Rattle.tree.specs.Shows.{Whole}
+use Rattle.tree.specs.Table.{Whole}
 use Rattle.tree.proofs.Pieces.{inside}
 use Rattle.tree.proofs.Whole.{keyed, whole, kept-front, kept-rest}
 use Rattle.tree.proofs.build.Statement.{statement}

@@ -6,7 +6,7 @@ use borrow.Author.Needs.{needs}
 use native.Mathlib.Omega.{arith}
 use lib.ListN.{length, take, getD, length-set}
 use lib.Seq.{take-set-le, getD-take}
-use Rattle.tree.specs.Shows.{Lasts}
+use Rattle.tree.specs.Table.{Lasts}
 use Rattle.tree.proofs.Lasting.{lasts-next}
 use Rattle.tree.proofs.place_lasts.Statement.{statement}
 use Rattle.tree.proofs.place_lasts.Tie as tie

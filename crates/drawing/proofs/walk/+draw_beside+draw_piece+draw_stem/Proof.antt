@@ -10,9 +10,9 @@ use Rattle.umbrella.proofs.Wide.{nine}
 use Rattle.umbrella.proofs.Induction.{only-hung}
 use Rattle.tree.proofs.Pieces.{opened, corners, ends, inside, one-piece}
 use Rattle.levels.specs.declared.Six.{Six}
-use Rattle.levels.specs.Numbered.{Known}
+use Rattle.levels.specs.Numbered.{Tabled}
 use Rattle.levels.proofs.Storing.{deep-root}
-use Rattle.levels.proofs.Knowing.{known-parts}
+use Rattle.levels.proofs.Knowing.{tabled-parts}
 use Rattle.drawing.specs.Walk.{differ}
 use Rattle.drawing.proofs.Following.{Along, along-begins, along-ends, walked-turned, walked-kept, Onward, onward-is}
 use Rattle.drawing.proofs.Rims.{hung-empty, RimPair, rim-pair}
@@ -118,7 +118,7 @@ tall : (t : ℕ) (c : draw-piece-lts.After-numbers (draw-piece-Cs t) (draw-piece
 tall t c = ap (λ (x : Six). x .ud) (c .numbers .ensures ∙ deep-root (c .before .before .before .before .before .before .pre .1 .0 .1 .deep))
 
 high : (t : ℕ) (c : draw-piece-lts.Else1 (draw-piece-Cs t) (draw-piece-at t) draw-piece.Post) → 1 ≤ ud (c .before .before .before .pre .1 .0 .0)
-high t c = let K = known-parts (c .before .before .before .pre .1 .0 .1) (c .if1 .left) in rw (K .parts .is) (K .tall)
+high t c = let K = tabled-parts (c .before .before .before .pre .1 .0 .1) (c .if1 .left) in rw (K .parts .is) (K .tall)
 
 third : (t : ℕ) (c : draw-piece-lts.After-open (draw-piece-Cs t) (draw-piece-at t) draw-piece.Post) → c .«open» .result .left .v < 1024
 third t c = let d = opened (c .before .before .before .before .pre .1 .0 .1 .shows) (c .before .if1 .left) in rw (c .«open» .ensures) (omega (arith, d))
@@ -131,7 +131,7 @@ abbrev lines : (t : ℕ) → draw-piece-lts.After-rims-of (draw-piece-Cs t) (dra
 lines t c = c .before .before .before
 
 pair : (t : ℕ) (c : draw-piece-lts.After-rims-of (draw-piece-Cs t) (draw-piece-at t) draw-piece.Post) (x : Tree) → let args = opens t c .before .before .before .before .args in let far = lines t c .before .far-line .result in
-    Known (args .tree .now) (args .depths .now) (args .p .e) (args .p .u) (args .p .v) x
+    Tabled (args .tree .now) (args .depths .now) (args .p .e) (args .p .u) (args .p .v) x
     → RimPair (args .tree .now) (args .depths .now) (args .p) (args .w) x (args .at) (args .columns .now) (args .rows .now) (set (args .rows .now) (opens t c .«open» .result .left .v) (far .base))
     (lines t c .before .before .before .numbers .result .ud) far (lines t c .near-line .result) (c .rims-of .result)
 pair t c x k =

@@ -3,14 +3,14 @@ use mathlib.Core.Path.{sym, _∙_, ap}
 use borrow.Author.Needs.{needs}
 use native.Mathlib.Omega.{arith}
 use Rattle.levels.specs.declared.Six.{Six}
-use Rattle.levels.proofs.Knowing.{KnownParts, known-parts}
+use Rattle.levels.proofs.Knowing.{TabledParts, tabled-parts}
 use Rattle.plan.proofs.Counting.{NumbersRead, fork-low, fork-both}
 use Rattle.plan.proofs.counts.triangle.Statement.{statement}
 use Rattle.plan.proofs.counts.triangle.Tie as tie
 
 -- what the tables hold of the piece
-known : (c : tie.Start) → let p = c .args .x .piece in KnownParts (c .args .tree .now) (c .args .depths .now) (p .e) (p .u) (p .v) (c .pre .0 .0)
-known c = known-parts (c .pre .0 .1) (c .pre .1)
+known : (c : tie.Start) → let p = c .args .x .piece in TabledParts (c .args .tree .now) (c .args .depths .now) (p .e) (p .u) (p .v) (c .pre .0 .0)
+known c = tabled-parts (c .pre .0 .1) (c .pre .1)
 
 numbers-requires : tie.Need-numbers-requires
 numbers-requires c κs = rw (c .before .«open» .ensures) (omega (arith, known (c .before .before .before) .parts))
@@ -37,7 +37,7 @@ read c = record { two-is = opens c .«open» .ensures; left-is = c .before .befo
 returns : tie.Need-returns
 returns c =
     let r = c .before .before .before .before in
-    λ t K. fork-low (read r) (known-parts K (opens r .before .before .pre .1)) (c .before .before .before .if1 .taken) (sym (c .before .before .is-hung .ensures) ∙ c .before .if2 .taken) (c .one-level .ensures)
+    λ t K. fork-low (read r) (tabled-parts K (opens r .before .before .pre .1)) (c .before .before .before .if1 .taken) (sym (c .before .before .is-hung .ensures) ∙ c .before .if2 .taken) (c .one-level .ensures)
 
 larger-last-requires : tie.Need-larger-last-requires
 larger-last-requires c κs =
@@ -48,7 +48,7 @@ larger-last-requires c κs =
 returns-2 : tie.Need-returns-2
 returns-2 c =
     let r = c .before .before .before .before in
-    λ t K. fork-both (read r) (known-parts K (opens r .before .before .pre .1)) (c .before .before .step-at .ensures) (c .before .levels-under .ensures) (c .larger-last .ensures)
+    λ t K. fork-both (read r) (tabled-parts K (opens r .before .before .pre .1)) (c .before .before .step-at .ensures) (c .before .levels-under .ensures) (c .larger-last .ensures)
 
 pub triangle-spec : {M : Type 1} → statement M
 triangle-spec =

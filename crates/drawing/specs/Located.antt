@@ -8,12 +8,12 @@ use Rattle.polygon.specs.Tree.{Tree}
 use Rattle.umbrella.specs.Plan.{levels}
 use Rattle.umbrella.specs.Best.{best}
 use Rattle.keys.specs.Keys.{edgesOf}
-use Rattle.tree.specs.Shows.{edgeAt}
+use Rattle.tree.specs.Table.{edgeAt}
 use Rattle.chart.specs.Places.{cols, rows}
 use Rattle.drawing.specs.declared.Size.{Size}
 
 -- of the part with n corners and the tree t: all its edges, the place of each column's upright among them, the row of each corner, how many columns and rows
-pub record Placed (n : ℕ) (t : Tree) (tr columns ranks : List ℕ) (s : Size) : Type 0 where
+pub record Located (n : ℕ) (t : Tree) (tr columns ranks : List ℕ) (s : Size) : Type 0 where
   pub listed : edgesOf (take (2 * n - 3) tr) ≡ edges 0 t
   pub among : (j : ℕ) → j < s .columns → getD columns j 0 < 2 * n - 3
   pub uprights : map (edgeAt tr) (take (s .columns) columns) ≡ cols (best t) 0 (n - 1)

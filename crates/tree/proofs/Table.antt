@@ -17,7 +17,7 @@ use Rattle.polygon.proofs.Lists.{all-imp}
 use Rattle.polygon.proofs.Chords.{span-pos}
 use Rattle.polygon.proofs.Edges.{at-in, past-in}
 use Rattle.keys.proofs.Crosses.{at-all}
-use Rattle.tree.specs.Shows.{edgeAt, apexAt, rightAt, Shows, side, triangle, Lasts}
+use Rattle.tree.specs.Table.{edgeAt, apexAt, rightEdge, TreeAt, side, triangle, Lasts}
 use Rattle.tree.proofs.Pieces.{at-edge}
 
 abbrev none : Edge
@@ -67,9 +67,9 @@ module _ (m : ℕ) (tr : List ℕ) (most : m ≤ 2045) (lasts : Lasts m tr) wher
   unfolding edgesAt chordsAt
   one-more u l r = length-append (edgesAt u l) ((u — (u + (span l + span r))) ∷ [])
 
-  made : {e u v c j : ℕ} {l r : Tree} → 1 ≤ e → e < 2045 → v < 1024 → edgeAt tr e ≡ u — v → apexAt tr e ≡ c → getD tr (2048 + c) 0 ≡ j → Shows tr (e - 1) u c l → Shows tr j c v r → Shows tr e u v (node l r)
+  made : {e u v c j : ℕ} {l r : Tree} → 1 ≤ e → e < 2045 → v < 1024 → edgeAt tr e ≡ u — v → apexAt tr e ≡ c → getD tr (2048 + c) 0 ≡ j → TreeAt tr (e - 1) u c l → TreeAt tr j c v r → TreeAt tr e u v (node l r)
   made {e} {v = v} {l = l} {r = r} a b k q p o x y =
-      let o′ : rightAt tr e ≡ _ = ap (λ (i : ℕ). getD tr (2048 + i) 0) p ∙ o in
+      let o′ : rightEdge tr e ≡ _ = ap (λ (i : ℕ). getD tr (2048 + i) 0) p ∙ o in
       triangle {l = l} {r = r} a b k q (rw p x) (rw (o′, p) y)
 
   -- the last edge of a corner at which all edges of a piece stand
@@ -78,7 +78,7 @@ module _ (m : ℕ) (tr : List ℕ) (most : m ≤ 2045) (lasts : Lasts m tr) wher
       let k : root p c t < m = omega (arith, s .upto, some c t) in
       subst (λ (x : ℕ). getD tr (2048 + x) 0 ≡ root p c t) e (lasts (root p c t) k (λ i h j q. omega (arith, q, e, f i (omega arith) j)))
 
-  shows : (t : Tree) (u p q : ℕ) → u + span t < 1024 → Stands p (edgesAt u t) → Stands q (edgesPast u t) → From (q + length (edgesPast u t)) (u + span t) → Shows tr (root p u t) u (u + span t) t
+  shows : (t : Tree) (u p q : ℕ) → u + span t < 1024 → Stands p (edgesAt u t) → Stands q (edgesPast u t) → From (q + length (edgesPast u t)) (u + span t) → TreeAt tr (root p u t) u (u + span t) t
   unfolding edgesAt edgesPast chordsAt span
   shows leaf u p q k s z f =
       let e : p + 1 - 1 ≡ p + 0 = omega arith in
@@ -106,7 +106,7 @@ module _ (m : ℕ) (tr : List ℕ) (most : m ≤ 2045) (lasts : Lasts m tr) wher
       (last-edge c pr r at-r (low-of (at-edge y)) past-c) (rw e′ x) (rw (← i) y)
 
   -- the tree of a whole part
-  pub shows-all : (t : Tree) → span t < 1024 → length (edges 0 t) ≡ m → ((i : ℕ) → i < length (edges 0 t) → edgeAt tr i ≡ getD (edges 0 t) i none) → Shows tr (getD tr 2048 0) 0 (0 + span t) t
+  pub shows-all : (t : Tree) → span t < 1024 → length (edges 0 t) ≡ m → ((i : ℕ) → i < length (edges 0 t) → edgeAt tr i ≡ getD (edges 0 t) i none) → TreeAt tr (getD tr 2048 0) 0 (0 + span t) t
   unfolding edges
   shows-all t k size f =
       let s : Stands 0 (edgesAt 0 t ++ edgesPast 0 t) = record { upto = omega arith; here = λ i h. ap (edgeAt tr) (zero-add i) ∙ f i h } in
