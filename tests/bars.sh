@@ -12,7 +12,7 @@ cp -r "$root/crates" "$root/crates.txt" "$work"
 echo "bars_run: $(sed -n 's/^draw: //p' "$root/crates.txt") draw io libc" >>"$work/crates.txt"
 mkdir -p "$work/crates/bars_run/src"
 cat >"$work/crates/bars_run/src/main.rt" <<'END'
-use bar_list::Bar;
+use chart::Bar;
 use codec::get16;
 use codec::put16;
 use draw::Drawn;

@@ -10,12 +10,12 @@ use Rattle.codec.specs.Numbers.{bytes16, get16}
 use Rattle.sheet.proofs.Bytes.{get16-after, get16-back}
 use Rattle.chart.specs.Chart.{Chart, barsOf, Bar}
 use Rattle.chart.specs.Bytes.{barBytes, strokeBytes, bytesOf}
-use Rattle.bar_list.specs.declared.Bar.{Bar as Record}
-use Rattle.bar_list.specs.Bars.{barAt, barsFrom, filled}
-use Rattle.bar_list.specs.OfChart.{recordOf}
+use Rattle.chart.specs.declared.Bar.{Bar as Record}
+use Rattle.bar_list.specs.Bars.{recordAt, barsFrom, filled}
+use Rattle.chart.specs.Decode.{recordOf}
 
 -- a bar's bytes behind a prefix
-bar-behind : (p q : List ℕ) (b : Bar) (i : ℕ) → length p ≡ 6 + 6 * i → barAt (p ++ (barBytes b ++ q)) i ≡ recordOf b
+bar-behind : (p q : List ℕ) (b : Bar) (i : ℕ) → length p ≡ 6 + 6 * i → recordAt (p ++ (barBytes b ++ q)) i ≡ recordOf b
 unfolding barBytes
 bar-behind p q b i e =
     let row : get16 (p ++ (barBytes b ++ q)) (6 + 6 * i) ≡ b .row = rw (sym e, ← add-zero (length p)) (get16-after p (barBytes b ++ q) 0 ∙ get16-back (b .row) []) in
@@ -36,7 +36,7 @@ bars-behind f p q k (suc m) e =
     let here : p ++ ((barBytes (f k) ++ rest) ++ q) ≡ p ++ (barBytes (f k) ++ (rest ++ q)) = ap (λ (l : List ℕ). p ++ l) (append-assoc (barBytes (f k)) rest q) in
     let next : p ++ ((barBytes (f k) ++ rest) ++ q) ≡ (p ++ barBytes (f k)) ++ (rest ++ q) = here ∙ sym (append-assoc p (barBytes (f k)) (rest ++ q)) in
     ap₂ _∷_
-    (ap (λ (l : List ℕ). barAt l k) here ∙ bar-behind p (rest ++ q) (f k) k e)
+    (ap (λ (l : List ℕ). recordAt l k) here ∙ bar-behind p (rest ++ q) (f k) k e)
     (ap (λ (l : List ℕ). barsFrom l (suc k) m) next ∙ bars-behind f (p ++ barBytes (f k)) q (suc k) m (length-append p (barBytes (f k)) ∙ (ap (λ (n : ℕ). length p + n) (bar-size (f k)) ∙ omega (arith, e))))
 
 -- The first n records are the chart's bars, and the others stay.

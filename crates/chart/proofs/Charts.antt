@@ -21,10 +21,10 @@ use Rattle.polygon.specs.Edges.{edges}
 use Rattle.chart.specs.Chart.{Stroke, level, upright, strokeEdge, stroke, layout, chart, Touching, True}
 use Rattle.chart.proofs.Lists.{mem-map}
 use Rattle.chart.proofs.Nth.{Nth, now, next, nth-mem, nth-at, nth-same}
-use Rattle.chart.proofs.Strokes.{Says, stroke-says, strokes-edges, upright-in}
+use Rattle.chart.proofs.Strokes.{StrokeSays, stroke-says, strokes-edges, upright-in}
 use Rattle.chart.proofs.Rows.{OnRow, last-row, rows-known, rows-length}
 use Rattle.chart.proofs.Flats.{flats}
-use Rattle.chart.proofs.Umbrella.{Drawn}
+use Rattle.chart.proofs.Umbrella.{PieceDrawn}
 use Rattle.chart.proofs.Draw.{draws}
 use Rattle.chart.proofs.Width.{width}
 use Rattle.chart.proofs.EachEdge.{each-drawn}
@@ -70,7 +70,7 @@ module _ {t : Tree} (p : Plan t) where
   two : (e : Edge) → Mem e (edges 0 t) → e .0 ≢ e .1
   two e m h = let b = all-mem (edges-in 0 t) m in omega arith
 
-  drawn : Drawn (span t) 0 (span t) (2 * levels p) (OnRow (span t) (rows p)) us fs
+  drawn : PieceDrawn (span t) 0 (span t) (2 * levels p) (OnRow (span t) (rows p)) us fs
   drawn =
       draws p (OnRow (span t) (rows p)) 0 (span t) (omega arith) (omega arith, refl) (omega arith, sym (last-row (rows p) (span t) (rows-length p)))
       (rows-known (rows p) (span t) (rows-length p))
@@ -102,7 +102,7 @@ module _ {t : Tree} (p : Plan t) where
   unfolding chart layout
   upright-stroke e j n = subst (λ (s : Stroke). Mem s (map (stroke 0 us) (edges 0 t))) (go (stroke-says 0 us e)) (mem-map (stroke 0 us) (upright-edge e (nth-mem n)))
     where
-      go : Says 0 us e (stroke 0 us e) → stroke 0 us e ≡ upright e j
+      go : StrokeSays 0 us e (stroke 0 us e) → stroke 0 us e ≡ upright e j
       go (inl c) = absurd (c .1 (nth-mem n))
       go (inr c) = c .1 ∙ ap (upright e) (let q : c .0 ≡ j = nth-one e (once e) (c .2) n in omega arith)
 
@@ -110,7 +110,7 @@ module _ {t : Tree} (p : Plan t) where
   unfolding chart layout occurs
   level-stroke e m = subst (λ (s : Stroke). Mem s (map (stroke 0 us) (edges 0 t))) (go (stroke-says 0 us e)) (mem-map (stroke 0 us) (occurs-mem same? e (edges 0 t) (omega (arith, counts e, mem-occurs same? e m))))
     where
-      go : Says 0 us e (stroke 0 us e) → stroke 0 us e ≡ level e
+      go : StrokeSays 0 us e (stroke 0 us e) → stroke 0 us e ≡ level e
       go (inl c) = c .0
       go (inr c) = absurd (omega (arith, counts e, mem-occurs same? e m, mem-occurs same? e (nth-mem (c .2)), single e))
 

@@ -12,8 +12,9 @@ use Rattle.sheet.proofs.Bytes.{get16-after, get16-back}
 use Rattle.chart.specs.Chart.{Bar, Stroke, upright, level, Chart, barsOf}
 use Rattle.chart.specs.Bytes.{barBytes, strokeBytes, bytesOf}
 use Rattle.chart.proofs.Sizes.{bars-count, bars-size}
-use Rattle.chart_reader.proofs.Same.{Same}
-use Rattle.chart_reader.specs.Decode.{countIn, barAt, strokeSize, shaped, strokeAt, places, behind, chartIn, Formed}
+use Rattle.chart.specs.Decode.{countIn, barAt, strokeSize, shaped, strokeAt, places, behind, chartIn}
+use Rattle.chart_reader.proofs.Same.{SameNumbers}
+use Rattle.chart_reader.specs.Formed.{Formed}
 
 -- k strokes of the bytes from a place on, and where they end
 pub record Spelled (s : List ℕ) (at k : ℕ) (ss : List Stroke) (end : ℕ) : Type 0 where
@@ -103,7 +104,7 @@ module _ (c : Chart) where
       let k : length (c .strokes) ≡ 2 * c .n - 3 = omega arith in
       rw (← front-length, ← k) (spelled (c .strokes) front)
 
-  pub decoded : length (c .strokes) + 3 ≡ 2 * c .n → Same (chartIn (bytesOf c)) c
+  pub decoded : length (c .strokes) + 3 ≡ 2 * c .n → SameNumbers (chartIn (bytesOf c)) c
   unfolding bytesOf
   decoded h = record {
     rows = get16-back (c .rows) [];

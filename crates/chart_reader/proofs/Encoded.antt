@@ -12,7 +12,8 @@ use Rattle.codec.specs.Numbers.{bytes16, get16}
 use Rattle.sheet.proofs.Bytes.{Byte, byte-at}
 use Rattle.chart.specs.Chart.{barsOf}
 use Rattle.chart.specs.Bytes.{barBytes, strokeBytes, bytesOf}
-use Rattle.chart_reader.specs.Decode.{countIn, barAt, strokeSize, shaped, strokeAt, places, behind, strokePlaces, chartIn, Formed}
+use Rattle.chart.specs.Decode.{countIn, barAt, strokeSize, shaped, strokeAt, places, behind, strokePlaces, chartIn}
+use Rattle.chart_reader.specs.Formed.{Formed}
 
 -- the strokes lie in order
 pub behind-up : (s : List ℕ) (at k : ℕ) → at ≤ behind s at k

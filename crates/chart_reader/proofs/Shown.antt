@@ -15,7 +15,7 @@ use Rattle.polygon.proofs.Triangle.{linked-up}
 use Rattle.chart.specs.Chart.{strokeEdge, Chart, chartOf, Shows}
 use Rattle.chart.proofs.Lists.{mem-map}
 use Rattle.chart.proofs.Theorems.{chart-shows, chart-stroke-count}
-use Rattle.chart_reader.specs.Rules.{sides, Named, edgesIn, diagonalsIn, PartRule, partIn}
+use Rattle.chart_reader.specs.Rules.{partSides, Named, edgesIn, diagonalsIn, PartRule, partIn}
 use Rattle.chart_reader.proofs.Sides.{side-among, sides-are, kinds, sides-full}
 
 -- what passes the last test shows a valid part
@@ -67,4 +67,4 @@ module _ (c : Chart) (p : Polygon) (v : Valid p) (S : Shows c p) where
   shows-part h = λ i. record { n = S .corners i; ds = diagonals-same i; number = sym h i }
 
   pub shows-rule : PartRule c
-  shows-rule = (all-of (sides (c .n)) (λ e m. S .edges e .1 (inl (rw (S .corners) at (all-mem (sides-are (c .n) (rw (S .corners) (v .least))) m)))), rw diagonals-same (v .triangulated .none-cross))
+  shows-rule = (all-of (partSides (c .n)) (λ e m. S .edges e .1 (inl (rw (S .corners) at (all-mem (sides-are (c .n) (rw (S .corners) (v .least))) m)))), rw diagonals-same (v .triangulated .none-cross))

@@ -4,7 +4,7 @@ use Prim.Native.Nat.{ℕ, _≤_}
 use Rattle.codec.specs.Answer.{written}
 use Rattle.sheet.specs.Sheet.{Reading}
 use Rattle.sheet.proofs.Size.{Counted, outcome-size}
-use Rattle.chart_reader.specs.Decode.{chartIn}
+use Rattle.chart.specs.Decode.{chartIn}
 use Rattle.chart_reader.specs.Reader.{chartRead}
 use Rattle.chart_reader.proofs.Verdict.{Verdict, taken, by-14, by-15, by-16, by-17, by-18, verdict}
 use Rattle.chart_reader.proofs.Shown.{rule-valid}

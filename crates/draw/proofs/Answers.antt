@@ -14,8 +14,8 @@ use Rattle.sheet.proofs.Size.{read-counted}
 use Rattle.sheet.proofs.Valid.{read-triangulated}
 use Rattle.chart.specs.Chart.{layout, chart, chartOf}
 use Rattle.chart.specs.Bytes.{bytesOf}
-use Rattle.bar_list.specs.declared.Bar.{Bar}
-use Rattle.bar_list.specs.OfChart.{barOf}
+use Rattle.chart.specs.declared.Bar.{Bar}
+use Rattle.chart.specs.Decode.{barOf}
 use Rattle.draw.specs.declared.Drawn.{Drawn}
 use Rattle.draw.specs.declared.Drawn.the-variants.{Chart, Refused}
 use Rattle.draw.specs.Answer.{charted, drawn, drawnBoth, drawnWithBars}

@@ -20,7 +20,7 @@ use Rattle.chart.specs.Places.{cols, rows}
 use Rattle.chart.specs.Chart.{layout, chart}
 use Rattle.chart.specs.Bytes.{bytesOf}
 use Rattle.chart.proofs.Width.{width}
-use Rattle.chart_writer.specs.Tables.{Keyed, Sizes, Edges, Among, Laid}
+use Rattle.chart_writer.specs.Tables.{EdgeKeys, Sizes, Edges, Among, Laid}
 use Rattle.drawing.specs.Placed.{Placed}
 use Rattle.drawing.specs.declared.Size.{Size}
 use Rattle.drawing.proofs.Whole.{sized}
@@ -54,7 +54,7 @@ module _ {n : ℕ} {t : Tree} {tr ds : List ℕ} {p : Piece} (F : Filled n t tr 
   }
 
   -- the keys are of edges of the part
-  keyed : Keyed (2 * n - 3) tr
+  keyed : EdgeKeys (2 * n - 3) tr
   keyed j h =
       let inside : All (λ e. (0 ≤ e .0) × (e .0 < e .1) × (e .1 ≤ 0 + span t)) (edgesOf (take (2 * n - 3) tr)) = rw (P .listed) (edges-in 0 t) in
       let b = edge-at (take (2 * n - 3) tr) inside j (omega (arith, length-take-le (2 * n - 3) tr (omega (arith, P .tree-kept, sized F)))) in

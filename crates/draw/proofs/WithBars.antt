@@ -13,9 +13,9 @@ use Rattle.chart.specs.Chart as chart
 use Rattle.chart.specs.Chart.{barsOf}
 use Rattle.chart.specs.Bytes.{bytesOf}
 use Rattle.chart.proofs.Sizes.{bars-count, bytes-size}
-use Rattle.bar_list.specs.declared.Bar.{Bar}
+use Rattle.chart.specs.declared.Bar.{Bar}
 use Rattle.bar_list.specs.Bars.{filled}
-use Rattle.bar_list.specs.OfChart.{recordOf, barOf}
+use Rattle.chart.specs.Decode.{recordOf, barOf}
 use Rattle.bar_list.proofs.OfChart.{bars-of-chart}
 use Rattle.draw.specs.declared.Drawn.the-variants.{Chart}
 use Rattle.draw.specs.Answer.{noDrawing, fitBoth, intoBoth}

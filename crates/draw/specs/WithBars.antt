@@ -1,9 +1,9 @@
 -- How the code answers Draw with the bar list: the number and the values of each case, with the lent bytes and the lent records at its return.
 use mathlib.Core.List.{List, map}
 use Prim.Native.Nat.{ℕ, _+_, _*_, _≤_}
-use Rattle.bar_list.specs.declared.Bar.{Bar}
+use Rattle.chart.specs.declared.Bar.{Bar}
 use Rattle.bar_list.specs.Bars.{filled}
-use Rattle.bar_list.specs.OfChart.{barOf}
+use Rattle.chart.specs.Decode.{barOf}
 use Rattle.draw.specs.declared.Drawn.{Drawn}
 use Rattle.draw.specs.declared.Drawn.the-variants.{Chart, Refused}
 use Rattle.draw.specs.Answer.{Drawing, noDrawing}

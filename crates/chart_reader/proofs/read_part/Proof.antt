@@ -8,7 +8,7 @@ use native.Mathlib.Omega.{arith}
 use lib.ListN.{length, take}
 use lib.Seq.{length-take-le}
 use Rattle.sheet.specs.Held.{refuses}
-use Rattle.chart_reader.specs.Held.{Placed}
+use Rattle.chart_reader.specs.Held.{StrokesFound}
 use Rattle.chart_reader.proofs.Stroked.{bars-room, strokes-room}
 use Rattle.chart_reader.proofs.Verdict.{by-14, by-15, by-16, by-17, read-by}
 use Rattle.chart_reader.proofs.Found.{Edged, edges-found, no-part, part-read}
@@ -25,7 +25,7 @@ count c = c .before .before .frame .result
 abbrev at : tie.Else1 → List ℕ
 at c = take (2 * count c - 3) (c .before .before .frame .last .1 .0)
 
-placed : (c : tie.Else1) → Placed (chart c) (count c) (at c)
+placed : (c : tie.Else1) → StrokesFound (chart c) (count c) (at c)
 placed c = c .before .before .frame .ensures .1 (c .if1 .left)
 
 corners : (c : tie.Else1) → (3 ≤ count c) × (count c ≤ 1024)

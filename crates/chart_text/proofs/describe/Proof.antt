@@ -4,8 +4,8 @@ use mathlib.Core.Path.{sym}
 use native.Mathlib.Omega.{arith}
 use Rattle.sheet.specs.Sheet.{Reading}
 use Rattle.sheet.proofs.Hand.{read-is, in-hand}
+use Rattle.chart.specs.Decode.{chartIn}
 use Rattle.log_line.proofs.Size.{refused-size}
-use Rattle.chart_reader.specs.Decode.{chartIn}
 use Rattle.chart_text.specs.Text.{describedAs, described}
 use Rattle.chart_text.proofs.Described.{read-formed}
 use Rattle.chart_text.proofs.describe.Statement.{statement}

@@ -5,11 +5,11 @@ use Prim.Native.Nat.{_*_, _-_, _≤_}
 use native.Mathlib.Omega.{arith}
 use lib.ListN.{length, take}
 use lib.Seq.{length-take-le}
+use Rattle.chart.specs.Decode.{chartIn}
 use Rattle.log_line.proofs.Putting.{put-then}
 use Rattle.log_line.proofs.Size.{line-size}
 use Rattle.sheet.specs.Held.{polygonOf}
-use Rattle.chart_reader.specs.Decode.{chartIn}
-use Rattle.chart_reader.specs.Held.{Placed}
+use Rattle.chart_reader.specs.Held.{StrokesFound}
 use Rattle.chart_reader.proofs.Stroked.{bars-room}
 use Rattle.chart_text.specs.Text.{chartFacts, describedAs}
 use Rattle.chart_text.proofs.describe_part.Statement.{statement}
@@ -17,7 +17,7 @@ use Rattle.chart_text.proofs.describe_part.Tie as tie
 
 -- the places of the strokes are found again
 placed : (c : tie.After-at2)
-    → Placed (c .before .before .before .before .before .before .args .chart .now) (c .before .frame .result) (take (2 * c .before .frame .result - 3) (c .before .frame .last .1 .0))
+    → StrokesFound (c .before .before .before .before .before .before .args .chart .now) (c .before .frame .result) (take (2 * c .before .frame .result - 3) (c .before .frame .last .1 .0))
 placed c =
     let start = c .before .before .before .before .before .before in
     c .before .frame .ensures .1 (λ z. c .before .frame .ensures .0 z (start .pre .1 .0 .0))

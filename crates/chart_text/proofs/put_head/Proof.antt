@@ -2,9 +2,9 @@
 use mathlib.Core.Path.{_≡_, ap}
 use borrow.Author.Needs.{needs}
 use Rattle.sheet.specs.Held.{polygonOf}
+use Rattle.chart.specs.Decode.{chartIn}
 use Rattle.log_line.specs.Line.{line}
 use Rattle.draw.specs.Told.{told}
-use Rattle.chart_reader.specs.Decode.{chartIn}
 use Rattle.chart_text.specs.Text.{chartFacts}
 use Rattle.chart_text.proofs.put_head.Statement.{statement}
 use Rattle.chart_text.proofs.put_head.Tie as tie

@@ -10,8 +10,8 @@ use Rattle.sheet.specs.Held.{polygonOf, InHand}
 use Rattle.sheet.proofs.Hand.{read-is, in-hand}
 use Rattle.chart.specs.Chart.{chartOf}
 use Rattle.chart.specs.Bytes.{bytesOf}
-use Rattle.bar_list.specs.declared.Bar.{Bar}
-use Rattle.bar_list.specs.OfChart.{barOf}
+use Rattle.chart.specs.declared.Bar.{Bar}
+use Rattle.chart.specs.Decode.{barOf}
 use Rattle.draw.specs.Answer.{drawnBoth, drawnWithBars}
 use Rattle.draw.proofs.Answers.{for-few, for-none, for-chart, chart-fits}
 use Rattle.draw.proofs.draw_for.Statement.{statement}

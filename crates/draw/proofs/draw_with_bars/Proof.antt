@@ -44,15 +44,15 @@ use denote.Triple.Spec.{Meets, tripleOf}
 use denote.Triple.Table.{entered, cited}
 use denote.Triple.Walked.{says, Stays, stay-none-slice, stay-slice, gave-slice, walkOf, goes-none-slice, goes-slice, goes-gave-slice, Walks, ends-at, walked, walk-meets}
 use denote.Exit.{yes}
-use Rattle.bar_list.specs.declared.Bar.{Bar}
+use Rattle.chart.specs.declared.Bar.{Bar}
 use Rattle.draw.specs.declared.Drawn.{Drawn}
 use Rattle.draw.specs.declared.Drawn.the-variants.{Chart, Refused}
 use Rattle.bar_list.specs.Bars.{filled}
-use Rattle.bar_list.specs.OfChart.{barOf}
+use Rattle.chart.specs.Decode.{barOf}
 use Rattle.draw.specs.Answer.{drawnWithBars}
 use Rattle.draw.specs.WithBars.{drawing, filledBy, Fits}
 use Rattle.bar_list.proofs.Filled.{filled-len}
-use Rattle.bar_list.proofs.Bar as T
+use Rattle.chart.proofs.Bar as T
 use Rattle.draw.proofs.Drawn as D
 use Rattle.draw.proofs.Drawn.Laws as D′
 use Rattle.draw.proofs.draw_for as draw-for

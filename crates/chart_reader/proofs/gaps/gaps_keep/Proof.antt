@@ -1,7 +1,7 @@
 -- The gaps are written, and each upright is held against them.
 use borrow.Author.Needs.{needs}
 use native.Mathlib.Omega.{arith}
-use Rattle.chart_reader.specs.Decode.{chartIn}
+use Rattle.chart.specs.Decode.{chartIn}
 use Rattle.chart_reader.proofs.Stroked.{strokes-room}
 use Rattle.chart_reader.proofs.Passing.{gapped, clear-rule, rule-clear}
 use Rattle.chart_reader.proofs.gaps.gaps_keep.Statement.{statement}

@@ -1,15 +1,15 @@
--- The loop's invariant is `Keyed`.
+-- The loop's invariant is `KeysRead`.
 use mathlib.Core.Bool.{true≢false, false≢true}
 use Prim.Native.Nat.{_-_}
 use native.Mathlib.Omega.{arith}
 use lib.ListN.{length}
 use Rattle.chart_reader.proofs.Stroked.{place-room}
-use Rattle.chart_reader.proofs.Keyed.{Keyed, keyed-none, not-named, keyed-next, all-named, all-keyed}
+use Rattle.chart_reader.proofs.Keyed.{KeysRead, keyed-none, not-named, keyed-next, all-named, all-keyed}
 use Rattle.chart_reader.proofs.strokes.edge_keys.Statement.{statement}
 use Rattle.chart_reader.proofs.strokes.edge_keys.Tie as tie
 
 abbrev Inv-loop : tie.InvT-loop
-Inv-loop chart at n keys₀ i₀ keys i = Keyed chart n at (length keys₀) keys i
+Inv-loop chart at n keys₀ i₀ keys i = KeysRead chart n at (length keys₀) keys i
 
 abbrev μ-loop : tie.MeasureT-loop
 μ-loop chart at n keys₀ i₀ keys i = length at - i
@@ -17,67 +17,44 @@ abbrev μ-loop : tie.MeasureT-loop
 loop-holds : tie.Need-loop-holds Inv-loop μ-loop
 loop-holds c = keyed-none _ _ _ _
 
-mul-p : tie.Need-mul-p Inv-loop μ-loop
-mul-p c = omega arith
+mul-stroke-at : tie.Need-mul-stroke-at Inv-loop μ-loop
+mul-stroke-at c = omega arith
 
-shared-slice-read-p : tie.Need-shared-slice-read-p Inv-loop μ-loop
-shared-slice-read-p c = omega arith
+shared-slice-read-stroke-at : tie.Need-shared-slice-read-stroke-at Inv-loop μ-loop
+shared-slice-read-stroke-at c = omega arith
 
-add-get16 : tie.Need-add-get16 Inv-loop μ-loop
-add-get16 c =
-    let start = c .before .before .before .before .before .before in
-    omega (arith, place-room (start .args .chart .now) (start .args .n) (start .args .at .now) (start .pre .0) (c .before .before .loop .i) (c .before .loop-test .taken))
-
-get16-requires : tie.Need-get16-requires Inv-loop μ-loop
-get16-requires c κs =
-    let start = c .before .before .before .before .before .before in
-    omega (arith, place-room (start .args .chart .now) (start .args .n) (start .args .at .now) (start .pre .0) (c .before .before .loop .i) (c .before .loop-test .taken))
-
-add-get16-2 : tie.Need-add-get16-2 Inv-loop μ-loop
-add-get16-2 c =
-    let start = c .before .before .before .before .before .before .before in
-    omega (arith, place-room (start .args .chart .now) (start .args .n) (start .args .at .now) (start .pre .0) (c .before .before .before .loop .i) (c .before .before .loop-test .taken))
-
-get16-requires-2 : tie.Need-get16-requires-2 Inv-loop μ-loop
-get16-requires-2 c κs =
-    let start = c .before .before .before .before .before .before .before in
-    omega (arith, place-room (start .args .chart .now) (start .args .n) (start .args .at .now) (start .pre .0) (c .before .before .before .loop .i) (c .before .before .loop-test .taken))
+stroke-at-requires : tie.Need-stroke-at-requires Inv-loop μ-loop
+stroke-at-requires c κs = place-room _ _ _ (c .before .before .before .before .before .before .pre .0) (c .before .before .loop .i) (c .before .loop-test .taken)
 
 same-length : tie.Need-same-length Inv-loop μ-loop
 same-length c = c .before .before .before .before .before .loop .inv .size
 
 returns : tie.Need-returns Inv-loop μ-loop
-returns c =
-    let at-get16 = c .before .before in
-    let at-loop-test = at-get16 .before .before in
-    let at-loop = at-loop-test .before in
-    let start = at-loop .before .before .before .before in (
-      λ h. absurd (false≢true h),
-      λ h. not-named _ _ _ _ (at-loop .loop .keys) (at-loop .loop .i) (at-loop .loop .inv) (start .pre .0) (at-loop-test .loop-test .taken) (at-get16 .get16 .result) (c .before .get162 .result) (at-get16 .get16 .ensures .0) (c .before .get162 .ensures .0) (λ q. omega arith),
-    )
+returns c = (λ h. absurd (false≢true h), λ h. not-named _ _ _ _ (c .before .before .before .before .before .loop .keys) (c .before .before .before .before .before .loop .i) (c .before .before .before .before .before .loop .inv) (c .before .before .before .before .before .before .before .before .before .pre .0) (c .before .before .before .before .loop-test .taken) (c .before .before .stroke-at .result) (c .before .before .stroke-at .ensures) (λ q. omega arith))
+
+cast-if2 : tie.Need-cast-if2 Inv-loop μ-loop
+cast-if2 c = omega arith
 
 same-length-2 : tie.Need-same-length-2 Inv-loop μ-loop
-same-length-2 c = c .before .before .before .before .before .before .loop .inv .size
+same-length-2 c = c .before .before .before .before .before .before .before .loop .inv .size
 
 returns-2 : tie.Need-returns-2 Inv-loop μ-loop
-returns-2 c =
-    let at-get162 = c .before .before in
-    let at-get16 = at-get162 .before in
-    let at-loop-test = at-get16 .before .before in
-    let at-loop = at-loop-test .before in
-    let start = at-loop .before .before .before .before in (
-      λ h. absurd (false≢true h),
-      λ h. not-named _ _ _ _ (at-loop .loop .keys) (at-loop .loop .i) (at-loop .loop .inv) (start .pre .0) (at-loop-test .loop-test .taken) (at-get16 .get16 .result) (at-get162 .get162 .result) (at-get16 .get16 .ensures .0) (at-get162 .get162 .ensures .0) (λ q. omega arith),
-    )
+returns-2 c = (λ h. absurd (false≢true h), λ h. not-named _ _ _ _ (c .before .before .before .before .before .before .before .loop .keys) (c .before .before .before .before .before .before .before .loop .i) (c .before .before .before .before .before .before .before .loop .inv) (c .before .before .before .before .before .before .before .before .before .before .before .pre .0) (c .before .before .before .before .before .before .loop-test .taken) (c .before .before .before .before .stroke-at .result) (c .before .before .before .before .stroke-at .ensures) (λ q. omega arith))
+
+cast-key : tie.Need-cast-key Inv-loop μ-loop
+cast-key c = omega arith
+
+cast-key-2 : tie.Need-cast-key-2 Inv-loop μ-loop
+cast-key-2 c = omega arith
 
 key-requires : tie.Need-key-requires Inv-loop μ-loop
-key-requires c κs = omega (arith, c .before .before .before .before .before .before .before .before .before .before .pre .0 .count, c .before .before .before .before .before .before .before .before .before .before .pre .0 .formed .most)
+key-requires c κs = omega (arith, c .before .before .before .before .before .before .before .before .before .before .before .before .before .pre .0 .count, c .before .before .before .before .before .before .before .before .before .before .before .before .before .pre .0 .formed .most)
 
 mul-keys : tie.Need-mul-keys Inv-loop μ-loop
 mul-keys c = omega arith
 
 slice-write-keys : tie.Need-slice-write-keys Inv-loop μ-loop
-slice-write-keys c = omega (arith, c .before .before .before .before .before .before .before .loop .inv .size, c .before .before .before .before .before .before .before .before .before .before .before .pre .1)
+slice-write-keys c = omega (arith, c .before .before .before .before .before .before .before .before .before .before .loop .inv .size, c .before .before .before .before .before .before .before .before .before .before .before .before .before .before .pre .1)
 
 add-i : tie.Need-add-i Inv-loop μ-loop
 add-i c = omega arith
@@ -87,28 +64,22 @@ loop-less c = omega arith
 
 loop-again : tie.Need-loop-again Inv-loop μ-loop
 loop-again c =
-    let at-get162 = c .before .before .before in
-    let at-get16 = at-get162 .before in
-    let at-loop-test = at-get16 .before .before in
-    let at-loop = at-loop-test .before in
-    let start = at-loop .before .before .before .before in
-    keyed-next (start .args .chart .now) (start .args .n) (start .args .at .now) (length (start .args .keys .now)) (at-loop .loop .keys) (at-loop .loop .i)
-    (at-loop .loop .inv) (start .pre .0) (at-loop-test .loop-test .taken) (at-get16 .get16 .result) (at-get162 .get162 .result) (at-get16 .get16 .ensures .0)
-    (at-get162 .get162 .ensures .0) (start .pre .1) (c .before .before .if1 .left) (c .before .if2 .left) _ (c .key .ensures)
+    keyed-next (c .before .before .before .before .before .before .before .before .before .before .before .before .before .before .args .chart .now) (c .before .before .before .before .before .before .before .before .before .before .before .before .before .before .args .n) (c .before .before .before .before .before .before .before .before .before .before .before .before .before .before .args .at .now) (length (c .before .before .before .before .before .before .before .before .before .before .before .before .before .before .args .keys .now)) (c .before .before .before .before .before .before .before .before .before .before .loop .keys) (c .before .before .before .before .before .before .before .before .before .before .loop .i) (c .before .before .before .before .before .before .before .before .before .before .loop .inv) (c .before .before .before .before .before .before .before .before .before .before .before .before .before .before .pre .0) (c .before .before .before .before .before .before .before .before .before .loop-test .taken)
+    (c .before .before .before .before .before .before .before .stroke-at .result) (c .before .before .before .before .before .before .before .stroke-at .ensures) (c .before .before .before .before .before .before .before .before .before .before .before .before .before .before .pre .1) (c .before .before .before .before .before .if1 .left) (c .before .before .before .if2 .left) _ (c .key .ensures)
 
 same-length-3 : tie.Need-same-length-3 Inv-loop μ-loop
 same-length-3 c = c .before .loop .inv .size
 
 returns-3 : tie.Need-returns-3 Inv-loop μ-loop
 returns-3 c =
-    let at-loop = c .before in
-    let start = at-loop .before .before .before .before in
-    let at = start .args .at .now in
-    let chart = start .args .chart .now in
-    let keys = start .args .keys .now in
-    let n = start .args .n in
-    let i = at-loop .loop .i in
-    (λ h. (all-named chart n at (length keys) (at-loop .loop .keys) i (at-loop .loop .inv) (start .pre .0) (c .loop-test .left), all-keyed chart n at (length keys) (at-loop .loop .keys) i (at-loop .loop .inv) (start .pre .0) (c .loop-test .left) (start .pre .1)), λ h. absurd (true≢false h))
+    let keys = c .before .loop .keys in
+    let K = c .before .loop .inv in (
+      λ h. (all-named _ _ _ _ keys _ K (c .before .before .before .before .before .pre .0) (c .loop-test .left), all-keyed _ _ _ _ keys _ K (c .before .before .before .before .before .pre .0) (c .loop-test .left) (c .before .before .before .before .before .pre .1)),
+      λ h. absurd (true≢false h),
+    )
 
 pub edge-keys-spec : {M : Type 1} → statement M
-edge-keys-spec = tie.close (tie.spec Inv-loop μ-loop loop-holds mul-p shared-slice-read-p add-get16 get16-requires add-get16-2 get16-requires-2 same-length returns same-length-2 returns-2 key-requires mul-keys slice-write-keys add-i loop-less loop-again same-length-3 returns-3)
+edge-keys-spec =
+    tie.close
+    (tie.spec Inv-loop μ-loop loop-holds mul-stroke-at shared-slice-read-stroke-at stroke-at-requires same-length returns cast-if2 same-length-2 returns-2 cast-key cast-key-2 key-requires
+    mul-keys slice-write-keys add-i loop-less loop-again same-length-3 returns-3)

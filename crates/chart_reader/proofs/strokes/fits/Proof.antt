@@ -1,9 +1,11 @@
 -- Joined, and the question about the stroke's two cells.
 use mathlib.Core.Bool.{false≢true}
-use borrow.Author.Needs.{needs}
+use mathlib.Core.Path.{sym, subst}
 use borrow.Author.Tests.{not-true, not-false}
+use borrow.Author.Needs.{needs}
+use Rattle.chart.specs.Decode.{chartIn}
+use Rattle.chart_reader.specs.Rules.{Free}
 use Rattle.chart_reader.proofs.Meeting.{none-free, some-stands}
-use Rattle.chart_reader.proofs.Stroked.{free-ends, ends-free}
 use Rattle.chart_reader.proofs.strokes.fits.Statement.{statement}
 use Rattle.chart_reader.proofs.strokes.fits.Tie as tie
 
@@ -21,12 +23,11 @@ bar-between-requires c κs = search needs
 
 returns-2 : tie.Need-returns-2
 returns-2 c =
-    let at-joins = c .before .before .before in
-    let start = at-joins .before .before in
-    let chart = start .args .chart .now in
-    let n = start .args .n in (
-      λ h. (at-joins .joins .ensures .0 (not-false _ (c .before .before .if1 .left)), free-ends (c .before .stroke-ends .ensures) (none-free chart n (start .pre .1 .count) _ (c .bar-between .ensures .1 (not-true _ h)))),
-      λ h F. some-stands chart n (start .pre .1 .count) _ (c .bar-between .ensures .0 (not-false _ h)) (ends-free (c .before .stroke-ends .ensures) (F .1)),
+    let chart = c .before .before .before .before .before .args .chart .now in
+    let n = c .before .before .before .before .before .args .n in
+    let e = c .before .stroke-ends .ensures .same in (
+      λ h. (c .before .before .before .joins .ensures .0 (not-false _ (c .before .before .if1 .left)), subst (Free (chartIn chart)) e (none-free chart n (c .before .before .before .before .before .pre .1 .count) _ (c .bar-between .ensures .1 (not-true _ h)))),
+      λ h F. some-stands chart n (c .before .before .before .before .before .pre .1 .count) _ (c .bar-between .ensures .0 (not-false _ h)) (subst (Free (chartIn chart)) (sym e) (F .1)),
     )
 
 pub fits-spec : {M : Type 1} → statement M

@@ -1,7 +1,6 @@
 -- The chart is the first of the bytes lent.
 use borrow.Author.Needs.{needs}
 use mathlib.Core.Path.{sym}
-use native.Mathlib.Omega.{arith}
 use lib.Seq.{length-take-le}
 use Rattle.chart_text.proofs.program.describe_first.Statement.{statement}
 use Rattle.chart_text.proofs.program.describe_first.Tie as tie

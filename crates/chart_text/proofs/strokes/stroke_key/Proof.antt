@@ -1,14 +1,13 @@
 -- By the cells that the stroke runs between.
+use borrow.Author.Tests.{not-true, not-false}
 use borrow.Author.Needs.{needs}
+use Rattle.chart.specs.Decode.{chartIn}
 use Rattle.chart_text.proofs.Words.{level-stands, upright-stands}
 use Rattle.chart_text.proofs.strokes.stroke_key.Statement.{statement}
 use Rattle.chart_text.proofs.strokes.stroke_key.Tie as tie
 
 stroke-ends-requires : tie.Need-stroke-ends-requires
 stroke-ends-requires c κs = search needs
-
-shared-slice-read-if1 : tie.Need-shared-slice-read-if1
-shared-slice-read-if1 c = search needs
 
 mul-result : tie.Need-mul-result
 mul-result c = search needs
@@ -26,9 +25,7 @@ cast-result : tie.Need-cast-result
 cast-result c = search needs
 
 returns : tie.Need-returns
-returns c =
-    let at-stroke-ends = c .before .before .before .before in
-    rw (level-stands (at-stroke-ends .stroke-ends .ensures) (c .before .if1 .taken))
+returns c = rw (level-stands (chartIn (c .before .before .before .before .before .before .args .chart .now)) (c .before .before .before .before .before .before .args .s) (c .before .before .before .before .stroke-ends .ensures) (not-true _ (c .before .if1 .taken)))
 
 mul-result-3 : tie.Need-mul-result-3
 mul-result-3 c = search needs
@@ -43,10 +40,7 @@ cast-result-2 : tie.Need-cast-result-2
 cast-result-2 c = search needs
 
 returns-2 : tie.Need-returns-2
-returns-2 c =
-    let at-stroke-ends = c .before .before .before .before in
-    let start = at-stroke-ends .before .before in
-    rw (upright-stands (at-stroke-ends .stroke-ends .ensures) (start .pre .0 .bit) (c .before .if1 .left))
+returns-2 c = rw (upright-stands (chartIn (c .before .before .before .before .before .before .args .chart .now)) (c .before .before .before .before .before .before .args .s) (c .before .before .before .before .stroke-ends .ensures) (not-false _ (c .before .if1 .left)))
 
 pub stroke-key-spec : {M : Type 1} → statement M
-stroke-key-spec = tie.close (tie.spec stroke-ends-requires shared-slice-read-if1 mul-result add-result mul-result-2 add-result-2 cast-result returns mul-result-3 mul-result-4 add-result-3 cast-result-2 returns-2)
+stroke-key-spec = tie.close (tie.spec stroke-ends-requires mul-result add-result mul-result-2 add-result-2 cast-result returns mul-result-3 mul-result-4 add-result-3 cast-result-2 returns-2)

@@ -1,13 +1,7 @@
 -- Field by field.
 use borrow.Author.Needs.{needs}
-use Rattle.bar_list.proofs.bar_at.Statement.{statement}
-use Rattle.bar_list.proofs.bar_at.Tie as tie
-
-mul-at : tie.Need-mul-at
-mul-at c = search needs
-
-add-at : tie.Need-add-at
-add-at c = search needs
+use Rattle.chart.proofs.bar_at.Statement.{statement}
+use Rattle.chart.proofs.bar_at.Tie as tie
 
 get16-requires : tie.Need-get16-requires
 get16-requires c κs = search needs
@@ -37,4 +31,4 @@ returns : tie.Need-returns
 returns c = λ i. record { row = c .before .before .get16 .ensures .0 i; left = c .before .get162 .ensures .0 i; right = c .get163 .ensures .0 i }
 
 pub bar-at-spec : {M : Type 1} → statement M
-bar-at-spec = tie.close (tie.spec mul-at add-at get16-requires cast-row add-get16 get16-requires-2 cast-left add-get16-2 get16-requires-3 cast-right returns)
+bar-at-spec = tie.close (tie.spec get16-requires cast-row add-get16 get16-requires-2 cast-left add-get16-2 get16-requires-3 cast-right returns)
