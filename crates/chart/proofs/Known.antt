@@ -45,5 +45,6 @@ pub record Known : Type 0 where
   pub seven-columns : chartOf seven .columns ≡ 7
 
 pub known : Known
-unfolding chartOf chart layout treeOf grow far farther near? choose either? numbers below same? span chordsAt Dec·and decLe decLt ℕ-discrete best umbrella leftAt rightAt stemAt over-node ud fold cols rows edges edgesAt edgesPast barsOf meets? first last stroke barBytes strokeBytes bytesOf flatMap
+unfolding chartOf chart layout treeOf grow far farther near? choose either? numbers below same? span chordsAt Dec·and decLe decLt ℕ-discrete best umbrella leftAt rightAt stemAt over-node ud
+    fold cols rows edges edgesAt edgesPast barsOf meets? first last stroke barBytes strokeBytes bytesOf flatMap
 known = record { three-bytes = refl; four-bars = refl; five-left-bars = refl; five-right-bars = refl; six-columns = refl; seven-columns = refl }

@@ -3,6 +3,7 @@
 ghost use mathlib.Core.Path.{_≡_};
 ghost use Prim.Native.Nat.{_+_, _*_, _≤_};
 ghost use lib.ListN.{length, getD};
+ghost use Rattle.codec.specs.Numbers.{get16};
 ghost use Rattle.chart.specs.Decode.{barAt, strokeSize, strokeAt, chartIn, barOf, strokeOf};
 use codec::get16;
 
@@ -21,15 +22,23 @@ pub struct Stroke {
     pub column: u16,
 }
 
+fn number(bytes: &[u8], at: usize) -> u16
+    requires { ⌜ at + 2 ≤ length (now bytes) ⌝ }
+    ensures { λ r. ⌜ r ≡ get16 (now (bytes .entry)) at ⌝ }
+{
+    get16(bytes, at) as u16
+}
+
 // The bar at a place of the bytes.
 pub fn bar_at(bytes: &[u8], at: usize) -> Bar
     requires { ⌜ at + 6 ≤ length (now bytes) ⌝ }
     ensures { λ r. ⌜ barOf r ≡ barAt (now (bytes .entry)) at ⌝ }
 {
-    let row = get16(bytes, at) as u16;
-    let left = get16(bytes, at + 2) as u16;
-    let right = get16(bytes, at + 4) as u16;
-    Bar { row, left, right }
+    Bar {
+        row: number(bytes, at),
+        left: number(bytes, at + 2),
+        right: number(bytes, at + 4),
+    }
 }
 
 // The bar of corner x in the bytes of a chart.
@@ -45,8 +54,8 @@ pub fn stroke_at(bytes: &[u8], at: usize) -> Stroke
     requires { ⌜ at + strokeSize (getD (now bytes) at 0) ≤ length (now bytes) ⌝ }
     ensures { λ r. ⌜ strokeOf r ≡ strokeAt (now (bytes .entry)) at ⌝ }
 {
-    let a = get16(bytes, at + 1) as u16;
-    let b = get16(bytes, at + 3) as u16;
+    let a = number(bytes, at + 1);
+    let b = number(bytes, at + 3);
     if bytes[at] % 2 == 0 {
         return Stroke {
             a,
@@ -55,7 +64,7 @@ pub fn stroke_at(bytes: &[u8], at: usize) -> Stroke
             column: 0,
         };
     }
-    let column = get16(bytes, at + 5) as u16;
+    let column = number(bytes, at + 5);
     Stroke {
         a,
         b,

@@ -16,12 +16,12 @@ use Rattle.chart.specs.declared.Stroke as code
 use Rattle.chart.specs.Chart.{Bar, Stroke, upright, level, Chart}
 use Rattle.chart.specs.Bytes.{barBytes}
 use Rattle.chart.proofs.Sizes.{bars-size}
+use Rattle.chart.proofs.Decoded.{bar-back}
 use Rattle.chart.specs.Decode.{barOn, strokeAt, strokePlaces, chartIn, strokeOf}
 use Rattle.chart_reader.specs.declared.Cell.{Cell}
 use Rattle.chart_reader.specs.declared.Ends.{Ends}
 use Rattle.chart_reader.specs.Rules.{ends}
 use Rattle.chart_reader.specs.Held.{StrokesFound, EndsOf, gapBar, gapIn, gapOf, gapsOf, GapsIn}
-use Rattle.chart_reader.proofs.Decoded.{bar-back}
 
 -- a bar is three numbers
 pub bar-stored : (l : List ℕ) (at r i j : ℕ) → sets (sets (sets l at (bytes16 r)) (at + 2) (bytes16 i)) (at + 4) (bytes16 j) ≡ sets l at (barBytes (barOn r i j))

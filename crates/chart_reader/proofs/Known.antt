@@ -82,5 +82,7 @@ known =
 
 -- Each known chart is read so.
 pub known-read : map (λ (c : Case). readChart (c .0)) known ≡ map (λ (c : Case). c .1) known
-unfolding readChart ask formed? recast? three? count? places behind shaped bars? free? joins? strokes? passes? gaps? part? partSides common? common-of between stands? shares? crosses? drawn bytesOf barBytes strokeBytes barsOf flatMap strokeEdge Dec·and choose put keep numbers below all? sorted? mem? not? same? before? either? none-cross? cross? diagonal? decLe decLt ℕ-discrete
+unfolding readChart ask formed? recast? three? count? places behind shaped bars? free? joins? strokes? passes? gaps? part? partSides common? common-of between stands? shares? crosses? drawn
+    bytesOf barBytes strokeBytes barsOf flatMap strokeEdge Dec·and choose put keep numbers below all? sorted? mem? not? same? before? either? none-cross? cross? diagonal? decLe decLt
+    ℕ-discrete
 known-read = refl

@@ -72,5 +72,8 @@ pub record KnownTexts : Type 0 where
   pub square-text : described (drawn 3 3 squareBars squareStrokes) ≡ squareText
 
 pub known : KnownTexts
-unfolding described describedAs line numberWord digits decimal cornerLines cornerLine strokeLines leftToRight insertStroke strokeLine strokeName edgeName drawn readChart ask formed? recast? three? count? places behind shaped bars? free? joins? strokes? passes? gaps? part? partSides common? common-of between stands? shares? crosses? bytesOf barBytes strokeBytes barsOf flatMap strokeEdge Dec·and choose put keep numbers below all? sorted? mem? not? same? before? either? none-cross? cross? diagonal? decLe decLt ℕ-discrete treeOf grow far farther near? best umbrella leftAt rightAt stemAt over-node ud fold
+unfolding described describedAs line numberWord digits decimal cornerLines cornerLine strokeLines leftToRight insertStroke strokeLine strokeName edgeName drawn readChart ask formed? recast?
+    three? count? places behind shaped bars? free? joins? strokes? passes? gaps? part? partSides common? common-of between stands? shares? crosses? bytesOf barBytes strokeBytes barsOf flatMap
+    strokeEdge Dec·and choose put keep numbers below all? sorted? mem? not? same? before? either? none-cross? cross? diagonal? decLe decLt ℕ-discrete treeOf grow far farther near? best
+    umbrella leftAt rightAt stemAt over-node ud fold
 known = record { triangle-text = refl; square-text = refl }

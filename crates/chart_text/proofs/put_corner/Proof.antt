@@ -8,70 +8,44 @@ use Rattle.chart_text.proofs.Lines.{field-end}
 use Rattle.chart_text.proofs.put_corner.Statement.{statement}
 use Rattle.chart_text.proofs.put_corner.Tie as tie
 
-slice-aggregate-put-field : tie.Need-slice-aggregate-put-field
-slice-aggregate-put-field c = search needs
-
-put-field-requires : tie.Need-put-field-requires
-put-field-requires c κs = search needs
-
-slice-aggregate-put-field-2 : tie.Need-slice-aggregate-put-field-2
-slice-aggregate-put-field-2 c = search needs
-
-cast-put-field : tie.Need-cast-put-field
-cast-put-field c = search needs
-
-put-field-requires-2 : tie.Need-put-field-requires-2
-put-field-requires-2 c κs = search needs
-
-slice-aggregate-put-field-3 : tie.Need-slice-aggregate-put-field-3
-slice-aggregate-put-field-3 c = search needs
-
-cast-put-field-2 : tie.Need-cast-put-field-2
-cast-put-field-2 c = search needs
-
-put-field-requires-3 : tie.Need-put-field-requires-3
-put-field-requires-3 c κs = search needs
-
-slice-aggregate-put-field-4 : tie.Need-slice-aggregate-put-field-4
-slice-aggregate-put-field-4 c = search needs
-
-cast-put-field-3 : tie.Need-cast-put-field-3
-cast-put-field-3 c = search needs
-
-put-field-requires-4 : tie.Need-put-field-requires-4
-put-field-requires-4 c κs = search needs
-
-slice-aggregate-put-word : tie.Need-slice-aggregate-put-word
-slice-aggregate-put-word c = search needs
-
 put-word-requires : tie.Need-put-word-requires
 put-word-requires c κs =
-    let p = c .before .before .before .before .before .before .before .before .before .before .before .before .before .before .before .before .before .before .before .before .before .before .put-field in
-    let q = c .before .before .before .before .before .before .before .before .before .before .before .before .before .before .before .before .put-field2 in
-    let r = c .before .before .before .before .before .before .before .before .before .before .put-field3 in
-    let t = c .before .before .before .before .put-field4 in
-    omega (arith, c .before .before .before .before .before .before .before .before .before .before .before .before .before .before .before .before .before .before .before .before .before .before .before .before .before .before .pre, p .ensures .1, p .kept .0, q .ensures .1, q .kept .0, r .ensures .1, r .kept .0, t .ensures .1, t .kept .0)
-
-same-length : tie.Need-same-length
-same-length c = search needs
+    let at-put-field4 = c .before .before .before .before in
+    let at-put-field3 = at-put-field4 .before .before .before .before .before .before in
+    let at-put-field2 = at-put-field3 .before .before .before .before .before .before in
+    let at-put-field = at-put-field2 .before .before .before .before .before .before in
+    let start = at-put-field .before .before .before .before in
+    let p = at-put-field .put-field in
+    let q = at-put-field2 .put-field2 in
+    let r = at-put-field3 .put-field3 in
+    let t = at-put-field4 .put-field4 in
+    omega (arith, start .pre, p .ensures .1, p .kept .0, q .ensures .1, q .kept .0, r .ensures .1, r .kept .0, t .ensures .1, t .kept .0)
 
 returns : tie.Need-returns
 unfolding cornerLine
 returns c =
-    let a = c .before .before .before .before .before .before .before .before .before .before .before .before .before .before .before .before .before .before .before .before .before .before .before .before .before .before .before .before .before .args in
-    let p = c .before .before .before .before .before .before .before .before .before .before .before .before .before .before .before .before .before .before .before .before .before .before .before .before .before .put-field .ensures .0 in
-    let q = c .before .before .before .before .before .before .before .before .before .before .before .before .before .before .before .before .before .before .before .put-field2 .ensures .0 in
-    let r = c .before .before .before .before .before .before .before .before .before .before .before .before .before .put-field3 .ensures .0 in
-    let t = c .before .before .before .before .before .before .before .put-field4 .ensures .0 in
-    let w = c .before .before .put-word .ensures in
-    let pe = field-end cornerWord 3 (a .corner) (omega (arith, c .before .before .before .before .before .before .before .before .before .before .before .before .before .before .before .before .before .before .before .before .before .before .before .before .before .before .before .before .before .pre)) p in
-    let qe = field-end rowWord 4 (a .bar .row) (omega arith) q in
-    let re = field-end columnsWord 4 (a .bar .left) (omega arith) r in
-    let te = field-end toWord 4 (a .bar .right) (omega arith) t in
+    let at-put-word = c .before .before in
+    let at-put-field4 = at-put-word .before .before .before .before .before in
+    let at-put-field3 = at-put-field4 .before .before .before .before .before .before in
+    let at-put-field2 = at-put-field3 .before .before .before .before .before .before in
+    let at-struct-known = at-put-field2 .before in
+    let at-put-field = at-struct-known .before .before .before .before .before in
+    let start = at-put-field .before .before .before .before in
+    let a = start .args in
+    let p = at-put-field .put-field .ensures .0 in
+    let q = at-put-field2 .put-field2 .ensures .0 in
+    let r = at-put-field3 .put-field3 .ensures .0 in
+    let t = at-put-field4 .put-field4 .ensures .0 in
+    let w = at-put-word .put-word .ensures in
+    let pe = field-end cornerWord 3 (a .corner) (omega (arith, start .pre)) p in
+    let bar = at-struct-known .struct-known .given in
+    let qe = field-end rowWord 4 (a .bar .row) (omega (arith, bar)) q in
+    let re = field-end columnsWord 4 (a .bar .left) (omega (arith, bar)) r in
+    let te = field-end toWord 4 (a .bar .right) (omega (arith, bar)) t in
     (put-then p (put-then q (put-then r (put-then t w))), omega (arith, w .end, pe, qe, re, te))
 
 pub put-corner-spec : {M : Type 1} → statement M
 put-corner-spec =
     tie.close
-    (tie.spec slice-aggregate-put-field put-field-requires slice-aggregate-put-field-2 cast-put-field put-field-requires-2 slice-aggregate-put-field-3 cast-put-field-2 put-field-requires-3
-    slice-aggregate-put-field-4 cast-put-field-3 put-field-requires-4 slice-aggregate-put-word put-word-requires same-length returns)
+    (tie.spec (λ c. search needs) (λ c κs. search needs) (λ c. search needs) (λ c. search needs) (λ c κs. search needs) (λ c. search needs) (λ c. search needs)
+    (λ c κs. search needs) (λ c. search needs) (λ c. search needs) (λ c κs. search needs) (λ c. search needs) put-word-requires (λ c. search needs) returns)

@@ -26,17 +26,18 @@ put-corner-requires c κs = omega (arith, c .before .before .before .before .bef
 add-x : tie.Need-add-x Inv-loop μ-loop
 add-x c = omega (arith, c .before .before .before .before .before .before .before .before .before .pre .0)
 
-loop-less : tie.Need-loop-less Inv-loop μ-loop
-loop-less c = omega arith
-
 loop-again : tie.Need-loop-again Inv-loop μ-loop
 loop-again c =
-    let p = c .before .before .put-corner in
-    let I = c .before .before .before .before .before .before .loop .inv in (
+    let at-put-corner = c .before .before in
+    let at-corner-bar = at-put-corner .before in
+    let at-loop = at-corner-bar .before .before .before in
+    let start = at-loop .before .before .before in
+    let p = at-put-corner .put-corner in
+    let I = at-loop .loop .inv in (
       omega arith,
       p .kept .0 ∙ I .1,
       omega (arith, p .ensures .1, I .2),
-      corners-more (c .before .before .before .before .before .before .before .before .before .args .chart .now) (c .before .before .before .before .before .before .loop .x) (I .3) (c .before .before .before .corner-bar .ensures) (p .ensures .0),
+      corners-more (start .args .chart .now) (at-loop .loop .x) (I .3) (at-corner-bar .corner-bar .ensures) (p .ensures .0),
     )
 
 same-length : tie.Need-same-length Inv-loop μ-loop
@@ -48,4 +49,4 @@ returns c =
     (rw (corners-all (c .before .before .before .before .args .chart .now) (c .before .loop .x) (omega (arith, c .before .before .before .before .pre .1 .count))) at (I .3), omega arith)
 
 pub put-corners-spec : {M : Type 1} → statement M
-put-corners-spec = tie.close (tie.spec Inv-loop μ-loop loop-holds corner-bar-requires put-corner-requires add-x loop-less loop-again same-length returns)
+put-corners-spec = tie.close (tie.spec Inv-loop μ-loop loop-holds corner-bar-requires put-corner-requires add-x (λ c. omega arith) loop-again same-length returns)

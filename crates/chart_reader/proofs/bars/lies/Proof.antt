@@ -9,14 +9,8 @@ use Rattle.chart_reader.proofs.bars.lies.Tie as tie
 returns : tie.Need-returns
 returns c = (λ h. absurd (false≢true h), λ h L. omega (arith, L))
 
-cast-if2 : tie.Need-cast-if2
-cast-if2 c = search needs
-
 returns-2 : tie.Need-returns-2
 returns-2 c = (λ h. absurd (false≢true h), λ h L. omega (arith, L))
-
-cast-result : tie.Need-cast-result
-cast-result c = search needs
 
 returns-3 : tie.Need-returns-3
 returns-3 c =
@@ -24,4 +18,4 @@ returns-3 c =
     (λ h. omega (arith, ltb-true (a .b .row) (a .rows) h), λ h L. omega (arith, L, ltb-false (a .b .row) (a .rows) h))
 
 pub lies-spec : {M : Type 1} → statement M
-lies-spec = tie.close (tie.spec returns cast-if2 returns-2 cast-result returns-3)
+lies-spec = tie.close (tie.spec returns (λ c. search needs) returns-2 (λ c. search needs) returns-3)

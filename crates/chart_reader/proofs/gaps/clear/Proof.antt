@@ -12,12 +12,6 @@ returns c =
     let a = c .before .before .before .before .args in
     (λ h. level-clear (chartIn (a .chart .now)) (a .s) (a .gaps .now) (a .g) (not-true _ (c .if1 .taken)), λ h. absurd (true≢false h))
 
-stroke-ends-requires : tie.Need-stroke-ends-requires
-stroke-ends-requires c κs = search needs
-
-bar-between-requires : tie.Need-bar-between-requires
-bar-between-requires c κs = search needs
-
 returns-2 : tie.Need-returns-2
 returns-2 c =
     let a = c .before .before .before .before .before .before .args in
@@ -29,4 +23,4 @@ returns-2 c =
     )
 
 pub clear-spec : {M : Type 1} → statement M
-clear-spec = tie.close (tie.spec returns stroke-ends-requires bar-between-requires returns-2)
+clear-spec = tie.close (tie.spec returns (λ c κs. search needs) (λ c κs. search needs) returns-2)

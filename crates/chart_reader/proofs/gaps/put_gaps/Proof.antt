@@ -17,42 +17,44 @@ abbrev μ-loop : tie.MeasureT-loop
 loop-holds : tie.Need-loop-holds Inv-loop μ-loop
 loop-holds c = gapping-none _ _ _
 
-mul-stroke-at : tie.Need-mul-stroke-at Inv-loop μ-loop
-mul-stroke-at c = omega arith
-
-shared-slice-read-stroke-at : tie.Need-shared-slice-read-stroke-at Inv-loop μ-loop
-shared-slice-read-stroke-at c = omega arith
-
 stroke-at-requires : tie.Need-stroke-at-requires Inv-loop μ-loop
 stroke-at-requires c κs = place-room _ _ _ (c .before .before .before .before .before .before .pre .0) (c .before .before .loop .i) (c .before .loop-test .taken)
 
 put-gap-of-requires : tie.Need-put-gap-of-requires Inv-loop μ-loop
-put-gap-of-requires c κs = (
-  stroke-in _ _ _ (c .before .before .before .before .before .before .before .before .pre .0) (c .before .before .before .before .loop .i) (c .before .before .before .loop-test .taken) (c .before .stroke-at .ensures) (c .before .before .before .before .before .before .before .before .pre .1),
-  bars-room _ _ _ (c .before .before .before .before .before .before .before .before .pre .0),
-  omega (arith, c .before .before .before .before .loop .inv .low, c .before .before .before .before .loop .inv .size, c .before .before .before .before .before .before .before .before .pre .2),
-)
-
-add-i : tie.Need-add-i Inv-loop μ-loop
-add-i c = omega arith
-
-loop-less : tie.Need-loop-less Inv-loop μ-loop
-loop-less c = omega arith
+put-gap-of-requires c κs =
+    let at-stroke-at = c .before in
+    let at-loop-test = at-stroke-at .before .before in
+    let at-loop = at-loop-test .before in
+    let start = at-loop .before .before .before .before in (
+      stroke-in _ _ _ (start .pre .0) (at-loop .loop .i) (at-loop-test .loop-test .taken) (at-stroke-at .stroke-at .ensures) (start .pre .1),
+      bars-room _ _ _ (start .pre .0),
+      omega (arith, at-loop .loop .inv .low, at-loop .loop .inv .size, start .pre .2),
+    )
 
 loop-again : tie.Need-loop-again Inv-loop μ-loop
 loop-again c =
-    let p = c .before .before .put-gap-of in
-    gapping-next (c .before .before .before .before .before .before .before .before .before .before .before .args .chart .now) (c .before .before .before .before .before .before .before .before .before .before .before .args .at .now) (c .before .before .before .before .before .before .before .before .before .before .before .args .gaps .now) (c .before .before .before .before .before .before .before .loop .gaps) (c .before .before .before .before .before .before .before .loop .g) (c .before .before .before .before .before .before .before .loop .i) (c .before .before .before .before .before .before .before .loop .inv) (c .before .before .before .before .before .before .loop-test .taken)
-    (strokeOf (c .before .before .before .before .stroke-at .result)) (c .before .before .before .before .stroke-at .ensures) _ _ (p .kept .1 .1 .1 .0) (p .ensures .0) (p .ensures .1)
+    let at-put-gap-of = c .before .before in
+    let at-stroke-at = at-put-gap-of .before .before in
+    let at-loop-test = at-stroke-at .before .before in
+    let at-loop = at-loop-test .before in
+    let start = at-loop .before .before .before .before in
+    let p = at-put-gap-of .put-gap-of in
+    gapping-next (start .args .chart .now) (start .args .at .now) (start .args .gaps .now) (at-loop .loop .gaps) (at-loop .loop .g) (at-loop .loop .i) (at-loop .loop .inv) (at-loop-test .loop-test .taken)
+    (strokeOf (at-stroke-at .stroke-at .result)) (at-stroke-at .stroke-at .ensures) _ _ (p .kept .1 .1 .1 .0) (p .ensures .0) (p .ensures .1)
 
 same-length : tie.Need-same-length Inv-loop μ-loop
 same-length c = c .before .loop .inv .size
 
 returns : tie.Need-returns Inv-loop μ-loop
-returns c = (
-  gapped-all (c .before .before .before .before .before .args .chart .now) (c .before .before .before .before .before .args .at .now) (c .before .before .before .before .before .args .gaps .now) (c .before .loop .gaps) (c .before .loop .g) (c .before .loop .i) (c .before .loop .inv) (c .before .before .before .before .before .args .n) (c .before .before .before .before .before .pre .0) (c .loop-test .left) (c .before .before .before .before .before .pre .2),
-  omega (arith, c .before .loop .inv .low, c .before .loop .inv .upto),
-)
+returns c =
+    let at-loop = c .before in
+    let start = at-loop .before .before .before .before in (
+      gapped-all (start .args .chart .now) (start .args .at .now) (start .args .gaps .now) (at-loop .loop .gaps) (at-loop .loop .g) (at-loop .loop .i) (at-loop .loop .inv) (start .args .n) (start .pre .0) (c .loop-test .left) (start .pre .2),
+      omega (arith, at-loop .loop .inv .low, at-loop .loop .inv .upto),
+    )
 
 pub put-gaps-spec : {M : Type 1} → statement M
-put-gaps-spec = tie.close (tie.spec Inv-loop μ-loop loop-holds mul-stroke-at shared-slice-read-stroke-at stroke-at-requires put-gap-of-requires add-i loop-less loop-again same-length returns)
+put-gaps-spec =
+    tie.close
+    (tie.spec Inv-loop μ-loop loop-holds (λ c. omega arith) (λ c. omega arith) stroke-at-requires put-gap-of-requires (λ c. omega arith) (λ c. omega arith) loop-again
+    same-length returns)

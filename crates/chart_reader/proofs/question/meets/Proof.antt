@@ -7,15 +7,6 @@ use Rattle.chart_reader.proofs.Meeting.{meet}
 use Rattle.chart_reader.proofs.question.meets.Statement.{statement}
 use Rattle.chart_reader.proofs.question.meets.Tie as tie
 
-cast-row : tie.Need-cast-row
-cast-row c = search needs
-
-cast-left : tie.Need-cast-left
-cast-left c = search needs
-
-cast-right : tie.Need-cast-right
-cast-right c = search needs
-
 returns : tie.Need-returns
 returns c = (λ h. absurd (false≢true h), λ h x. omega (arith, x .1, x .2))
 
@@ -37,4 +28,4 @@ returns-6 c =
     (λ h. meet a _ _ _ (omega arith) (omega arith) (omega arith) (omega arith) (omega arith) (ltb-true _ _ h), λ h x. omega (arith, x .1, x .2, ltb-false (a .left) (a .right) h))
 
 pub meets-spec : {M : Type 1} → statement M
-meets-spec = tie.close (tie.spec cast-row cast-left cast-right returns returns-2 returns-3 returns-4 returns-5 returns-6)
+meets-spec = tie.close (tie.spec (λ c. search needs) (λ c. search needs) (λ c. search needs) returns returns-2 returns-3 returns-4 returns-5 returns-6)

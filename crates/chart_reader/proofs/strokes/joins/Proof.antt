@@ -7,18 +7,6 @@ use Rattle.chart_reader.proofs.Stroked.{level-joins, joins-level, uprig
 use Rattle.chart_reader.proofs.strokes.joins.Statement.{statement}
 use Rattle.chart_reader.proofs.strokes.joins.Tie as tie
 
-cast-corner-bar : tie.Need-cast-corner-bar
-cast-corner-bar c = search needs
-
-corner-bar-requires : tie.Need-corner-bar-requires
-corner-bar-requires c κs = search needs
-
-cast-corner-bar-2 : tie.Need-cast-corner-bar-2
-cast-corner-bar-2 c = search needs
-
-corner-bar-requires-2 : tie.Need-corner-bar-requires-2
-corner-bar-requires-2 c κs = search needs
-
 returns : tie.Need-returns
 returns c =
     let C = chartIn (c .before .before .before .before .before .before .before .before .before .args .chart .now) in
@@ -37,9 +25,6 @@ returns-2 c =
     let u = not-false _ (c .before .before .before .if1 .left) in
     (λ h. absurd (false≢true h), λ h J. joins-upright C s ea eb u J .2 (c .if2 .taken))
 
-spans-requires : tie.Need-spans-requires
-spans-requires c κs = search needs
-
 returns-3 : tie.Need-returns-3
 returns-3 c =
     let C = chartIn (c .before .before .before .before .before .before .before .before .before .before .before .before .args .chart .now) in
@@ -49,17 +34,24 @@ returns-3 c =
     let u = not-false _ (c .before .before .before .before .before .if1 .left) in
     (λ h. absurd (false≢true h), λ h J. c .before .spans .ensures .1 (not-true _ (c .if3 .taken)) (joins-upright C s ea eb u J .0))
 
-spans-requires-2 : tie.Need-spans-requires-2
-spans-requires-2 c κs = search needs
-
 returns-4 : tie.Need-returns-4
 returns-4 c =
-    let C = chartIn (c .before .before .before .before .before .before .before .before .before .before .before .before .before .args .chart .now) in
-    let s = c .before .before .before .before .before .before .before .before .before .before .before .before .before .args .s in
-    let ea = c .before .before .before .before .before .before .before .before .before .before .corner-bar .ensures in
-    let eb = c .before .before .before .before .before .before .before .before .corner-bar2 .ensures in
-    let u = not-false _ (c .before .before .before .before .before .before .if1 .left) in
-    (λ h. upright-joins C s ea eb u (c .before .before .spans .ensures .0 (not-false _ (c .before .if3 .left)), c .spans2 .ensures .0 h, c .before .before .before .if2 .left), λ h J. c .spans2 .ensures .1 h (joins-upright C s ea eb u J .1))
+    let at-if3 = c .before in
+    let at-spans = at-if3 .before in
+    let at-if2 = at-spans .before in
+    let at-if1 = at-if2 .before .before .before in
+    let at-corner-bar2 = at-if1 .before .before in
+    let at-corner-bar = at-corner-bar2 .before .before in
+    let start = at-corner-bar .before .before .before in
+    let C = chartIn (start .args .chart .now) in
+    let s = start .args .s in
+    let ea = at-corner-bar .corner-bar .ensures in
+    let eb = at-corner-bar2 .corner-bar2 .ensures in
+    let u = not-false _ (at-if1 .if1 .left) in
+    (λ h. upright-joins C s ea eb u (at-spans .spans .ensures .0 (not-false _ (at-if3 .if3 .left)), c .spans2 .ensures .0 h, at-if2 .if2 .left), λ h J. c .spans2 .ensures .1 h (joins-upright C s ea eb u J .1))
 
 pub joins-spec : {M : Type 1} → statement M
-joins-spec = tie.close (tie.spec cast-corner-bar corner-bar-requires cast-corner-bar-2 corner-bar-requires-2 returns returns-2 spans-requires returns-3 spans-requires-2 returns-4)
+joins-spec =
+    tie.close
+    (tie.spec (λ c. search needs) (λ c κs. search needs) (λ c. search needs) (λ c κs. search needs) returns returns-2 (λ c κs. search needs) returns-3 (λ c κs. search needs)
+    returns-4)

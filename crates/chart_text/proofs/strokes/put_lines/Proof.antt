@@ -21,48 +21,47 @@ loop-holds c =
     let a = c .before .before .before .before .args in
     (omega arith, refl, omega arith, lines-none (a .chart .now) (a .at .now) (a .keys .now) (a .out .now) (a .from))
 
-mul-i : tie.Need-mul-i Inv-loop μ-loop
-mul-i c = omega arith
-
-shared-slice-read-i : tie.Need-shared-slice-read-i Inv-loop μ-loop
-shared-slice-read-i c = omega arith
-
-cast-i : tie.Need-cast-i Inv-loop μ-loop
-cast-i c = omega arith
-
-mul-stroke-at : tie.Need-mul-stroke-at Inv-loop μ-loop
-mul-stroke-at c = omega arith
-
 shared-slice-read-stroke-at : tie.Need-shared-slice-read-stroke-at Inv-loop μ-loop
-shared-slice-read-stroke-at c = at-all 0 (c .before .before .before .before .before .before .before .before .pre .1 .0) (c .before .before .before .loop .k) (c .before .before .loop-test .taken)
+shared-slice-read-stroke-at c =
+    let at-loop-test = c .before .before in
+    let at-loop = at-loop-test .before in
+    let start = at-loop .before .before .before .before .before in
+    at-all 0 (start .pre .1 .0) (at-loop .loop .k) (at-loop-test .loop-test .taken)
 
 stroke-at-requires : tie.Need-stroke-at-requires Inv-loop μ-loop
-stroke-at-requires c κs = place-room _ _ _ (c .before .before .before .before .before .before .before .before .pre .0 .0) _ (at-all 0 (c .before .before .before .before .before .before .before .before .pre .1 .0) (c .before .before .before .loop .k) (c .before .before .loop-test .taken))
+stroke-at-requires c κs =
+    let at-loop-test = c .before .before in
+    let at-loop = at-loop-test .before in
+    let start = at-loop .before .before .before .before .before in
+    place-room _ _ _ (start .pre .0 .0) _ (at-all 0 (start .pre .1 .0) (at-loop .loop .k) (at-loop-test .loop-test .taken))
 
 put-stroke-requires : tie.Need-put-stroke-requires Inv-loop μ-loop
 put-stroke-requires c κs =
-    let P = c .before .before .before .before .before .before .before .before .before .before .pre .0 .0 in (
-      stroke-in _ _ _ P _ (at-all 0 (c .before .before .before .before .before .before .before .before .before .before .pre .1 .0) (c .before .before .before .before .before .loop .k) (c .before .before .before .before .loop-test .taken)) (c .before .stroke-at .ensures) (c .before .before .before .before .before .before .before .before .before .before .pre .0 .1),
+    let at-stroke-at = c .before in
+    let at-loop-test = at-stroke-at .before .before .before in
+    let at-loop = at-loop-test .before in
+    let start = at-loop .before .before .before .before .before in
+    let P = start .pre .0 .0 in (
+      stroke-in _ _ _ P _ (at-all 0 (start .pre .1 .0) (at-loop .loop .k) (at-loop-test .loop-test .taken)) (at-stroke-at .stroke-at .ensures) (start .pre .0 .1),
       bars-room _ _ _ P,
       omega (arith, P .count, P .formed .most),
-      omega (arith, c .before .before .before .before .before .loop .inv, c .before .before .before .before .loop-test .taken, c .before .before .before .before .before .before .before .before .before .before .pre .1 .1),
+      omega (arith, at-loop .loop .inv, at-loop-test .loop-test .taken, start .pre .1 .1),
     )
-
-add-k : tie.Need-add-k Inv-loop μ-loop
-add-k c = omega arith
-
-loop-less : tie.Need-loop-less Inv-loop μ-loop
-loop-less c = omega arith
 
 loop-again : tie.Need-loop-again Inv-loop μ-loop
 loop-again c =
-    let a = c .before .before .before .before .before .before .before .before .before .before .before .before .before .args in
-    let I = c .before .before .before .before .before .before .before .before .loop .inv in
-    let p = c .before .before .put-stroke in (
+    let at-put-stroke = c .before .before in
+    let at-stroke-at = at-put-stroke .before .before in
+    let at-loop-test = at-stroke-at .before .before .before in
+    let at-loop = at-loop-test .before in
+    let start = at-loop .before .before .before .before .before in
+    let a = start .args in
+    let I = at-loop .loop .inv in
+    let p = at-put-stroke .put-stroke in (
       omega arith,
       omega (arith, p .kept .0, I .1),
       omega (arith, p .ensures .1, I .2),
-      lines-more (a .chart .now) (a .at .now) (a .keys .now) (c .before .before .before .before .before .before .before .before .loop .k) (c .before .before .before .before .before .before .before .loop-test .taken) (I .3) (c .before .before .before .before .stroke-at .ensures) (p .ensures .0),
+      lines-more (a .chart .now) (a .at .now) (a .keys .now) (at-loop .loop .k) (at-loop-test .loop-test .taken) (I .3) (at-stroke-at .stroke-at .ensures) (p .ensures .0),
     )
 
 same-length : tie.Need-same-length Inv-loop μ-loop
@@ -74,4 +73,7 @@ returns c =
     (rw (lines-all (a .chart .now) (a .at .now) (a .keys .now) (c .before .loop .k) (c .loop-test .left)) at (c .before .loop .inv .3), omega arith)
 
 pub put-lines-spec : {M : Type 1} → statement M
-put-lines-spec = tie.close (tie.spec Inv-loop μ-loop loop-holds mul-i shared-slice-read-i cast-i mul-stroke-at shared-slice-read-stroke-at stroke-at-requires put-stroke-requires add-k loop-less loop-again same-length returns)
+put-lines-spec =
+    tie.close
+    (tie.spec Inv-loop μ-loop loop-holds (λ c. omega arith) (λ c. omega arith) (λ c. omega arith) (λ c. omega arith) shared-slice-read-stroke-at stroke-at-requires
+    put-stroke-requires (λ c. omega arith) (λ c. omega arith) loop-again same-length returns)

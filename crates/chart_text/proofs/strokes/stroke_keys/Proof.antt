@@ -20,40 +20,35 @@ abbrev μ-loop : tie.MeasureT-loop
 loop-holds : tie.Need-loop-holds Inv-loop μ-loop
 loop-holds c = (omega arith, refl, keys-none (c .before .before .before .args .chart .now) (c .before .before .before .args .at .now) (c .before .before .before .args .keys .now))
 
-mul-stroke-at : tie.Need-mul-stroke-at Inv-loop μ-loop
-mul-stroke-at c = omega arith
-
-shared-slice-read-stroke-at : tie.Need-shared-slice-read-stroke-at Inv-loop μ-loop
-shared-slice-read-stroke-at c = omega arith
-
 stroke-at-requires : tie.Need-stroke-at-requires Inv-loop μ-loop
 stroke-at-requires c κs = place-room _ _ _ (c .before .before .before .before .before .before .pre .0) (c .before .before .loop .i) (c .before .loop-test .taken)
 
 stroke-key-requires : tie.Need-stroke-key-requires Inv-loop μ-loop
 stroke-key-requires c κs =
-    let P = c .before .before .before .before .before .before .before .pre .0 in
-    (stroke-in _ _ _ P (c .before .before .before .loop .i) (c .before .before .loop-test .taken) (c .stroke-at .ensures) (c .before .before .before .before .before .before .before .pre .1), bars-room _ _ _ P, omega (arith, few-strokes _ _ _ P, c .before .before .loop-test .taken))
-
-mul-keys : tie.Need-mul-keys Inv-loop μ-loop
-mul-keys c = omega arith
+    let at-loop-test = c .before .before in
+    let at-loop = at-loop-test .before in
+    let start = at-loop .before .before .before .before in
+    let P = start .pre .0 in
+    (stroke-in _ _ _ P (at-loop .loop .i) (at-loop-test .loop-test .taken) (c .stroke-at .ensures) (start .pre .1), bars-room _ _ _ P, omega (arith, few-strokes _ _ _ P, at-loop-test .loop-test .taken))
 
 slice-write-keys : tie.Need-slice-write-keys Inv-loop μ-loop
-slice-write-keys c = omega (arith, c .before .before .before .before .before .before .before .before .pre .2, c .before .before .before .before .loop .inv .1, c .before .before .before .loop-test .taken)
-
-add-i : tie.Need-add-i Inv-loop μ-loop
-add-i c = omega arith
-
-loop-less : tie.Need-loop-less Inv-loop μ-loop
-loop-less c = omega arith
+slice-write-keys c =
+    let at-loop-test = c .before .before .before in
+    let at-loop = at-loop-test .before in
+    let start = at-loop .before .before .before .before in
+    omega (arith, start .pre .2, at-loop .loop .inv .1, at-loop-test .loop-test .taken)
 
 loop-again : tie.Need-loop-again Inv-loop μ-loop
 loop-again c =
-    let s = c .before .before .before .before .before .before .before .before .args .chart .now in
-    let ks = c .before .before .before .before .loop .keys in
-    let i = c .before .before .before .before .loop .i in
-    let I = c .before .before .before .before .loop .inv in
-    let key = c .stroke-key .ensures ∙ ap (λ (t : Stroke). standing (chartIn s) t * 2048 + i) (c .before .stroke-at .ensures) in
-    (omega arith, length-set ks i _ ∙ I .1, keys-more s (c .before .before .before .before .before .before .before .before .args .at .now) i ks _ (omega (arith, c .before .before .before .before .before .before .before .before .pre .2, I .1)) (I .2) key)
+    let at-stroke-at = c .before in
+    let at-loop = at-stroke-at .before .before .before in
+    let start = at-loop .before .before .before .before in
+    let s = start .args .chart .now in
+    let ks = at-loop .loop .keys in
+    let i = at-loop .loop .i in
+    let I = at-loop .loop .inv in
+    let key = c .stroke-key .ensures ∙ ap (λ (t : Stroke). standing (chartIn s) t * 2048 + i) (at-stroke-at .stroke-at .ensures) in
+    (omega arith, length-set ks i _ ∙ I .1, keys-more s (start .args .at .now) i ks _ (omega (arith, start .pre .2, I .1)) (I .2) key)
 
 same-length : tie.Need-same-length Inv-loop μ-loop
 same-length c = c .before .loop .inv .1
@@ -62,4 +57,7 @@ returns : tie.Need-returns Inv-loop μ-loop
 returns c = let e : c .before .loop .i ≡ length (c .before .before .before .before .before .args .at .now) = omega arith in rw e at (c .before .loop .inv .2)
 
 pub stroke-keys-spec : {M : Type 1} → statement M
-stroke-keys-spec = tie.close (tie.spec Inv-loop μ-loop loop-holds mul-stroke-at shared-slice-read-stroke-at stroke-at-requires stroke-key-requires mul-keys slice-write-keys add-i loop-less loop-again same-length returns)
+stroke-keys-spec =
+    tie.close
+    (tie.spec Inv-loop μ-loop loop-holds (λ c. omega arith) (λ c. omega arith) stroke-at-requires stroke-key-requires (λ c. omega arith) slice-write-keys (λ c. omega arith)
+    (λ c. omega arith) loop-again same-length returns)
