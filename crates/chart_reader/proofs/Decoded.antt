@@ -1,19 +1,19 @@
 -- Decoding the bytes of a chart gives the chart back.
-use mathlib.Core.Path.{_≡_, refl, ap, ap₂, _∙_}
+use mathlib.Core.Path.{_≡_, refl, ap₂, _∙_}
 use mathlib.Core.List.{List, [], _∷_, _++_, map, flatMap, append-assoc, append-nil}
-use Prim.Native.Nat.{ℕ, zero, suc, _+_, _*_, _-_, _≤_, _<_}
+use Prim.Native.Nat.{ℕ, suc, _+_, _*_, _-_, _≤_, _<_}
 use native.Mathlib.Nat.{add-zero}
 use native.Mathlib.Omega.{arith}
-use lib.ListN.{length, getD, length-append, List·getD-map}
+use lib.ListN.{length, getD, length-append}
 use lib.Seq.{getD-append-add}
-use Rattle.polygon.specs.Lists.{All, all-nil, all-cons, numbers, below}
+use Rattle.polygon.specs.Lists.{All, all-nil, all-cons}
 use Rattle.codec.specs.Numbers.{bytes16, get16}
 use Rattle.sheet.proofs.Bytes.{get16-after, get16-back}
-use Rattle.chart.specs.Chart.{Bar, Stroke, upright, level, Chart, barsOf}
+use Rattle.chart.specs.Chart.{Stroke, upright, level, Chart, barsOf}
 use Rattle.chart.specs.Bytes.{barBytes, strokeBytes, bytesOf}
 use Rattle.chart.proofs.Sizes.{bars-count, bars-size}
 use Rattle.chart.proofs.Decoded.{bar-in}
-use Rattle.chart.specs.Decode.{countIn, barAt, strokeSize, shaped, strokeAt, places, behind, chartIn}
+use Rattle.chart.specs.Decode.{countIn, strokeSize, shaped, strokeAt, places, behind, chartIn}
 use Rattle.chart_reader.proofs.Same.{SameNumbers}
 use Rattle.chart_reader.specs.Formed.{Formed}
 
