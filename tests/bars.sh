@@ -12,10 +12,10 @@ cp -r "$root/crates" "$root/crates.txt" "$work"
 echo "bars_run: $(sed -n 's/^draw: //p' "$root/crates.txt") draw io libc" >>"$work/crates.txt"
 mkdir -p "$work/crates/bars_run/src"
 cat >"$work/crates/bars_run/src/main.rt" <<'END'
-use bar_list::Bar;
+use chart::Bar;
+use codec::BothWritten;
 use codec::get16;
 use codec::put16;
-use draw::Drawn;
 use draw::draw_with_bars;
 use libc::STDOUT_FILENO;
 
@@ -32,8 +32,8 @@ fn call(sheet: &[u8], lent: usize, room: usize) {
     let mut bars = [Bar { row: 61166, left: 61166, right: 61166 }; 1030];
     let mut said = [0u8; 6];
     match draw_with_bars(sheet, &mut out[..lent], &mut bars[..room]) {
-        Drawn::Refused(k) => put16(&mut said, 0, k as usize),
-        Drawn::Chart(k, n) => {
+        BothWritten::Refused(k) => put16(&mut said, 0, k as usize),
+        BothWritten::Lengths(k, n) => {
             put16(&mut said, 2, k);
             put16(&mut said, 4, n);
         }

@@ -8,11 +8,13 @@ ghost use Rattle.codec.specs.Answer.{written, answered, packed, Packable};
 ghost use Rattle.sheet.specs.Sheet.{ordered};
 ghost use Rattle.edit.specs.Rules.{addEar, removeEar, flip};
 ghost use Rattle.edit.specs.Calls.{edited};
+ghost use Rattle.edit.specs.Tables.{editOf};
 ghost use Rattle.edit_list.specs.Result.{ranOf, resultOf, packedRun, Tellable};
 ghost use Rattle.draw.specs.Answer.{drawn};
 ghost use Rattle.chart_reader.specs.Reader.{chartRead};
 ghost use Rattle.plan.specs.Answer.{planned, plannedOf, packedPlan};
 use codec::Written;
+use edit::held::Edit;
 use edit_list::Ran;
 use plan::Planned;
 
@@ -36,13 +38,21 @@ pub extern "C" fn bend_normalize(sheet: &[u8], out: &mut [u8]) -> u64
     pack(sheet::normalize(sheet, out))
 }
 
+// An edit.
+fn pack_edit(sheet: &[u8], e: Edit, out: &mut [u8]) -> u64
+    ensures { λ r. ⌜ r ≡ packed (written (edited (editOf e) (now (sheet .entry))) (now (out .entry))) ⌝ }
+    ensures { λ r. ⌜ now (out .exit) ≡ written (edited (editOf e) (now (sheet .entry))) (now (out .entry)) .bytes ⌝ }
+{
+    pack(edit::edit(sheet, e, out))
+}
+
 // Add a corner on a side.
 #[no_mangle]
 pub extern "C" fn bend_add_ear(sheet: &[u8], side: usize, out: &mut [u8]) -> u64
     ensures { λ r. ⌜ r ≡ packed (written (edited (addEar side) (now (sheet .entry))) (now (out .entry))) ⌝ }
     ensures { λ r. ⌜ now (out .exit) ≡ written (edited (addEar side) (now (sheet .entry))) (now (out .entry)) .bytes ⌝ }
 {
-    pack(edit::add_ear(sheet, side, out))
+    pack_edit(sheet, Edit::AddEar(side), out)
 }
 
 // Take off a corner.
@@ -51,7 +61,7 @@ pub extern "C" fn bend_remove_ear(sheet: &[u8], corner: usize, out: &mut [u8]) -
     ensures { λ r. ⌜ r ≡ packed (written (edited (removeEar corner) (now (sheet .entry))) (now (out .entry))) ⌝ }
     ensures { λ r. ⌜ now (out .exit) ≡ written (edited (removeEar corner) (now (sheet .entry))) (now (out .entry)) .bytes ⌝ }
 {
-    pack(edit::remove_ear(sheet, corner, out))
+    pack_edit(sheet, Edit::RemoveEar(corner), out)
 }
 
 // Turn a diagonal, named in either order.
@@ -60,7 +70,7 @@ pub extern "C" fn bend_flip(sheet: &[u8], a: usize, b: usize, out: &mut [u8]) ->
     ensures { λ r. ⌜ r ≡ packed (written (edited (flip a b) (now (sheet .entry))) (now (out .entry))) ⌝ }
     ensures { λ r. ⌜ now (out .exit) ≡ written (edited (flip a b) (now (sheet .entry))) (now (out .entry)) .bytes ⌝ }
 {
-    pack(edit::flip(sheet, a, b, out))
+    pack_edit(sheet, Edit::Flip(a, b), out)
 }
 
 // The answer of a list of edits in one number.

@@ -12,8 +12,8 @@ abbrev pub Cell : Type 0
 Cell = ℕ × ℕ
 
 -- the same with the row put through f
-abbrev pub lay : (ℕ → ℕ) → Cell → Cell
-lay f z = (z .0, f (z .1))
+abbrev pub rowBy : (ℕ → ℕ) → Cell → Cell
+rowBy f z = (z .0, f (z .1))
 
 -- 1 if x is y; 1 if x is lower than h
 pub δ : ℕ → ℕ → ℕ
@@ -76,7 +76,7 @@ module _ (x : ℕ) where
   num-reverse [] = refl
   num-reverse (y ∷ l) = ap (num x) (reverse-cons y l) ∙ omega (arith, num-append (reverse l) (y ∷ []), num-reverse l)
 
-  pub num-lay : (f : ℕ → ℕ) (l : List Cell) → num x (map (lay f) l) ≡ num x l
+  pub num-lay : (f : ℕ → ℕ) (l : List Cell) → num x (map (rowBy f) l) ≡ num x l
   num-lay f [] = refl
   num-lay f (y ∷ l) = ap (δ x (y .0) +_) (num-lay f l)
 

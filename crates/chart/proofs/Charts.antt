@@ -7,10 +7,10 @@ use Prim.Native.Nat.{ℕ, suc, _+_, _*_, _≤_, _<_}
 use native.Mathlib.Decide.{decLe}
 use native.Mathlib.Omega.{arith}
 use lib.ListN.{length, length-map}
-use Rattle.lists.specs.Lists.{Mem, times, occurs, Nth, now, next}
+use Rattle.lists.specs.Lists.{Mem, occurs, times, Nth, next, now}
 use Rattle.lists.proofs.Lists.{all-mem, mem-map}
-use Rattle.lists.proofs.Places.{nth-mem, nth-at, nth-same}
-use Rattle.lists.proofs.Occurs.{times-yes, mem-occurs, occurs-mem, occurs-once}
+use Rattle.lists.proofs.Places.{nth-at, nth-mem, nth-same}
+use Rattle.lists.proofs.Occurs.{mem-occurs, occurs-mem, occurs-once, times-yes}
 use Rattle.polygon.specs.Polygon.{Edge, _—_, Before}
 use Rattle.polygon.specs.Order.{same?}
 use Rattle.polygon.specs.Tree.{Tree, span}
@@ -19,10 +19,10 @@ use Rattle.umbrella.specs.Plan.{Plan, levels, umbrellas, stems}
 use Rattle.chart.specs.Places.{cols, rows}
 use Rattle.polygon.specs.Edges.{edges}
 use Rattle.chart.specs.Chart.{Stroke, level, upright, strokeEdge, stroke, layout, chart, Touching, True}
-use Rattle.chart.proofs.Strokes.{Says, stroke-says, strokes-edges, upright-in}
+use Rattle.chart.proofs.Strokes.{StrokeSays, stroke-says, strokes-edges, upright-in}
 use Rattle.chart.proofs.Rows.{OnRow, last-row, rows-known, rows-length}
 use Rattle.chart.proofs.Flats.{flats}
-use Rattle.chart.proofs.Umbrella.{Drawn}
+use Rattle.chart.proofs.Umbrella.{PieceDrawn}
 use Rattle.chart.proofs.Draw.{draws}
 use Rattle.chart.proofs.Width.{width}
 use Rattle.chart.proofs.EachEdge.{each-drawn}
@@ -68,7 +68,7 @@ module _ {t : Tree} (p : Plan t) where
   two : (e : Edge) → Mem e (edges 0 t) → e .0 ≢ e .1
   two e m h = let b = all-mem (edges-in 0 t) m in omega arith
 
-  drawn : Drawn (span t) 0 (span t) (2 * levels p) (OnRow (span t) (rows p)) us fs
+  drawn : PieceDrawn (span t) 0 (span t) (2 * levels p) (OnRow (span t) (rows p)) us fs
   drawn =
       draws p (OnRow (span t) (rows p)) 0 (span t) (omega arith) (omega arith, refl) (omega arith, sym (last-row (rows p) (span t) (rows-length p)))
       (rows-known (rows p) (span t) (rows-length p))
@@ -100,7 +100,7 @@ module _ {t : Tree} (p : Plan t) where
   unfolding chart layout
   upright-stroke e j n = subst (λ (s : Stroke). Mem s (map (stroke 0 us) (edges 0 t))) (go (stroke-says 0 us e)) (mem-map (stroke 0 us) (upright-edge e (nth-mem n)))
     where
-      go : Says 0 us e (stroke 0 us e) → stroke 0 us e ≡ upright e j
+      go : StrokeSays 0 us e (stroke 0 us e) → stroke 0 us e ≡ upright e j
       go (inl c) = absurd (c .1 (nth-mem n))
       go (inr c) = c .1 ∙ ap (upright e) (let q : c .0 ≡ j = nth-one e (once e) (c .2) n in omega arith)
 
@@ -108,7 +108,7 @@ module _ {t : Tree} (p : Plan t) where
   unfolding chart layout occurs
   level-stroke e m = subst (λ (s : Stroke). Mem s (map (stroke 0 us) (edges 0 t))) (go (stroke-says 0 us e)) (mem-map (stroke 0 us) (occurs-mem same? e (edges 0 t) (omega (arith, counts e, mem-occurs same? e m))))
     where
-      go : Says 0 us e (stroke 0 us e) → stroke 0 us e ≡ level e
+      go : StrokeSays 0 us e (stroke 0 us e) → stroke 0 us e ≡ level e
       go (inl c) = c .0
       go (inr c) = absurd (omega (arith, counts e, mem-occurs same? e m, mem-occurs same? e (nth-mem (c .2)), single e))
 

@@ -7,16 +7,16 @@ use Prim.Native.Nat.{ℕ, suc, _+_, _-_, _*_, _≤_, max}
 use native.Mathlib.Nat.{sub-zero}
 use native.Mathlib.Omega.{arith}
 use lib.ListN.{length-map}
-use Rattle.lists.specs.Lists.{all-nil, all-cons}
+use Rattle.lists.specs.Lists.{all-cons, all-nil}
 use Rattle.polygon.specs.Polygon.{_—_}
 use Rattle.polygon.specs.Tree.{Tree, span}
 use Rattle.polygon.proofs.Chords.{span-pos}
 use Rattle.umbrella.specs.Plan.{Plan, none, plain, stemLeft, stemRight, LeftRim, leftEnd, leftOn, RightRim, rightEnd, rightOn, LeftGate, leftGate, leftPast, RightGate, rightGate, rightPast, Stem, endBoth, endLeft, endRight, goLeft, goRight, fold, levels}
 use Rattle.umbrella.proofs.Low.{leftLevels, rightLevels, leftGateLevels, rightGateLevels, stemLevels}
-use Rattle.chart.specs.Places.{cols, leftCols, rightCols, leftGateCols, rightGateCols, stemCols, backCols, rows, leftRows, rightRows, leftGateRows, rightGateRows, stemRows, up}
-use Rattle.chart.proofs.Cells.{Cell, lay, δ, lower, lower-suc, range, range-is, range-none}
+use Rattle.chart.specs.Places.{cols, leftCols, rightCols, leftGateCols, rightGateCols, stemCols, backCols, rows, leftRows, rightRows, leftGateRows, rightGateRows, stemRows, rowUp}
+use Rattle.chart.proofs.Cells.{Cell, rowBy, δ, lower, lower-suc, range, range-is, range-none}
 use Rattle.chart.proofs.Block.{piece-blank, piece-raise, piece-reverse, Block, block-is, block-join, block-link, block-reverse}
-use Rattle.chart.proofs.Umbrella.{To, From, to-block, from-block, from-rim, to-link, from-link, to-join, from-join, Drawn, draw-umbrella}
+use Rattle.chart.proofs.Umbrella.{To, From, to-block, from-block, from-rim, to-link, from-link, to-join, from-join, PieceDrawn, draw-umbrella}
 use Rattle.chart.proofs.Rows.{Knows, knows-left, knows-right, knows-head, knows-tail, knows-map, rows-length, left-length, left-gate-length, stem-length}
 use Rattle.chart.proofs.Rim.{Rim, rimUp, rimDown, rim-column, gateCells, gate-column, gatePlace}
 use Rattle.chart.proofs.Flats.{flats, leftFlats, rightFlats, leftGateFlats, rightGateFlats, stemFlats, backFlats}
@@ -38,37 +38,37 @@ last-side p s e = omega arith
 mutual
   unfolding span fold cols rows flats rimUp rimDown
 
-  pub draws : {t : Tree} (p : Plan t) (R : Cell → Type 0) (u v : ℕ) → u + span t ≡ v → R (u, 0) → R (v, 0) → Knows R (suc u) (rows p) → Drawn (span t) u v (2 * levels p) R (cols p u v) (flats p u v)
+  pub draws : {t : Tree} (p : Plan t) (R : Cell → Type 0) (u v : ℕ) → u + span t ≡ v → R (u, 0) → R (v, 0) → Knows R (suc u) (rows p) → PieceDrawn (span t) u v (2 * levels p) R (cols p u v) (flats p u v)
   draws none R u v h ru rv K = record { piece = piece-blank u v 0 R (range (suc u) v) (λ x. range-none (suc u) v x (omega arith)); full = λ i. absurd (omega arith) }
   draws (plain {l} {r} A B) R u v h ru rv K =
       let D : ℕ = suc (max (leftLevels A) (rightLevels B)) in
       let k : ℕ = 2 * D in
       let m : ℕ = 2 * max (leftLevels A) (rightLevels B) in
       let c : ℕ = u + span l in
-      let K₂ : Knows R c (up D 0 ∷ rightRows (up D) B) = knows-right c (leftRows (up D) A) (up D 0 ∷ rightRows (up D) B) (omega (arith, left-length (up D) A)) K in
-      let K₁ : Knows R (suc u) (leftRows (up D) A) = knows-left (leftRows (up D) A) (up D 0 ∷ rightRows (up D) B) K in
+      let K₂ : Knows R c (rowUp D 0 ∷ rightRows (rowUp D) B) = knows-right c (leftRows (rowUp D) A) (rowUp D 0 ∷ rightRows (rowUp D) B) (omega (arith, left-length (rowUp D) A)) K in
+      let K₁ : Knows R (suc u) (leftRows (rowUp D) A) = knows-left (leftRows (rowUp D) A) (rowUp D 0 ∷ rightRows (rowUp D) B) K in
       draw-umbrella (span l + span r) u c v (leftFlats A u c) (rightFlats B c v) (omega (arith, span-pos l)) (omega (arith, span-pos r))
-      (from-rim (omega (arith, span-pos l)) (leftBlock A k m R (up D) u c (rimUp k m R u (omega arith) ru) refl (omega arith) K₁ (knows-head K₂)))
-      (to-block (λ x. omega arith) (rightBlock B k m R (up D) c v (v - 1) (rimUp k m R v (omega arith) rv) (omega arith) (omega (arith, span-pos l)) (omega arith) (knows-head K₂) (knows-tail K₂)))
+      (from-rim (omega (arith, span-pos l)) (leftBlock A k m R (rowUp D) u c (rimUp k m R u (omega arith) ru) refl (omega arith) K₁ (knows-head K₂)))
+      (to-block (λ x. omega arith) (rightBlock B k m R (rowUp D) c v (v - 1) (rimUp k m R v (omega arith) rv) (omega arith) (omega (arith, span-pos l)) (omega arith) (knows-head K₂) (knows-tail K₂)))
   draws (stemLeft {l} {r} G B) R u v h ru rv K =
       let D : ℕ = suc (max (leftGateLevels G) (rightLevels B)) in
       let k : ℕ = 2 * D in
       let m : ℕ = 2 * max (leftGateLevels G) (rightLevels B) in
       let c : ℕ = u + span l in
-      let K₂ : Knows R c (up D 0 ∷ rightRows (up D) B) = knows-right c (leftGateRows (up D) G) (up D 0 ∷ rightRows (up D) B) (omega (arith, left-gate-length (up D) G)) K in
-      let K₁ : Knows R (suc u) (leftGateRows (up D) G) = knows-left (leftGateRows (up D) G) (up D 0 ∷ rightRows (up D) B) K in
+      let K₂ : Knows R c (rowUp D 0 ∷ rightRows (rowUp D) B) = knows-right c (leftGateRows (rowUp D) G) (rowUp D 0 ∷ rightRows (rowUp D) B) (omega (arith, left-gate-length (rowUp D) G)) K in
+      let K₁ : Knows R (suc u) (leftGateRows (rowUp D) G) = knows-left (leftGateRows (rowUp D) G) (rowUp D 0 ∷ rightRows (rowUp D) B) K in
       draw-umbrella (span l + span r) u c v (leftGateFlats G u c) (rightFlats B c v) (omega (arith, span-pos l)) (omega (arith, span-pos r))
       (leftGateBlock G k m R u c refl (omega arith) (omega arith) ru K₁ (knows-head K₂))
-      (to-block (λ x. omega arith) (rightBlock B k m R (up D) c v (v - 1) (rimUp k m R v (omega arith) rv) (omega arith) (omega (arith, span-pos l)) (omega arith) (knows-head K₂) (knows-tail K₂)))
+      (to-block (λ x. omega arith) (rightBlock B k m R (rowUp D) c v (v - 1) (rimUp k m R v (omega arith) rv) (omega arith) (omega (arith, span-pos l)) (omega arith) (knows-head K₂) (knows-tail K₂)))
   draws (stemRight {l} {r} A G) R u v h ru rv K =
       let D : ℕ = suc (max (leftLevels A) (rightGateLevels G)) in
       let k : ℕ = 2 * D in
       let m : ℕ = 2 * max (leftLevels A) (rightGateLevels G) in
       let c : ℕ = u + span l in
-      let K₂ : Knows R c (up D 0 ∷ rightGateRows (up D) G) = knows-right c (leftRows (up D) A) (up D 0 ∷ rightGateRows (up D) G) (omega (arith, left-length (up D) A)) K in
-      let K₁ : Knows R (suc u) (leftRows (up D) A) = knows-left (leftRows (up D) A) (up D 0 ∷ rightGateRows (up D) G) K in
+      let K₂ : Knows R c (rowUp D 0 ∷ rightGateRows (rowUp D) G) = knows-right c (leftRows (rowUp D) A) (rowUp D 0 ∷ rightGateRows (rowUp D) G) (omega (arith, left-length (rowUp D) A)) K in
+      let K₁ : Knows R (suc u) (leftRows (rowUp D) A) = knows-left (leftRows (rowUp D) A) (rowUp D 0 ∷ rightGateRows (rowUp D) G) K in
       draw-umbrella (span l + span r) u c v (leftFlats A u c) (rightGateFlats G c v) (omega (arith, span-pos l)) (omega (arith, span-pos r))
-      (from-rim (omega (arith, span-pos l)) (leftBlock A k m R (up D) u c (rimUp k m R u (omega arith) ru) refl (omega arith) K₁ (knows-head K₂)))
+      (from-rim (omega (arith, span-pos l)) (leftBlock A k m R (rowUp D) u c (rimUp k m R u (omega arith) ru) refl (omega arith) K₁ (knows-head K₂)))
       (rightGateBlock G k m R c v (v - 1) (omega arith) (omega (arith, span-pos l)) (omega arith) (omega arith) rv (knows-head K₂) (knows-tail K₂))
 
   -- the rim below c
@@ -89,7 +89,7 @@ mutual
       (λ x. omega (arith, range-is (suc u) (suc v) x (omega arith), range-is (suc u) (suc c) x (omega arith), range-is (suc c) v x (omega (arith, span-pos b)), lower-suc v x))
       (block-link (c — v) (inl refl) (X .place) (X .known) (inr refl) (inr refl)
       (leftBlock A k m R f u c X refl (omega arith) (knows-left (leftRows f A) (f 0 ∷ map f (rows p)) K) (knows-head K₂))
-      (piece-raise (omega arith) (draws p (λ z. R (lay f z)) c v (omega arith) (knows-head K₂) rv (knows-map f (rows p) (knows-tail K₂)) .piece))
+      (piece-raise (omega arith) (draws p (λ z. R (rowBy f z)) c v (omega arith) (knows-head K₂) rv (knows-map f (rows p) (knows-tail K₂)) .piece))
       (rim-column X v (u — v) (inl refl) rv))
 
   -- the rim above c
@@ -113,7 +113,7 @@ mutual
       (λ x. omega (arith, range-is u v x (omega arith), range-is (suc u) c x (omega (arith, span-pos a)), range-is c v x (omega arith), lower-suc u x))
       (block-link (u — c) (inl refl) (X .place) (X .known) (inl refl) (inl refl)
       (rim-column X u (u — v) (inr refl) ru)
-      (piece-raise (omega arith) (draws p (λ z. R (lay f z)) u c refl ru (knows-head K₂) (knows-map f (rows p) (knows-left (map f (rows p)) (f 0 ∷ rightRows f B) K)) .piece))
+      (piece-raise (omega arith) (draws p (λ z. R (rowBy f z)) u c refl ru (knows-head K₂) (knows-map f (rows p) (knows-left (map f (rows p)) (f 0 ∷ rightRows f B) K)) .piece))
       (rightBlock B k m R f c v w X (omega arith) e (omega arith) (knows-head K₂) (knows-tail K₂)))
 
   -- a gate above c
@@ -130,7 +130,7 @@ mutual
       (λ x. omega (arith, range-is u v x (omega arith), range-is (suc u) c x (omega (arith, span-pos a)), range-is c v x (omega arith), lower-suc u x))
       (inl refl) (X .place) (X .known) (inl refl) (inl refl)
       (rim-column X u (u — v) (inr refl) ru)
-      (piece-raise (omega arith) (draws p (λ z. R (lay f z)) u c refl ru (knows-head K₂) (knows-map f (rows p) (knows-left (map f (rows p)) (f 0 ∷ rightGateRows f G) K)) .piece))
+      (piece-raise (omega arith) (draws p (λ z. R (rowBy f z)) u c refl ru (knows-head K₂) (knows-map f (rows p) (knows-left (map f (rows p)) (f 0 ∷ rightGateRows f G) K)) .piece))
       (rightGateBlock G k m R c v w (omega arith) e fit (omega arith) rv (knows-head K₂) (knows-tail K₂))
   rightGateBlock (rightGate {a} {b} S B) k m R u v w h e fit lv rv ru K =
       let f : ℕ → ℕ = λ r. k - r in
@@ -161,7 +161,7 @@ mutual
       (λ x. omega (arith, range-is (suc u) (suc v) x (omega arith), range-is (suc u) (suc c) x (omega arith), range-is (suc c) v x (omega (arith, span-pos b)), lower-suc v x))
       (inl refl) (X .place) (X .known) (inr refl) (inr refl)
       (leftGateBlock G k m R u c refl fit (omega arith) ru (knows-left (leftGateRows f G) (f 0 ∷ map f (rows p)) K) (knows-head K₂))
-      (piece-raise (omega arith) (draws p (λ z. R (lay f z)) c v (omega arith) (knows-head K₂) rv (knows-map f (rows p) (knows-tail K₂)) .piece))
+      (piece-raise (omega arith) (draws p (λ z. R (rowBy f z)) c v (omega arith) (knows-head K₂) rv (knows-map f (rows p) (knows-tail K₂)) .piece))
       (rim-column X v (u — v) (inl refl) rv)
   leftGateBlock (leftGate {a} {b} A S) k m R u v h fit lv ru K rv =
       let f : ℕ → ℕ = λ r. k - r in
@@ -199,7 +199,7 @@ mutual
       (λ x. omega (arith, range-is p (suc q) x (omega arith), range-is (suc (suc p)) q x (omega (arith, span-pos a)), lower-suc p x, lower-suc (suc p) x, lower-suc q x))
       (inr refl) (X .place) (X .known) (inr refl) (inr refl)
       (gate-column w q p (p — q) (omega arith) (inr refl) rw rq rp)
-      (piece-reverse (piece-raise lv (draws c (λ z. R (lay suc z)) (suc p) q (omega arith) (knows-head K) rq (knows-map suc (rows c) (knows-tail K)) .piece)))
+      (piece-reverse (piece-raise lv (draws c (λ z. R (rowBy suc z)) (suc p) q (omega arith) (knows-head K) rq (knows-map suc (rows c) (knows-tail K)) .piece)))
       (to-block (λ x. omega arith) (gate-column w (suc p) p (p — suc p) (omega arith) (inr refl) rw (knows-head K) rp))
   stemBlock (endRight {a} {b} c) k m R w p q h fit lv rw rp rq K =
       let f : ℕ → ℕ = λ r. k - r in
@@ -210,7 +210,7 @@ mutual
       (λ z. omega (arith, range-is p (suc q) z (omega arith), range-is (suc p) x z (omega (arith, span-pos a)), lower-suc p z, lower-suc x z, lower-suc q z, ap (λ (y : ℕ). lower y z) (last-side p (span a + span b) h)))
       (inl refl) (gatePlace k m w q fit) (all-cons rw (all-cons rq all-nil)) (inl refl) (inl refl)
       (gate-column w q p (p — q) (omega arith) (inr refl) rw rq rp)
-      (piece-raise lv (draws c (λ z. R (lay f z)) p x refl (row-0 R p k rp) (knows-head K₂) (knows-map f (rows c) (knows-left (map f (rows c)) (f 0 ∷ []) K)) .piece))
+      (piece-raise lv (draws c (λ z. R (rowBy f z)) p x refl (row-0 R p k rp) (knows-head K₂) (knows-map f (rows c) (knows-left (map f (rows c)) (f 0 ∷ []) K)) .piece))
       (to-block (λ z. omega arith) (gate-column w q x (x — q) (omega arith) (inr refl) rw rq (row-k R x k (knows-head K₂))))
   stemBlock (goLeft {a} {b} S c) k m R w p q h fit lv rw rp rq K =
       let f : ℕ → ℕ = λ r. k - r in
@@ -222,7 +222,7 @@ mutual
       (λ z. omega (arith, range-is p (suc q) z (omega arith), range-is p (suc x) z (omega arith), range-is (suc x) q z (omega (arith, span-pos b)), lower-suc q z))
       (inr refl) (X .place) (X .known) (inr refl) (inr refl)
       (gate-column w q p (p — q) (omega arith) (inr refl) rw rq rp)
-      (piece-reverse (piece-raise (omega arith) (draws c (λ z. R (lay suc z)) x q (omega arith) (knows-head K₂) rq (knows-map suc (rows c) (knows-tail K₂)) .piece)))
+      (piece-reverse (piece-raise (omega arith) (draws c (λ z. R (rowBy suc z)) x q (omega arith) (knows-head K₂) rq (knows-map suc (rows c) (knows-tail K₂)) .piece)))
       (stemBlock S k m R w p x refl fit (omega arith) rw rp (knows-head K₂) (knows-left (stemRows suc f S) (1 ∷ map suc (rows c)) K))
   stemBlock (goRight {a} {b} c S) k m R w p q h fit lv rw rp rq K =
       let f : ℕ → ℕ = λ r. k - r in
@@ -233,7 +233,7 @@ mutual
       (λ z. omega (arith, range-is p (suc q) z (omega arith), range-is (suc p) x z (omega (arith, span-pos a)), range-is x (suc q) z (omega arith), lower-suc p z))
       (inl refl) (gatePlace k m w q fit) (all-cons rw (all-cons rq all-nil)) (inl refl) (inl refl)
       (gate-column w q p (p — q) (omega arith) (inr refl) rw rq rp)
-      (piece-raise (omega arith) (draws c (λ z. R (lay f z)) p x refl (row-0 R p k rp) (knows-head K₂) (knows-map f (rows c) (knows-left (map f (rows c)) (f 0 ∷ stemRows suc f S) K)) .piece))
+      (piece-raise (omega arith) (draws c (λ z. R (rowBy f z)) p x refl (row-0 R p k rp) (knows-head K₂) (knows-map f (rows c) (knows-left (map f (rows c)) (f 0 ∷ stemRows suc f S) K)) .piece))
       (stemBlock S k m R w x q (omega arith) fit (omega arith) rw (row-k R x k (knows-head K₂)) rq (knows-tail K₂))
 
   -- a stem from the right: p on row 1, q on row k
@@ -256,7 +256,7 @@ mutual
       (λ x. omega (arith, range-is p (suc q) x (omega arith), range-is (suc (suc p)) q x (omega (arith, span-pos a)), lower-suc p x, lower-suc (suc p) x, lower-suc q x))
       (inl refl) (gatePlace k m w p fit) (all-cons rw (all-cons rp all-nil)) (inr refl) (inr refl)
       (from-block (λ x. δ x p + δ x (suc p)) (λ x. omega arith) (λ x. omega arith) (gate-column w p (suc p) (p — suc p) (omega arith) (inl refl) rw rp (row-k R (suc p) k (knows-head K))))
-      (piece-raise lv (draws c (λ z. R (lay f z)) (suc p) q (omega arith) (knows-head K) (row-0 R q k rq) (knows-map f (rows c) (knows-tail K)) .piece))
+      (piece-raise lv (draws c (λ z. R (rowBy f z)) (suc p) q (omega arith) (knows-head K) (row-0 R q k rq) (knows-map f (rows c) (knows-tail K)) .piece))
       (gate-column w p q (p — q) (omega arith) (inl refl) rw rp rq)
   backBlock (endRight {a} {b} c) k m R w p q h fit lv rw rp rq K =
       let x : ℕ = p + (span a + span b) in
@@ -267,7 +267,7 @@ mutual
       (λ z. omega (arith, range-is p (suc q) z (omega arith), range-is (suc p) x z (omega (arith, span-pos a)), lower-suc p z, lower-suc x z, lower-suc q z, ap (λ (y : ℕ). lower y z) (last-side p (span a + span b) h)))
       (inr refl) (X .place) (X .known) (inl refl) (inl refl)
       (from-block (λ z. δ z x + δ z q) (λ z. omega arith) (λ z. omega arith) (gate-column w x q (x — q) (omega arith) (inl refl) rw (knows-head K₂) rq))
-      (piece-reverse (piece-raise lv (draws c (λ z. R (lay suc z)) p x refl rp (knows-head K₂) (knows-map suc (rows c) (knows-left (map suc (rows c)) (1 ∷ []) K)) .piece)))
+      (piece-reverse (piece-raise lv (draws c (λ z. R (rowBy suc z)) p x refl rp (knows-head K₂) (knows-map suc (rows c) (knows-left (map suc (rows c)) (1 ∷ []) K)) .piece)))
       (gate-column w p q (p — q) (omega arith) (inl refl) rw rp rq)
   backBlock (goLeft {a} {b} S c) k m R w p q h fit lv rw rp rq K =
       let f : ℕ → ℕ = λ r. k - r in
@@ -278,7 +278,7 @@ mutual
       (λ z. omega (arith, range-is p (suc q) z (omega arith), range-is p (suc x) z (omega arith), range-is (suc x) q z (omega (arith, span-pos b)), lower-suc q z))
       (inl refl) (gatePlace k m w p fit) (all-cons rw (all-cons rp all-nil)) (inr refl) (inr refl)
       (backBlock S k m R w p x refl fit (omega arith) rw rp (row-k R x k (knows-head K₂)) (knows-left (stemRows f suc S) (f 0 ∷ map f (rows c)) K))
-      (piece-raise (omega arith) (draws c (λ z. R (lay f z)) x q (omega arith) (knows-head K₂) (row-0 R q k rq) (knows-map f (rows c) (knows-tail K₂)) .piece))
+      (piece-raise (omega arith) (draws c (λ z. R (rowBy f z)) x q (omega arith) (knows-head K₂) (row-0 R q k rq) (knows-map f (rows c) (knows-tail K₂)) .piece))
       (gate-column w p q (p — q) (omega arith) (inl refl) rw rp rq)
   backBlock (goRight {a} {b} c S) k m R w p q h fit lv rw rp rq K =
       let f : ℕ → ℕ = λ r. k - r in
@@ -290,5 +290,5 @@ mutual
       (λ z. omega (arith, range-is p (suc q) z (omega arith), range-is x (suc q) z (omega arith), range-is (suc p) x z (omega (arith, span-pos a)), lower-suc p z))
       (inr refl) (X .place) (X .known) (inl refl) (inl refl)
       (backBlock S k m R w x q (omega arith) fit (omega arith) rw (knows-head K₂) rq (knows-tail K₂))
-      (piece-reverse (piece-raise (omega arith) (draws c (λ z. R (lay suc z)) p x refl rp (knows-head K₂) (knows-map suc (rows c) (knows-left (map suc (rows c)) (1 ∷ stemRows f suc S) K)) .piece)))
+      (piece-reverse (piece-raise (omega arith) (draws c (λ z. R (rowBy suc z)) p x refl rp (knows-head K₂) (knows-map suc (rows c) (knows-left (map suc (rows c)) (1 ∷ stemRows f suc S) K)) .piece)))
       (gate-column w p q (p — q) (omega arith) (inl refl) rw rp rq)

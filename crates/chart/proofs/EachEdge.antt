@@ -8,7 +8,7 @@ use Rattle.polygon.specs.Polygon.{Edge, _—_}
 use Rattle.polygon.specs.Order.{same?}
 use Rattle.polygon.specs.Tree.{Tree, leaf, node, span, chordsAt}
 use Rattle.umbrella.specs.Plan.{Plan, none, plain, stemLeft, stemRight, LeftRim, leftEnd, leftOn, RightRim, rightEnd, rightOn, LeftGate, leftGate, leftPast, RightGate, rightGate, rightPast, Stem, endBoth, endLeft, endRight, goLeft, goRight}
-use Rattle.lists.specs.Lists.{times, occurs}
+use Rattle.lists.specs.Lists.{occurs, times}
 use Rattle.lists.proofs.Occurs.{occurs-append, occurs-reverse}
 use Rattle.chart.specs.Places.{cols, leftCols, rightCols, leftGateCols, rightGateCols, stemCols, backCols}
 use Rattle.polygon.specs.Edges.{edges, edgesAt, edgesPast}

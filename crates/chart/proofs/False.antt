@@ -8,14 +8,12 @@ use native.Mathlib.Omega.{arith}
 use lib.ListN.{getD}
 use Rattle.polygon.specs.Polygon.{_—_}
 use Rattle.lists.proofs.Lists.{here, there}
-use Rattle.chart.specs.Chart.{Bar, Stroke, upright, level, Chart, True}
+use Rattle.chart.specs.Chart.{Stroke, upright, level, Chart, True}
+use Rattle.chart.specs.Decode.{barOn}
 
 -- a chart by its rows, columns and corners, its strokes, and for each corner the row, left and right column of its bar
-abbrev pub barAt : ℕ × ℕ × ℕ → Bar
-barAt b = record { row = b .0; left = b .1; right = b .2 }
-
 abbrev pub made : ℕ → ℕ → ℕ → List (ℕ × ℕ × ℕ) → List Stroke → Chart
-made h w k bs ss = record { rows = h; columns = w; n = k; bar = λ x. barAt (getD bs x (0, 0, 0)); strokes = ss }
+made h w k bs ss = record { rows = h; columns = w; n = k; bar = λ x. let b = getD bs x (0, 0, 0) in barOn (b .0) (b .1) (b .2); strokes = ss }
 
 -- a chart that is not true, with why
 abbrev pub FalseChart : Type 0

@@ -6,7 +6,7 @@ use Prim.Native.Nat.{ℕ, suc, _-_, _≤_, _+_}
 use native.Mathlib.Decide.{decLe, ℕ-discrete}
 use native.Mathlib.Omega.{arith}
 use lib.ListN.{length, length-reverse}
-use Rattle.lists.specs.Lists.{Mem, head, tail, choose, Nth, now, next}
+use Rattle.lists.specs.Lists.{Mem, choose, head, tail, Nth, next, now}
 use Rattle.lists.proofs.Lists.{mem-left, mem-right, mem-reverse}
 use Rattle.lists.proofs.Places.{nth-lt, nth-reverse}
 use Rattle.polygon.specs.Polygon.{Edge}

@@ -6,7 +6,7 @@ use Prim.Native.Nat.{ℕ, zero, suc, _≤_}
 use native.Mathlib.Omega.{arith}
 use Rattle.chart.proofs.Cells.{num}
 use Rattle.chart.proofs.Runs.{Col, At, Run, stop, go}
-use Rattle.lists.specs.Lists.{Nth, now, next}
+use Rattle.lists.specs.Lists.{Nth, next, now}
 
 pub lab : {x s t : ℕ} {L : List Col} → Run x s L t → ℕ → ℕ
 lab {t = t} (stop h) j = t

@@ -22,6 +22,7 @@ pub mod Truth
 pub mod Charts
 pub mod Fits
 pub mod Sizes
+pub mod Decoded
 pub mod Segments
 pub mod Hung
 pub mod Pieces

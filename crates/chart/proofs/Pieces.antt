@@ -7,9 +7,9 @@ use Prim.Native.Nat.{ℕ, suc, _+_, _-_, _≤_, _<_}
 use native.Mathlib.Decide.{ℕ-discrete}
 use native.Mathlib.Omega.{arith}
 use lib.ListN.{length, getD}
-use Rattle.lists.specs.Lists.{Mem, tail, Nth, now, next}
-use Rattle.lists.proofs.Lists.{here, choose-yes}
-use Rattle.lists.proofs.Places.{nth-lt, mem-nth, nth-getD, nth-left, nth-right}
+use Rattle.lists.specs.Lists.{Mem, tail, Nth, next, now}
+use Rattle.lists.proofs.Lists.{choose-yes, here}
+use Rattle.lists.proofs.Places.{mem-nth, nth-getD, nth-left, nth-lt, nth-right}
 use Rattle.polygon.specs.Polygon.{Edge, _—_}
 use Rattle.polygon.specs.Tree.{Tree, span}
 use Rattle.polygon.proofs.Chords.{span-pos}
@@ -22,7 +22,7 @@ use Rattle.chart.proofs.Hull.{Served, served-reverse, left-le, right-ge
 use Rattle.chart.proofs.Flats.{flats}
 use Rattle.chart.proofs.Draw.{draws}
 use Rattle.chart.proofs.Charts.{chart-true, chart-touching, chart-size, upright-stroke, level-stroke}
-use Rattle.chart.proofs.Segments.{Within, Segment, turned}
+use Rattle.chart.proofs.Segments.{Stretch, Segment, turned}
 use Rattle.chart.proofs.Hung.{every-piece}
 
 node-wide : {s : Tree} → Node s → 1 < span s
@@ -46,7 +46,7 @@ module _ {t : Tree} (p : Plan t) (big : 2 ≤ span t) where
   holds x j e n m = (left-le x j e n m, right-ge x (span t) j e n m)
 
   -- columns between an upright to a and one to b, with uprights to both among them, where the bars of a and b touch
-  between : (xs : List Edge) (a b : ℕ) (e f : Edge) → Within us (e ∷ (xs ++ (f ∷ []))) → Meets a e → Meets b f → Served a xs → Served b xs → Touching (chart p) (a — b) → Rooted (chart p) xs a b
+  between : (xs : List Edge) (a b : ℕ) (e f : Edge) → Stretch us (e ∷ (xs ++ (f ∷ []))) → Meets a e → Meets b f → Served a xs → Served b xs → Touching (chart p) (a — b) → Rooted (chart p) xs a b
   between xs a b e f w m₀ m₁ (d, i, k) (g, j, l) T =
       let (x, n) = mem-nth i in
       let (y, o) = mem-nth j in
@@ -83,7 +83,7 @@ module _ {t : Tree} (p : Plan t) (big : 2 ≤ span t) where
       inl (between (cols q a b) a b e f w m₀ m₁ x y (root-touching a b r))
   hung-bars s q a b e f n h m₀ m₁ (inr w) r =
       let (x, y) = both-served q a b n h in
-      inr (between (reverse (cols q a b)) b a f e (subst (Within us) (turned e f (cols q a b)) w) m₁ m₀ (served-reverse y) (served-reverse x) (swap a b (root-touching a b r)))
+      inr (between (reverse (cols q a b)) b a f e (subst (Stretch us) (turned e f (cols q a b)) w) m₁ m₀ (served-reverse y) (served-reverse x) (swap a b (root-touching a b r)))
 
   -- the whole piece: corner 0's bar starts in the first column, and the last corner's ends in the last
   first-column : chart p .bar 0 .left ≡ 0

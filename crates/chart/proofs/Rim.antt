@@ -5,11 +5,11 @@ use mathlib.Core.List.{List, [], _∷_}
 use Prim.Native.Nat.{ℕ, suc, _+_, _-_, _≤_}
 use native.Mathlib.Decide.{decLe}
 use native.Mathlib.Omega.{arith}
-use Rattle.lists.specs.Lists.{All, all-nil, all-cons}
+use Rattle.lists.specs.Lists.{All, all-cons, all-nil}
 use Rattle.polygon.specs.Polygon.{Edge}
 use Rattle.chart.specs.Chart.{Meets}
-use Rattle.chart.proofs.Cells.{Cell, lay, δ, δ-le, δ-one}
-use Rattle.chart.proofs.Column.{Asc, asc-rise, asc-end, Adj, adj-pre, adj-two, Joins, joins-sym, joins-left}
+use Rattle.chart.proofs.Cells.{Cell, rowBy, δ, δ-le, δ-one}
+use Rattle.chart.proofs.Column.{Asc, asc-rise, asc-end, Adj, adj-pre, adj-two, EdgeBetween, joins-sym, joins-left}
 use Rattle.chart.proofs.Place.{Place, placeUp, placeDown, upPl, downPl}
 use Rattle.chart.proofs.Block.{Block, block-one}
 
@@ -19,7 +19,7 @@ pub record Rim (k m : ℕ) (R : Cell → Type 0) (w : ℕ) (f : ℕ → ℕ) : T
   pub E : List Cell
   pub st : ℕ → List Cell
   pub place : Place pl E st f m k
-  pub joins : (y : ℕ) (e : Edge) → Joins e w y → Adj e (st y)
+  pub joins : (y : ℕ) (e : Edge) → EdgeBetween e w y → Adj e (st y)
   pub known : All R E
 
 -- on row k, the pieces going upwards
@@ -44,7 +44,7 @@ rimDown k m R w p h r s = record {
   known = all-cons r (all-cons s all-nil);
 }
 
-ends-met : {e : Edge} {a b : ℕ} → Joins e a b → (x : ℕ) → 1 ≤ δ x a + δ x b → Meets x e
+ends-met : {e : Edge} {a b : ℕ} → EdgeBetween e a b → (x : ℕ) → 1 ≤ δ x a + δ x b → Meets x e
 ends-met {e} {a} {b} j x h = pick (decLe 1 (δ x a))
   where
     pick : Dec (1 ≤ δ x a) → Meets x e
@@ -52,14 +52,14 @@ ends-met {e} {a} {b} j x h = pick (decLe 1 (δ x a))
     pick (no k) = subst (λ (y : ℕ). Meets y e) (sym (δ-one x b (omega (arith, δ-le x b)))) (joins-left (joins-sym j))
 
 -- the column of one rim corner
-pub rim-column : {k m : ℕ} {R : Cell → Type 0} {w : ℕ} {f : ℕ → ℕ} (X : Rim k m R w f) (y : ℕ) (e : Edge) → Joins e w y → R (y, f 0)
+pub rim-column : {k m : ℕ} {R : Cell → Type 0} {w : ℕ} {f : ℕ → ℕ} (X : Rim k m R w f) (y : ℕ) (e : Edge) → EdgeBetween e w y → R (y, f 0)
     → Block k R (X .st y, e) (X .st y, e) (λ x. 0) (λ x. δ x w + δ x y) (e ∷ []) []
 rim-column {k} {m} {R} {w} {f} X y e j r =
     block-one (X .st y, e)
     (record {
       asc = subst (Asc (suc k) 0) (X .place .at y) (X .place .ascs ((y, 0) ∷ []) (asc-rise (omega arith) (asc-end (omega arith))));
       joins = X .joins y e j;
-      known = subst (All R) (X .place .at y) (X .place .alls (λ z. z ≡ (y, 0)) R ((y, 0) ∷ []) (λ z h. subst (λ (c : Cell). R (lay f c)) (sym h) r) (X .known) (all-cons refl all-nil));
+      known = subst (All R) (X .place .at y) (X .place .alls (λ z. z ≡ (y, 0)) R ((y, 0) ∷ []) (λ z h. subst (λ (c : Cell). R (rowBy f c)) (sym h) r) (X .known) (all-cons refl all-nil));
     })
     (λ x. δ x w + δ x y) (ends-met j)
 
@@ -67,7 +67,7 @@ rim-column {k} {m} {R} {w} {f} X y e j r =
 abbrev pub gateCells : ℕ → ℕ → ℕ → ℕ → List Cell
 gateCells k w y z = (w, 0) ∷ ((y, 1) ∷ ((z, k) ∷ []))
 
-pub gate-column : {k : ℕ} {R : Cell → Type 0} (w y z : ℕ) (e : Edge) → 2 ≤ k → Joins e y z → R (w, 0) → R (y, 1) → R (z, k)
+pub gate-column : {k : ℕ} {R : Cell → Type 0} (w y z : ℕ) (e : Edge) → 2 ≤ k → EdgeBetween e y z → R (w, 0) → R (y, 1) → R (z, k)
     → Block k R (gateCells k w y z, e) (gateCells k w y z, e) (λ x. 0) (λ x. δ x y + δ x z) (e ∷ []) []
 gate-column {k} w y z e h j rw ry rz =
     block-one (gateCells k w y z, e)

@@ -7,11 +7,11 @@ use native.Mathlib.Omega.{arith}
 use lib.ListN.{length, getD, length-append, length-map, List·getD-append}
 use lib.Seq.{getD-at}
 use Rattle.lists.specs.Lists.{Mem, head, tail}
-use Rattle.lists.proofs.Lists.{here, not-empty, mem-left, mem-right, mem-map}
+use Rattle.lists.proofs.Lists.{here, mem-left, mem-right, not-empty, mem-map}
 use Rattle.polygon.specs.Tree.{Tree, span}
 use Rattle.umbrella.specs.Plan.{Plan, none, plain, stemLeft, stemRight, LeftRim, leftEnd, leftOn, RightRim, rightEnd, rightOn, LeftGate, leftGate, leftPast, RightGate, rightGate, rightPast, Stem, endBoth, endLeft, endRight, goLeft, goRight}
 use Rattle.chart.specs.Places.{rows, leftRows, rightRows, leftGateRows, rightGateRows, stemRows}
-use Rattle.chart.proofs.Cells.{Cell, lay}
+use Rattle.chart.proofs.Cells.{Cell, rowBy}
 
 -- the cells of the corners from a on, on these rows
 unfoldable pub label : ℕ → List ℕ → List Cell
@@ -27,7 +27,7 @@ unfolding label
 label-append a [] ys = ap (λ (b : ℕ). label b ys) (omega arith)
 label-append a (x ∷ xs) ys = ap ((a, x) ∷_) (label-append (suc a) xs ys ∙ ap (λ (b : ℕ). label (suc a) xs ++ label b ys) (omega arith))
 
-label-map : (f : ℕ → ℕ) (a : ℕ) (rs : List ℕ) → label a (map f rs) ≡ map (lay f) (label a rs)
+label-map : (f : ℕ → ℕ) (a : ℕ) (rs : List ℕ) → label a (map f rs) ≡ map (rowBy f) (label a rs)
 unfolding label
 label-map f a [] = refl
 label-map f a (r ∷ rs) = ap ((a, f r) ∷_) (label-map f (suc a) rs)
@@ -47,8 +47,8 @@ module _ {R : Cell → Type 0} where
   unfolding label
   knows-tail K = record { all = λ z m. K .all z (tail m) }
 
-pub knows-map : {R : Cell → Type 0} {a : ℕ} (f : ℕ → ℕ) (rs : List ℕ) → Knows R a (map f rs) → Knows (λ z. R (lay f z)) a rs
-knows-map {R} {a} f rs K = record { all = λ z m. K .all (lay f z) (subst (Mem (lay f z)) (sym (label-map f a rs)) (mem-map (lay f) m)) }
+pub knows-map : {R : Cell → Type 0} {a : ℕ} (f : ℕ → ℕ) (rs : List ℕ) → Knows R a (map f rs) → Knows (λ z. R (rowBy f z)) a rs
+knows-map {R} {a} f rs K = record { all = λ z m. K .all (rowBy f z) (subst (Mem (rowBy f z)) (sym (label-map f a rs)) (mem-map (rowBy f) m)) }
 
 -- the row of each corner of the piece (0,v), and a cell on its corner's row
 abbrev pub rowOf : List ℕ → ℕ → ℕ

@@ -6,7 +6,7 @@ use mathlib.Core.List.{List, [], _∷_, _++_, map, reverse, reverse-cons}
 use Prim.Native.Nat.{ℕ, _+_, _-_, _≤_, min}
 use native.Mathlib.Decide.{decLe}
 use native.Mathlib.Omega.{arith}
-use Rattle.lists.specs.Lists.{All, all-nil, all-cons}
+use Rattle.lists.specs.Lists.{All, all-cons, all-nil}
 use Rattle.lists.proofs.Lists.{all-append, all-imp, all-map, all-reverse}
 use Rattle.polygon.specs.Polygon.{Edge}
 use Rattle.chart.proofs.Cells.{Cell, num}

@@ -6,16 +6,16 @@ use mathlib.Core.List.{List, [], _∷_, _++_, reverse, append-nil, append-assoc,
 
 module _ {A : Type 0} where
   -- xs stands in us
-  pub record Within (us xs : List A) : Type 0 where
+  pub record Stretch (us xs : List A) : Type 0 where
     pub pre : List A
     pub post : List A
     pub is : us ≡ pre ++ (xs ++ post)
 
 module _ {A : Type 0} where
-  within-trans : {us xs ys : List A} → Within us xs → Within xs ys → Within us ys
+  within-trans : {us xs ys : List A} → Stretch us xs → Stretch xs ys → Stretch us ys
   within-trans {us} {xs} {ys} f g = record { pre = f .pre ++ g .pre; post = g .post ++ f .post; is = f .is ∙ (ap (λ l. f .pre ++ (l ++ f .post)) (g .is) ∙ simp append-assoc) }
 
-  within-reverse : {us xs : List A} → Within us xs → Within (reverse us) (reverse xs)
+  within-reverse : {us xs : List A} → Stretch us xs → Stretch (reverse us) (reverse xs)
   within-reverse {us} {xs} f = record {
     pre = reverse (f .post);
     post = reverse (f .pre);
@@ -23,13 +23,13 @@ module _ {A : Type 0} where
   }
 
   -- parts of a list of two, or of two columns with a list between
-  pub within-left : (xs ys : List A) → Within (xs ++ ys) xs
+  pub within-left : (xs ys : List A) → Stretch (xs ++ ys) xs
   within-left xs ys = record { pre = []; post = ys; is = refl }
 
-  pub within-right : (xs ys : List A) → Within (xs ++ ys) ys
+  pub within-right : (xs ys : List A) → Stretch (xs ++ ys) ys
   within-right xs ys = record { pre = xs; post = []; is = ap (xs ++_) (sym (append-nil ys)) }
 
-  pub within-middle : (xs ys zs : List A) → Within (xs ++ (ys ++ zs)) ys
+  pub within-middle : (xs ys zs : List A) → Stretch (xs ++ (ys ++ zs)) ys
   within-middle xs ys zs = record { pre = xs; post = zs; is = refl }
 
   -- the last of xs, the first of ys
@@ -41,23 +41,23 @@ module _ {A : Type 0} where
     pub rest : List A
     pub is : ys ≡ e ∷ rest
 
-  pub within-last : {xs : List A} {e : A} (ys : List A) → Last xs e → Within (xs ++ ys) (e ∷ ys)
+  pub within-last : {xs : List A} {e : A} (ys : List A) → Last xs e → Stretch (xs ++ ys) (e ∷ ys)
   within-last {xs} {e} ys h = record { pre = h .init; post = []; is = ap (_++ ys) (h .is) ∙ (append-assoc (h .init) (e ∷ []) ys ∙ ap (λ l. h .init ++ (e ∷ l)) (sym (append-nil ys))) }
 
-  pub within-first : {ys : List A} {e : A} (xs : List A) → First ys e → Within (xs ++ ys) (xs ++ (e ∷ []))
+  pub within-first : {ys : List A} {e : A} (xs : List A) → First ys e → Stretch (xs ++ ys) (xs ++ (e ∷ []))
   within-first {ys} {e} xs h = record { pre = []; post = h .rest; is = ap (xs ++_) (h .is) ∙ sym (append-assoc xs (e ∷ []) (h .rest)) }
 
 module _ {A : Type 0} where
   abbrev pub Segment : List A → List A → Type 0
-  Segment us xs = Within us xs ⊎ Within us (reverse xs)
+  Segment us xs = Stretch us xs ⊎ Stretch us (reverse xs)
 
-  pub segment-part : {us xs ys : List A} → Segment us xs → Within xs ys → Segment us ys
+  pub segment-part : {us xs ys : List A} → Segment us xs → Stretch xs ys → Segment us ys
   segment-part (inl f) g = inl (within-trans f g)
   segment-part (inr f) g = inr (within-trans f (within-reverse g))
 
   pub segment-turn : {us xs : List A} → Segment us (reverse xs) → Segment us xs
   segment-turn (inl f) = inr f
-  segment-turn {us} {xs} (inr f) = inl (subst (Within us) (reverse-reverse xs) f)
+  segment-turn {us} {xs} (inr f) = inl (subst (Stretch us) (reverse-reverse xs) f)
 
   -- a list between two elements, turned round
   pub turned : (e f : A) (xs : List A) → reverse (e ∷ (xs ++ (f ∷ []))) ≡ f ∷ (reverse xs ++ (e ∷ []))

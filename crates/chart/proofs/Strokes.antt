@@ -5,17 +5,17 @@ use mathlib.Core.Logic.{_⊎_, inl, inr}
 use mathlib.Core.List.{List, [], _∷_, map}
 use Prim.Native.Nat.{ℕ, suc, _+_}
 use native.Mathlib.Omega.{arith}
-use Rattle.lists.specs.Lists.{Mem, head, tail, choose, Nth, now, next}
+use Rattle.lists.specs.Lists.{Mem, choose, head, tail, Nth, next, now}
 use Rattle.lists.proofs.Lists.{not-empty, mem-unmap}
 use Rattle.polygon.specs.Polygon.{Edge}
 use Rattle.polygon.specs.Order.{same?}
 use Rattle.chart.specs.Chart.{Stroke, level, upright, strokeEdge, stroke}
 
 -- what the stroke of e says, the first of us being column j
-abbrev pub Says : ℕ → List Edge → Edge → Stroke → Type 0
-Says j us e s = ((s ≡ level e) × (Mem e us → ⊥)) ⊎ ((i : ℕ) × (s ≡ upright e (j + i)) × Nth e i us)
+abbrev pub StrokeSays : ℕ → List Edge → Edge → Stroke → Type 0
+StrokeSays j us e s = ((s ≡ level e) × (Mem e us → ⊥)) ⊎ ((i : ℕ) × (s ≡ upright e (j + i)) × Nth e i us)
 
-pub stroke-says : (j : ℕ) (us : List Edge) (e : Edge) → Says j us e (stroke j us e)
+pub stroke-says : (j : ℕ) (us : List Edge) (e : Edge) → StrokeSays j us e (stroke j us e)
 unfolding stroke choose
 stroke-says j [] e = inl (refl, not-empty)
 stroke-says j (f ∷ us) e = pick (same? e f) (stroke-says (suc j) us e)
@@ -24,7 +24,7 @@ stroke-says j (f ∷ us) e = pick (same? e f) (stroke-says (suc j) us e)
     not-here g h (head q) = g q
     not-here g h (tail m) = h m
 
-    pick : (k : Dec (e ≡ f)) → Says (suc j) us e (stroke (suc j) us e) → Says j (f ∷ us) e (choose k (upright e j) (stroke (suc j) us e))
+    pick : (k : Dec (e ≡ f)) → StrokeSays (suc j) us e (stroke (suc j) us e) → StrokeSays j (f ∷ us) e (choose k (upright e j) (stroke (suc j) us e))
     pick (yes k) c = inr (0, ap (upright e) (omega arith), now k)
     pick (no k) (inl c) = inl (c .0, not-here k (c .1))
     pick (no k) (inr c) = inr (suc (c .0), c .1 ∙ ap (upright e) (omega arith), next (c .2))
@@ -41,14 +41,14 @@ module _ (us es : List Edge) where
   pub level-in : (e : Edge) → Mem (level e) (map (stroke 0 us) es) → Mem e es × (Mem e us → ⊥)
   level-in e i = let (x, k, q) = mem-unmap (stroke 0 us) es i in pick x k q (stroke-says 0 us x)
     where
-      pick : (x : Edge) → Mem x es → level e ≡ stroke 0 us x → Says 0 us x (stroke 0 us x) → Mem e es × (Mem e us → ⊥)
+      pick : (x : Edge) → Mem x es → level e ≡ stroke 0 us x → StrokeSays 0 us x (stroke 0 us x) → Mem e es × (Mem e us → ⊥)
       pick x k q (inl c) = let g : e ≡ x = cc (q ∙ c .0) in (subst (λ (y : Edge). Mem y es) (sym g) k, λ j. c .1 (subst (λ (y : Edge). Mem y us) g j))
       pick x k q (inr c) = let g : _≡_ {A = ℕ} 0 1 = cc (q ∙ c .1) in absurd (omega arith)
 
   pub upright-in : (e : Edge) (j : ℕ) → Mem (upright e j) (map (stroke 0 us) es) → Mem e es × Nth e j us
   upright-in e j i = let (x, k, q) = mem-unmap (stroke 0 us) es i in pick x k q (stroke-says 0 us x)
     where
-      pick : (x : Edge) → Mem x es → upright e j ≡ stroke 0 us x → Says 0 us x (stroke 0 us x) → Mem e es × Nth e j us
+      pick : (x : Edge) → Mem x es → upright e j ≡ stroke 0 us x → StrokeSays 0 us x (stroke 0 us x) → Mem e es × Nth e j us
       pick x k q (inl c) = let g : _≡_ {A = ℕ} 0 1 = cc (q ∙ c .0) in absurd (omega arith)
       pick x k q (inr c) =
           let g : e ≡ x = cc (q ∙ c .1) in

@@ -7,37 +7,37 @@ use Prim.Native.Nat.{ℕ, suc, _+_, _-_, _*_, _≤_, _<_, max}
 use native.Mathlib.Decide.{decLe, decLt, ℕ-discrete}
 use native.Mathlib.Omega.{arith}
 use lib.ListN.{length, length-map}
-use Rattle.lists.specs.Lists.{Mem, head, tail, choose, Nth, now, next}
+use Rattle.lists.specs.Lists.{Mem, choose, head, tail, Nth, next, now}
 use Rattle.lists.proofs.Lists.{all-mem}
-use Rattle.lists.proofs.Places.{nth-lt, nth-mem, nth-at, nth-map, nth-unmap}
+use Rattle.lists.proofs.Places.{nth-at, nth-lt, nth-map, nth-mem, nth-unmap}
 use Rattle.polygon.specs.Polygon.{Edge, _—_}
 use Rattle.chart.specs.Chart.{Meets, first, last, layout, level, stroke, Gap, Touching, Between, True}
 use Rattle.chart.proofs.Cells.{δ, δ-self, δ-le, δ-one, lower-suc, lower-yes, lower-no, range, range-is, num-in, in-num}
 use Rattle.chart.proofs.Runs.{Col, Run}
-use Rattle.chart.proofs.Column.{Has, asc-one, asc-below, Ends, adj-ends, ends-has, Good}
-use Rattle.chart.proofs.Touch.{Tip, Near, start, Touch, near, later, near-start}
+use Rattle.chart.proofs.Column.{CellOn, asc-one, asc-below, UprightEnds, adj-ends, ends-has, Good}
+use Rattle.chart.proofs.Touch.{Tip, Facing, start, FacingIn, near, later, near-start}
 use Rattle.chart.proofs.Hull.{Served, first-at, last-at, left-le, right-ge}
 use Rattle.chart.proofs.Labels.{lab, lab-low, lab-high, lab-mono, lab-one, lab-has}
 use Rattle.chart.proofs.Strokes.{level-in, upright-in}
 use Rattle.chart.proofs.Block.{upOf}
 use Rattle.chart.proofs.Rows.{rowOf, OnRow}
-use Rattle.chart.proofs.Umbrella.{Drawn}
+use Rattle.chart.proofs.Umbrella.{PieceDrawn}
 
 -- the two columns at which a level edge's bars meet
 abbrev Pair : Edge → List Col → Type 0
-Pair e L = (i : ℕ) × (b : Col) × (c : Col) × Nth b i L × Nth c (suc i) L × Near e b c
+Pair e L = (i : ℕ) × (b : Col) × (c : Col) × Nth b i L × Nth c (suc i) L × Facing e b c
 
-touch-pair : {e : Edge} {S : Col} {L : List Col} → Touch e S L → Pair e (S ∷ L)
+touch-pair : {e : Edge} {S : Col} {L : List Col} → FacingIn e S L → Pair e (S ∷ L)
 touch-pair {S = S} (near {c = c} n) = (0, S, c, now refl, next (now refl), n)
 touch-pair (later t) = let (i, b, c, n, m, q) = touch-pair t in (suc i, b, c, next n, next m, q)
 
 -- from no column on: within the list
-touch-within : {e : Edge} {L : List Col} → Touch e start L → Pair e L
+touch-within : {e : Edge} {L : List Col} → FacingIn e start L → Pair e L
 touch-within (near n) = absurd (near-start n)
 touch-within (later t) = touch-pair t
 
 -- The chart of the piece (0,v) of D levels, on rows rs, with columns us, level edges fs besides its root edge, and all its edges es.
-module _ (v D : ℕ) (rs : List ℕ) (us fs es : List Edge) (sides : ℕ) (big : 1 < sides) (pos : 1 ≤ v) (w : Drawn sides 0 v (2 * D) (OnRow v rs) us fs)
+module _ (v D : ℕ) (rs : List ℕ) (us fs es : List Edge) (sides : ℕ) (big : 1 < sides) (pos : 1 ≤ v) (w : PieceDrawn sides 0 v (2 * D) (OnRow v rs) us fs)
     (parts : (e : Edge) → Mem e es → (Mem e us → ⊥) → Mem e ((0 — v) ∷ fs)) (two : (e : Edge) → Mem e es → e .0 ≢ e .1) where
   abbrev cols : List Col
   cols = w .piece .L
@@ -62,17 +62,17 @@ module _ (v D : ℕ) (rs : List ℕ) (us fs es : List Edge) (sides : ℕ) (big :
   good-at j c n = all-mem (w .piece .good) (nth-mem n)
 
   -- a cell's corner and row
-  cell-row : (x r j : ℕ) (c : Col) → Nth c j cols → Has x r (c .0) → (x ≤ v) × (r ≡ row x)
+  cell-row : (x r j : ℕ) (c : Col) → Nth c j cols → CellOn x r (c .0) → (x ≤ v) × (r ≡ row x)
   cell-row x r j c n i = all-mem (good-at j c n .known) i
 
-  one-cell : (x y r j : ℕ) (c : Col) → Nth c j cols → Has x r (c .0) → Has y r (c .0) → x ≡ y
+  one-cell : (x y r j : ℕ) (c : Col) → Nth c j cols → CellOn x r (c .0) → CellOn y r (c .0) → x ≡ y
   one-cell x y r j c n p q = asc-one x y r (good-at j c n .asc) p q
 
   -- label 1 and having a cell are the same
-  lab-cell : (x j : ℕ) (h : x ≤ v) (c : Col) → Nth c j cols → lab (run x h) j ≡ 1 → Has x (row x) (c .0)
-  lab-cell x j h c n e = let (r, i) = in-num x (c .0) (lab-has (run x h) n e) in subst (λ (y : ℕ). Has x y (c .0)) ((cell-row x r j c n i) .1) i
+  lab-cell : (x j : ℕ) (h : x ≤ v) (c : Col) → Nth c j cols → lab (run x h) j ≡ 1 → CellOn x (row x) (c .0)
+  lab-cell x j h c n e = let (r, i) = in-num x (c .0) (lab-has (run x h) n e) in subst (λ (y : ℕ). CellOn x y (c .0)) ((cell-row x r j c n i) .1) i
 
-  cell-lab : (x r j : ℕ) (h : x ≤ v) (c : Col) → Nth c j cols → Has x r (c .0) → lab (run x h) j ≡ 1
+  cell-lab : (x r j : ℕ) (h : x ≤ v) (c : Col) → Nth c j cols → CellOn x r (c .0) → lab (run x h) j ≡ 1
   cell-lab x r j h c n i = lab-one (run x h) n (num-in x r i)
 
   -- columns and uprights
@@ -82,10 +82,10 @@ module _ (v D : ℕ) (rs : List ℕ) (us fs es : List Edge) (sides : ℕ) (big :
   up-at : (j : ℕ) (c : Col) → Nth c j cols → Nth (c .1) j us
   up-at j c n = subst (Nth (c .1) j) (w .piece .ups) (nth-map upOf n)
 
-  ends-at : (e : Edge) (j : ℕ) → Nth e j us → (c : Col) × Nth c j cols × Ends e (c .0)
+  ends-at : (e : Edge) (j : ℕ) → Nth e j us → (c : Col) × Nth c j cols × UprightEnds e (c .0)
   ends-at e j n =
       let (c, q, g) = nth-unmap upOf cols (subst (Nth e j) (sym (w .piece .ups)) n) in
-      (c, q, subst (λ (f : Edge). Ends f (c .0)) (sym g) (adj-ends (good-at j c q .asc) (good-at j c q .joins)))
+      (c, q, subst (λ (f : Edge). UprightEnds f (c .0)) (sym g) (adj-ends (good-at j c q .asc) (good-at j c q .joins)))
 
   up-lab : (x j : ℕ) (h : x ≤ v) (e : Edge) → Nth e j us → Meets x e → lab (run x h) j ≡ 1
   up-lab x j h e n m =
@@ -118,7 +118,7 @@ module _ (v D : ℕ) (rs : List ℕ) (us fs es : List Edge) (sides : ℕ) (big :
       pick (yes e) g = omega (arith, lab-high (run x h) j, subst (λ (y : ℕ). δ x y ≡ 1) e (δ-self x))
       pick (no e) g = let (f, n, m) = last-at x us (served x h) in omega (arith, up-lab x (last x us) h f n m, lab-mono (run x h) j (last x us) g)
 
-  over-cell : (x j : ℕ) → x ≤ v → left x ≤ j → j ≤ right x → (c : Col) → Nth c j cols → Has x (row x) (c .0)
+  over-cell : (x j : ℕ) → x ≤ v → left x ≤ j → j ≤ right x → (c : Col) → Nth c j cols → CellOn x (row x) (c .0)
   over-cell x j h l r c n = lab-cell x j h c n (omega (arith, left-lab x j h l, right-lab x j h r))
 
   -- and holds its uprights
@@ -152,14 +152,14 @@ module _ (v D : ℕ) (rs : List ℕ) (us fs es : List Edge) (sides : ℕ) (big :
       ends-x : (hx : (x ≤ v) × (r ≡ row x)) → lab (run x (hx .0)) i ≡ 1 → Dec (right x ≤ i) → right x ≤ i
       ends-x hx lx (yes o) = o
       ends-x hx lx (no o) =
-          let g : Has x (row x) (c .0) = lab-cell x (suc i) (hx .0) c m (omega (arith, right-lab x (suc i) (hx .0) (omega arith), lab-mono (run x (hx .0)) i (suc i) (omega arith))) in
-          absurd (ne (one-cell x y r (suc i) c m (subst (λ (z : ℕ). Has x z (c .0)) (sym (hx .1)) g) (q .0)))
+          let g : CellOn x (row x) (c .0) = lab-cell x (suc i) (hx .0) c m (omega (arith, right-lab x (suc i) (hx .0) (omega arith), lab-mono (run x (hx .0)) i (suc i) (omega arith))) in
+          absurd (ne (one-cell x y r (suc i) c m (subst (λ (z : ℕ). CellOn x z (c .0)) (sym (hx .1)) g) (q .0)))
 
       starts-y : (hy : (y ≤ v) × (r ≡ row y)) → lab (run y (hy .0)) (suc i) ≡ 1 → Dec (suc i ≤ left y) → suc i ≤ left y
       starts-y hy ly (yes o) = o
       starts-y hy ly (no o) =
-          let g : Has y (row y) (b .0) = lab-cell y i (hy .0) b n (omega (arith, left-lab y i (hy .0) (omega arith), lab-mono (run y (hy .0)) i (suc i) (omega arith))) in
-          absurd (ne (one-cell x y r i b n (p .0) (subst (λ (z : ℕ). Has y z (b .0)) (sym (hy .1)) g)))
+          let g : CellOn y (row y) (b .0) = lab-cell y i (hy .0) b n (omega (arith, left-lab y i (hy .0) (omega arith), lab-mono (run y (hy .0)) i (suc i) (omega arith))) in
+          absurd (ne (one-cell x y r i b n (p .0) (subst (λ (z : ℕ). CellOn y z (b .0)) (sym (hy .1)) g)))
 
   -- the bars of a level stroke
   record Level (e : Edge) : Type 0 where
@@ -171,14 +171,14 @@ module _ (v D : ℕ) (rs : List ℕ) (us fs es : List Edge) (sides : ℕ) (big :
   level-of : (e : Edge) → Mem (level e) (map (stroke 0 us) es) → Level e
   level-of e t = let (i, b, c, n, m, q) = touch-within (among (parts e (level-in us es e t .0) (level-in us es e t .1))) in pick i b c n m q
     where
-      among : Mem e ((0 — v) ∷ fs) → Touch e start cols
-      among (head h) = subst (λ (f : Edge). Touch f start cols) (sym h) (w .full big .meet)
+      among : Mem e ((0 — v) ∷ fs) → FacingIn e start cols
+      among (head h) = subst (λ (f : Edge). FacingIn f start cols) (sym h) (w .full big .meet)
       among (tail k) = all-mem (w .piece .flats) k
 
       apart : e .0 ≢ e .1
       apart = two e (level-in us es e t .0)
 
-      pick : (i : ℕ) (b c : Col) → Nth b i cols → Nth c (suc i) cols → Near e b c → Level e
+      pick : (i : ℕ) (b c : Col) → Nth b i cols → Nth c (suc i) cols → Facing e b c → Level e
       pick i b c n m (inl r) =
           let p = cell-row (e .0) (r .0) i b n (r .1 .0) in
           let q = cell-row (e .1) (r .0) (suc i) c m (r .2 .0) in
@@ -199,7 +199,7 @@ module _ (v D : ℕ) (rs : List ℕ) (us fs es : List Edge) (sides : ℕ) (big :
       pick (inr h) (inl k) = omega (arith, not-empty (e .0) (t .in0), not-empty (e .1) (t .in1))
       pick (inr h) (inr k) = omega arith
 
-  free-at : (e : Edge) (j x : ℕ) (c : Col) → Nth c j cols → Ends e (c .0) → (t : ℕ) → Has x t (c .0) → Between (row (e .0)) (row (e .1)) t → ⊥
+  free-at : (e : Edge) (j x : ℕ) (c : Col) → Nth c j cols → UprightEnds e (c .0) → (t : ℕ) → CellOn x t (c .0) → Between (row (e .0)) (row (e .1)) t → ⊥
   free-at e j x c q E t i b =
       let (g, h) = cell-row (e .0) (E .r) j c q (E .low) in
       let (k, l) = cell-row (e .1) (E .s) j c q (E .high) in
@@ -241,7 +241,7 @@ module _ (v D : ℕ) (rs : List ℕ) (us fs es : List Edge) (sides : ℕ) (big :
           let j : ℕ = max (left x) (left y) in
           let (c, n) = col-at j (omega (arith, not-empty x hx, not-empty y hy, in-width x hx, in-width y hy)) in
           absurd (ne (one-cell x y (row x) j c n (over-cell x j hx (omega arith) (omega (arith, not-empty x hx)) c n)
-          (subst (λ (r : ℕ). Has y r (c .0)) (sym e) (over-cell y j hy (omega arith) (omega (arith, not-empty y hy)) c n))))
+          (subst (λ (r : ℕ). CellOn y r (c .0)) (sym e) (over-cell y j hy (omega arith) (omega (arith, not-empty y hy)) c n))))
 
   pub touching : (e : Edge) → Mem (level e) (layout v D rs us es .strokes) → Touching (layout v D rs us es) e
   unfolding layout

@@ -5,17 +5,17 @@ use mathlib.Core.Logic.{inl, inr}
 use mathlib.Core.List.{List, [], _∷_, _++_}
 use Prim.Native.Nat.{ℕ, suc, _+_, _≤_, _<_}
 use native.Mathlib.Omega.{arith}
-use Rattle.lists.specs.Lists.{All, all-nil, all-cons}
+use Rattle.lists.specs.Lists.{All, all-cons, all-nil}
 use Rattle.lists.proofs.Lists.{here}
 use Rattle.polygon.specs.Polygon.{Edge, _—_}
 use Rattle.chart.specs.Chart.{Meets}
-use Rattle.chart.proofs.Cells.{Cell, lay, δ, δ-self, lower-suc, range, range-is, num}
+use Rattle.chart.proofs.Cells.{Cell, rowBy, δ, δ-self, lower-suc, range, range-is, num}
 use Rattle.chart.proofs.Runs.{Col, trans-weak}
-use Rattle.chart.proofs.Column.{Joins}
-use Rattle.chart.proofs.Touch.{near-edge, start, Touch, touch-joins, touch-any, touch-left}
+use Rattle.chart.proofs.Column.{EdgeBetween}
+use Rattle.chart.proofs.Touch.{near-edge, start, FacingIn, touch-joins, touch-any, touch-left}
 use Rattle.chart.proofs.Place.{Place}
 use Rattle.chart.proofs.Hull.{Served}
-use Rattle.chart.proofs.Block.{Piece, Block, block-is, block-join, block-link}
+use Rattle.chart.proofs.Block.{Strip, Block, block-is, block-join, block-link}
 
 -- a block to some last column that still has w
 pub record To (k : ℕ) (R : Cell → Type 0) (w : ℕ) (F : Col) (n s : ℕ → ℕ) (us fs : List Edge) : Type 0 where
@@ -48,16 +48,16 @@ module _ {k : ℕ} {R : Cell → Type 0} where
   pub to-link : {m a b w : ℕ} {pl : List Cell → List Cell} {E : List Cell} {st : ℕ → List Cell} {f : ℕ → ℕ} {us₀ fs₀ : List Edge} {n₀ : ℕ → ℕ} {e₀ e₁ : Edge}
       {F : Col} {n s n′ s′ : ℕ → ℕ} {us fs us′ fs′ : List Edge} (e : Edge) (n″ s″ : ℕ → ℕ)
       → ((x : ℕ) → n x + ((δ x b + n₀ x) + n′ x) ≡ n″ x) → ((x : ℕ) → s″ x ≤ s x + (n₀ x + s′ x))
-      → Joins e a b → Place pl E st f m k → All R E → Meets a e₀ → Meets b e₁
-      → Block k R F (st a, e₀) n s us fs → Piece a b m (λ z. R (lay f z)) us₀ fs₀ n₀ → To k R w (st b, e₁) n′ s′ us′ fs′
+      → EdgeBetween e a b → Place pl E st f m k → All R E → Meets a e₀ → Meets b e₁
+      → Block k R F (st a, e₀) n s us fs → Strip a b m (λ z. R (rowBy f z)) us₀ fs₀ n₀ → To k R w (st b, e₁) n′ s′ us′ fs′
       → To k R w F n″ s″ (us ++ (us₀ ++ us′)) (fs ++ (e ∷ (fs₀ ++ fs′)))
   to-link e n″ s″ h g j c r m₀ m₁ p d Z = record { T = Z .T; live = Z .live; block = block-is n″ s″ h g (block-link e j c r m₀ m₁ p d (Z .block)) }
 
   pub from-link : {m a b w : ℕ} {pl : List Cell → List Cell} {E : List Cell} {st : ℕ → List Cell} {f : ℕ → ℕ} {us₀ fs₀ : List Edge} {n₀ : ℕ → ℕ} {e₀ e₁ : Edge}
       {T : Col} {n s n′ s′ : ℕ → ℕ} {us fs us′ fs′ : List Edge} (e : Edge) (n″ s″ : ℕ → ℕ)
       → ((x : ℕ) → n x + ((δ x b + n₀ x) + n′ x) ≡ n″ x) → ((x : ℕ) → s″ x ≤ s x + (n₀ x + s′ x))
-      → Joins e a b → Place pl E st f m k → All R E → Meets a e₀ → Meets b e₁
-      → From k R w (st a, e₀) n s us fs → Piece a b m (λ z. R (lay f z)) us₀ fs₀ n₀ → Block k R (st b, e₁) T n′ s′ us′ fs′
+      → EdgeBetween e a b → Place pl E st f m k → All R E → Meets a e₀ → Meets b e₁
+      → From k R w (st a, e₀) n s us fs → Strip a b m (λ z. R (rowBy f z)) us₀ fs₀ n₀ → Block k R (st b, e₁) T n′ s′ us′ fs′
       → From k R w T n″ s″ (us ++ (us₀ ++ us′)) (fs ++ (e ∷ (fs₀ ++ fs′)))
   from-link {b = b} {n₀ = n₀} {n′ = n′} e n″ s″ h g j c r m₀ m₁ Z d q = record {
     F = Z .F;
@@ -88,11 +88,11 @@ module _ {k : ℕ} {R : Cell → Type 0} where
 pub record Full (u v : ℕ) (us : List Edge) (L : List Col) : Type 0 where
   pub left : Served u us
   pub right : Served v us
-  pub meet : Touch (u — v) start L
+  pub meet : FacingIn (u — v) start L
 
 -- the drawing of a piece (u,v) of so many sides besides its root edge
-pub record Drawn (sides u v k : ℕ) (R : Cell → Type 0) (us fs : List Edge) : Type 0 where
-  pub piece : Piece u v k R us fs (range (suc u) v)
+pub record PieceDrawn (sides u v k : ℕ) (R : Cell → Type 0) (us fs : List Edge) : Type 0 where
+  pub piece : Strip u v k R us fs (range (suc u) v)
   pub full : 1 < sides → Full u v us (piece .L)
 
 -- one taken out of a list
@@ -104,7 +104,7 @@ all-drop e (f ∷ fs) gs (all-cons p a) = let (q, b) = all-drop e fs gs a in (q,
 pub draw-umbrella : {k : ℕ} {R : Cell → Type 0} {us us′ : List Edge} (sides u c v : ℕ) (fs fs′ : List Edge) → u < c → c < v
     → From k R u ((u, 0) ∷ ((c, k) ∷ []), (u — c)) (range (suc u) (suc c)) (λ x. δ x u + range (suc u) (suc c) x) us fs
     → To k R v ((v, 0) ∷ ((c, k) ∷ []), (c — v)) (range (suc c) v) (λ x. δ x v + range c v x) us′ fs′
-    → Drawn sides u v k R (us ++ us′) (fs ++ fs′)
+    → PieceDrawn sides u v k R (us ++ us′) (fs ++ fs′)
 draw-umbrella {k} {R} {us} {us′} sides u c v fs fs′ uc cv Y Z = record {
   piece = record {
     L = Y .F ∷ b .rest;

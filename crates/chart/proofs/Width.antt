@@ -7,7 +7,8 @@ use native.Mathlib.Omega.{arith}
 use lib.ListN.{length, length-append, length-reverse}
 use Rattle.polygon.specs.Polygon.{Edge, _—_}
 use Rattle.polygon.specs.Tree.{Tree, span}
-use Rattle.umbrella.specs.Plan.{Plan, none, plain, stemLeft, stemRight, LeftRim, leftEnd, leftOn, RightRim, rightEnd, rightOn, LeftGate, leftGate, leftPast, RightGate, rightGate, rightPast, Stem, endBoth, endLeft, endRight, goLeft, goRight, fold, foldLeft, foldRight, foldLeftGate, foldRightGate, foldStem, umbrellas, stems}
+use Rattle.umbrella.specs.Plan.{Plan, none, plain, stemLeft, stemRight, LeftRim, leftEnd, leftOn, RightRim, rightEnd, rightOn, LeftGate, leftGate, leftPast, RightGate, rightGate, rightPast, Stem, endBoth, endLeft, endRight, goLeft, goRight}
+use Rattle.umbrella.specs.Plan.{fold, foldLeft, foldRight, foldLeftGate, foldRightGate, foldStem, umbrellas, stems}
 use Rattle.chart.specs.Places.{cols, leftCols, rightCols, leftGateCols, rightGateCols, stemCols, backCols}
 
 -- umbrellas and stems together

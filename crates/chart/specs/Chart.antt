@@ -5,7 +5,7 @@ use mathlib.Core.List.{List, [], _∷_, _++_, map, reverse}
 use Prim.Native.Nat.{ℕ, suc, _+_, _-_, _*_, _≤_, _<_}
 use native.Mathlib.Decide.{ℕ-discrete}
 use lib.ListN.{length, getD}
-use Rattle.lists.specs.Lists.{Mem, choose, either?, below}
+use Rattle.lists.specs.Lists.{Mem, below, choose, either?}
 use Rattle.polygon.specs.Polygon.{Edge, Ascending, Linked, Polygon}
 use Rattle.polygon.specs.Order.{same?}
 use Rattle.polygon.specs.Tree.{Tree, span}

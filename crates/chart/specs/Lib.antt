@@ -1,4 +1,5 @@
 pub mod Places
 pub mod Chart
 pub mod Bytes
+pub mod Decode
 pub mod Pieces

@@ -56,17 +56,17 @@ unfoldable mutual
   backCols (goRight {a} c S) p q = backCols S (p + span a) q ++ (reverse (cols c p (p + span a)) ++ ((p — q) ∷ []))
 
 -- "A hung piece on row 2D goes upwards, on row 1 downwards; its row 0 is that row": its row r is row `up D r`, or row `suc r`.
-abbrev pub up : ℕ → ℕ → ℕ
-up D r = 2 * D - r
+abbrev pub rowUp : ℕ → ℕ → ℕ
+rowUp D r = 2 * D - r
 
 -- "A piece of D levels has rows 0 to 2D; u and v lie on row 0, u left." The rows of the corners strictly between u and v, in the order of the corners.
 unfoldable mutual
   -- c lies on row 2D
   pub rows : {t : Tree} → Plan t → List ℕ
   rows none = []
-  rows (plain A B) = let D = levels (plain A B) in leftRows (up D) A ++ (up D 0 ∷ rightRows (up D) B)
-  rows (stemRight A G) = let D = levels (stemRight A G) in leftRows (up D) A ++ (up D 0 ∷ rightGateRows (up D) G)
-  rows (stemLeft G B) = let D = levels (stemLeft G B) in leftGateRows (up D) G ++ (up D 0 ∷ rightRows (up D) B)
+  rows (plain A B) = let D = levels (plain A B) in leftRows (rowUp D) A ++ (rowUp D 0 ∷ rightRows (rowUp D) B)
+  rows (stemRight A G) = let D = levels (stemRight A G) in leftRows (rowUp D) A ++ (rowUp D 0 ∷ rightGateRows (rowUp D) G)
+  rows (stemLeft G B) = let D = levels (stemLeft G B) in leftGateRows (rowUp D) G ++ (rowUp D 0 ∷ rightRows (rowUp D) B)
 
   -- a rim on row f 0, and its hung pieces, whose rows go by f
   pub leftRows : {t : Tree} → (ℕ → ℕ) → LeftRim t → List ℕ

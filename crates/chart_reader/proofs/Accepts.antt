@@ -10,14 +10,15 @@ use Rattle.polygon.specs.Polygon.{Polygon, Valid}
 use Rattle.sheet.specs.Sheet.{Reading, refused, held}
 use Rattle.chart.specs.Chart.{Chart, True, Shows}
 use Rattle.chart.specs.Bytes.{bytesOf}
-use Rattle.chart_reader.specs.Decode.{countIn, strokeAt, places, strokePlaces, chartIn, Formed}
+use Rattle.chart.specs.Decode.{countIn, strokeAt, places, strokePlaces, chartIn}
+use Rattle.chart_reader.specs.Formed.{Formed}
 use Rattle.chart_reader.specs.Rules.{BarRule, StrokeRule, GapRule, PartRule, partIn}
 use Rattle.chart_reader.specs.Reader.{readChart}
 use Rattle.chart_reader.specs.Charts.{Charts}
 use Rattle.chart_reader.proofs.Verdict.{Verdict, taken, by-14, by-15, by-16, by-17, by-18, read-by}
 use Rattle.chart_reader.proofs.Truth.{rules-true, true-rules}
 use Rattle.chart_reader.proofs.Shown.{rule-shows, rule-valid, shows-named, shows-count, shows-rule, shows-part}
-use Rattle.chart_reader.proofs.Same.{Same, same-true, same-shows}
+use Rattle.chart_reader.proofs.Same.{SameNumbers, same-true, same-shows}
 use Rattle.chart_reader.proofs.Decoded.{decoded, decoded-formed}
 use Rattle.chart_reader.proofs.Encoded.{encoded}
 
@@ -33,7 +34,7 @@ not-held : (k : ℕ) (p : Polygon) → refused k ≡ held p → ⊥
 not-held k p e = let z : _≡_ {A = ℕ} 0 1 = cc in omega arith
 
 -- what is held keeps every rule, and is the chart's part
-pub record Held (s : List ℕ) (p : Polygon) : Type 0 where
+pub record KeepsRules (s : List ℕ) (p : Polygon) : Type 0 where
   pub formed : Formed s
   pub bars : BarRule (chartIn s)
   pub strokes : StrokeRule (chartIn s)
@@ -41,7 +42,7 @@ pub record Held (s : List ℕ) (p : Polygon) : Type 0 where
   pub part : PartRule (chartIn s)
   pub is : partIn (chartIn s) ≡ p
 
-pub held-keeps : (s : List ℕ) (p : Polygon) {r : Reading} → Verdict s r → r ≡ held p → Held s p
+pub held-keeps : (s : List ℕ) (p : Polygon) {r : Reading} → Verdict s r → r ≡ held p → KeepsRules s p
 held-keeps s p (taken F R S G P) e = record { formed = F; bars = R; strokes = S; gaps = G; part = P; is = cc }
 held-keeps s p (by-14 a) e = absurd (not-held _ p e)
 held-keeps s p (by-15 a b) e = absurd (not-held _ p e)
@@ -50,7 +51,7 @@ held-keeps s p (by-17 a b c d) e = absurd (not-held _ p e)
 held-keeps s p (by-18 a b c d f) e = absurd (not-held _ p e)
 
 -- and it is shown
-pub held-charts : (s : List ℕ) (p : Polygon) → All (λ b. b < 256) s → Held s p → Charts s p
+pub held-charts : (s : List ℕ) (p : Polygon) → All (λ b. b < 256) s → KeepsRules s p → Charts s p
 held-charts s p B H =
     let c : Chart = chartIn s in
     let F = H .formed in
@@ -70,7 +71,7 @@ bytes-held c p v u T H =
     let s : List ℕ = bytesOf c in
     let n = H .corners in
     let count : length (c .strokes) + 3 ≡ 2 * c .n = rw n (shows-count c p v H) in
-    let S : Same (chartIn s) c = decoded c count in
+    let S : SameNumbers (chartIn s) c = decoded c count in
     let D : Shows (chartIn s) p = same-shows (chartIn s) c S p H in
     let R = true-rules (chartIn s) (same-true (chartIn s) c S T) (shows-named (chartIn s) p v D) (D .ascending) in
     read-by s (taken (decoded-formed c (rw n (v .least)) (rw n (v .most)) count) (R .0) (R .1) (R .2) (shows-rule (chartIn s) p v D)) ∙ ap held (shows-part (chartIn s) p v D u)

@@ -7,7 +7,7 @@ use native.Mathlib.Omega.{arith}
 use lib.ListN.{length, take, drop, set, getD, length-set, length-map, drop-of-length-le}
 use lib.Seq.{drop-cons, take-suc-set, append-snoc, length-take-le}
 use Rattle.lists.specs.Lists.{keep}
-use Rattle.lists.proofs.Lists.{keep-test, keep-sorted, keep-yes, keep-no}
+use Rattle.lists.proofs.Lists.{keep-sorted, keep-test, keep-no, keep-yes}
 use Rattle.polygon.specs.Polygon.{Edge, Diagonal, NoneCross}
 use Rattle.polygon.specs.Order.{diagonal?}
 use Rattle.keys.specs.Keys.{edgeOf, edgesOf}

@@ -1,20 +1,21 @@
 -- Decoding the bytes of a chart gives the chart back.
-use mathlib.Core.Path.{_≡_, refl, ap, ap₂, _∙_}
-use mathlib.Core.List.{List, [], _∷_, _++_, map, flatMap, append-assoc}
-use Prim.Native.Nat.{ℕ, zero, suc, _+_, _*_, _-_, _≤_, _<_}
+use mathlib.Core.Path.{_≡_, refl, ap₂, _∙_}
+use mathlib.Core.List.{List, [], _∷_, _++_, map, flatMap, append-assoc, append-nil}
+use Prim.Native.Nat.{ℕ, suc, _+_, _*_, _-_, _≤_, _<_}
 use native.Mathlib.Nat.{add-zero}
 use native.Mathlib.Omega.{arith}
-use lib.ListN.{length, getD, length-append, List·getD-map}
+use lib.ListN.{length, getD, length-append}
 use lib.Seq.{getD-append-add}
-use Rattle.lists.specs.Lists.{All, all-nil, all-cons, numbers, below}
-use Rattle.lists.proofs.Places.{number-at}
+use Rattle.lists.specs.Lists.{All, all-cons, all-nil}
 use Rattle.codec.specs.Numbers.{bytes16, get16}
 use Rattle.codec.proofs.Numbers.{get16-after, get16-back}
-use Rattle.chart.specs.Chart.{Bar, Stroke, upright, level, Chart, barsOf}
+use Rattle.chart.specs.Chart.{Stroke, upright, level, Chart, barsOf}
 use Rattle.chart.specs.Bytes.{barBytes, strokeBytes, bytesOf}
 use Rattle.chart.proofs.Sizes.{bars-count, bars-size}
-use Rattle.chart_reader.proofs.Same.{Same}
-use Rattle.chart_reader.specs.Decode.{countIn, barAt, strokeSize, shaped, strokeAt, places, behind, chartIn, Formed}
+use Rattle.chart_reader.proofs.Same.{SameNumbers}
+use Rattle.chart.proofs.Decoded.{bar-in}
+use Rattle.chart.specs.Decode.{countIn, strokeSize, shaped, strokeAt, places, behind, chartIn}
+use Rattle.chart_reader.specs.Formed.{Formed}
 
 -- k strokes of the bytes from a place on, and where they end
 pub record Spelled (s : List ℕ) (at k : ℕ) (ss : List Stroke) (end : ℕ) : Type 0 where
@@ -59,27 +60,8 @@ spelled (t ∷ ss) xs =
     let H = here-at t xs (flatMap strokeBytes ss) in
     spelled-next (H .bit) (H .stroke) (rw (H .size, ← length-append xs (strokeBytes t), ← append-assoc xs (strokeBytes t) (flatMap strokeBytes ss)) (spelled ss (xs ++ strokeBytes t)))
 
--- the bars
-bar-after : (xs ys : List ℕ) (at : ℕ) → barAt (xs ++ ys) (length xs + at) ≡ barAt ys at
-bar-after xs ys at =
-    let h : length xs + at + 2 ≡ length xs + (at + 2) = omega arith in
-    let k : length xs + at + 4 ≡ length xs + (at + 4) = omega arith in
-    rw (h, k, get16-after xs ys at, get16-after xs ys (at + 2), get16-after xs ys (at + 4))
-
-pub bar-back : (bs : List Bar) (ys : List ℕ) (d : Bar) (i : ℕ) → i < length bs → barAt (flatMap barBytes bs ++ ys) (6 * i) ≡ getD bs i d
-unfolding flatMap barBytes
-bar-back [] ys d i h = absurd (omega arith)
-bar-back (b ∷ bs) ys d zero h = λ i. record { row = get16-back (b .row) [] i; left = get16-back (b .left) [] i; right = get16-back (b .right) [] i }
-bar-back (b ∷ bs) ys d (suc i) h =
-    let e : 6 * suc i ≡ 6 + 6 * i = omega arith in
-    rw e (bar-after (barBytes b) (flatMap barBytes bs ++ ys) (6 * i) ∙ bar-back bs ys d i (omega arith))
-
 -- the whole chart
 module _ (c : Chart) where
-  bars-get : (x : ℕ) → x < c .n → getD (barsOf c) x (c .bar 0) ≡ c .bar x
-  unfolding barsOf below
-  bars-get x h = List·getD-map (c .bar) (numbers (c .n) 0) x 0 ∙ ap (c .bar) (number-at (c .n) 0 x h ∙ omega arith)
-
   -- the bytes before the strokes
   front : List ℕ
   front = bytes16 (c .rows) ++ (bytes16 (c .columns) ++ (bytes16 (c .n) ++ flatMap barBytes (barsOf c)))
@@ -98,14 +80,16 @@ module _ (c : Chart) where
       let k : length (c .strokes) ≡ 2 * c .n - 3 = omega arith in
       rw (← front-length, ← k) (spelled (c .strokes) front)
 
-  pub decoded : length (c .strokes) + 3 ≡ 2 * c .n → Same (chartIn (bytesOf c)) c
+  decoded-bar : (x : ℕ) → x < c .n → chartIn (bytesOf c) .bar x ≡ c .bar x
+  decoded-bar x h = rw (append-nil (bytesOf c)) at (bar-in c [] x h)
+
+  pub decoded : length (c .strokes) + 3 ≡ 2 * c .n → SameNumbers (chartIn (bytesOf c)) c
   unfolding bytesOf
   decoded h = record {
     rows = get16-back (c .rows) [];
     columns = get16-back (c .columns) [];
     corners = decoded-count;
-    bars = λ x i. bar-after (bytes16 (c .rows) ++ (bytes16 (c .columns) ++ bytes16 (c .n))) (flatMap barBytes (barsOf c) ++ flatMap strokeBytes (c .strokes)) (6 * x)
-        ∙ (bar-back (barsOf c) (flatMap strokeBytes (c .strokes)) (c .bar 0) x (omega (arith, bars-count c)) ∙ bars-get x i);
+    bars = decoded-bar;
     strokes = rw decoded-count (decoded-strokes h .strokes);
   }
 

@@ -7,12 +7,13 @@ use native.Mathlib.Numerals.{add-one}
 use native.Mathlib.Omega.{arith}
 use lib.ListN.{length, drop, getD}
 use lib.Seq.{drop-cons, drop-length}
-use Rattle.lists.specs.Lists.{All, all-cons, numbers, below}
+use Rattle.lists.specs.Lists.{All, all-cons, below, numbers}
 use Rattle.codec.specs.Numbers.{bytes16, get16}
 use Rattle.codec.proofs.Numbers.{Byte, byte-at}
 use Rattle.chart.specs.Chart.{barsOf}
 use Rattle.chart.specs.Bytes.{barBytes, strokeBytes, bytesOf}
-use Rattle.chart_reader.specs.Decode.{countIn, barAt, strokeSize, shaped, strokeAt, places, behind, strokePlaces, chartIn, Formed}
+use Rattle.chart.specs.Decode.{countIn, barAt, strokeSize, shaped, strokeAt, places, behind, strokePlaces, chartIn}
+use Rattle.chart_reader.specs.Formed.{Formed}
 
 -- the strokes lie in order
 pub behind-up : (s : List ℕ) (at k : ℕ) → at ≤ behind s at k

@@ -15,10 +15,10 @@ use Rattle.sheet.specs.declared.Read.the-variants.{Refused, Held}
 use Rattle.sheet.specs.Sheet.{held}
 use Rattle.sheet.specs.Held.{polygonOf, Reads, refuses, gives}
 use Rattle.chart.specs.Chart.{strokeEdge}
-use Rattle.chart_reader.specs.Decode.{chartIn}
+use Rattle.chart.specs.Decode.{chartIn}
 use Rattle.chart_reader.specs.Rules.{BarRule, StrokeRule, GapRule, PartOf, edgesIn, diagonalsIn, partIn}
 use Rattle.chart_reader.specs.Reader.{readChart}
-use Rattle.chart_reader.specs.Held.{Placed, EdgesOf}
+use Rattle.chart_reader.specs.Held.{StrokesFound, EdgesOf}
 use Rattle.chart_reader.proofs.Accepts.{strokes-count}
 use Rattle.chart_reader.proofs.Shown.{rule-valid}
 use Rattle.chart_reader.proofs.Stroked.{strokes-room}
@@ -30,7 +30,7 @@ headOf n = record { n = n; numbered = false; number = 0 }
 
 -- a chart whose bars and strokes keep their rules, and the keys of its edges
 pub record Edged (s : List ℕ) (n : ℕ) (at edges : List ℕ) : Type 0 where
-  pub placed : Placed s n at
+  pub placed : StrokesFound s n at
   pub bars : BarRule (chartIn s)
   pub strokes : StrokeRule (chartIn s)
   pub keys : edgesOf (take (length at) edges) ≡ edgesIn (chartIn s)

@@ -7,7 +7,8 @@ use native.Mathlib.Omega.{arith}
 use lib.ListN.{length, take, getD}
 use lib.Seq.{length-take-le}
 use Rattle.sheet.specs.Sheet.{refused}
-use Rattle.chart_reader.specs.Decode.{countIn, strokeSize, behind, Formed}
+use Rattle.chart.specs.Decode.{countIn, strokeSize, behind}
+use Rattle.chart_reader.specs.Formed.{Formed}
 use Rattle.chart_reader.specs.Reader.{readChart}
 use Rattle.chart_reader.proofs.Verdict.{by-14, read-by}
 

@@ -1,29 +1,28 @@
 -- No upright passes through a gap exactly if none of the gaps, as bars, stands between an upright's two cells.
-use mathlib.Core.Path.{_≡_, ap, sym, _∙_, subst}
-use mathlib.Core.Logic.{_≢_, inl, inr}
+use mathlib.Core.Path.{_≡_, sym, subst}
+use mathlib.Core.Logic.{inl, inr}
 use mathlib.Core.List.{List, [], _∷_, flatMap}
 use Prim.Native.Nat.{ℕ, _+_, _<_}
 use native.Mathlib.Decide.{decLt}
 use native.Mathlib.Omega.{arith}
-use lib.ListN.{getD}
-use Rattle.lists.specs.Lists.{Mem, All, all-nil, all-cons, choose}
-use Rattle.lists.proofs.Lists.{all-append, all-left, all-right, all-both, all-mem, all-of, all-imp}
+use Rattle.lists.specs.Lists.{All, Mem, all-cons, all-nil, choose}
+use Rattle.lists.proofs.Lists.{all-append, all-both, all-imp, all-left, all-mem, all-of, all-right}
 use Rattle.lists.proofs.Places.{all-at, at-all, below-at}
-use Rattle.polygon.specs.Polygon.{Edge}
-use Rattle.codec.specs.Numbers.{get16}
+use Rattle.polygon.specs.Polygon.{Edge, _—_}
 use Rattle.chart.specs.Chart.{Bar, Stroke, upright, level, strokeEdge, Chart}
 use Rattle.chart_reader.specs.declared.Cell.{Cell}
 use Rattle.chart_reader.specs.declared.Ends.{Ends}
-use Rattle.chart_reader.specs.Cells.{bar, Has, Inside, Common}
-use Rattle.chart_reader.specs.Decode.{edgeAt, strokeAt, chartIn}
+use Rattle.chart_reader.specs.Cells.{Inside, HasCell, CommonCell}
 use Rattle.chart_reader.specs.Rules.{ends, BarRule, StrokeRule, Passes, GapRule}
-use Rattle.chart_reader.specs.Held.{None, Some, EndsOf, gapBar, gapIn, gapOf, gapsOf, GapsIn, Clear}
+use Rattle.chart_reader.specs.Held.{EndsOf, gapBar, gapIn, gapOf, gapsOf, GapsIn, Clear, NoBar, SomeBar}
 use Rattle.chart_reader.proofs.Truth.{apart-of}
-use Rattle.chart_reader.proofs.Stroked.{level-at, upright-at}
+use mathlib.Core.Bool.{true, false}
+use Rattle.chart.specs.declared.Stroke as code
+use Rattle.chart.specs.Decode.{barOn, strokeOf}
 
 -- no bar of the list has a cell between the two cells
 abbrev Unmet : Cell × Cell → Bar → Type 0
-Unmet e b = ¬ Common (Inside e) (Has b)
+Unmet e b = ¬ CommonCell (Inside e) (HasCell b)
 
 -- a level stroke's two cells are on one row, the first left of the last
 abbrev Gapped : Chart → Stroke → Type 0
@@ -47,11 +46,11 @@ module _ (c : Chart) (B : BarRule c) (S : StrokeRule c) where
 
 -- the bars in the bytes are the gaps
 module _ (c : Chart) (gaps : List ℕ) (g : ℕ) (I : GapsIn c gaps g) (e : Cell × Cell) where
-  none-unmet : None gaps 0 g (Inside e) → All (Unmet e) (gapsOf c)
-  none-unmet f = all-at (bar 0 0 0) (gapsOf c) (λ k h. let i : k < g = omega (arith, I .count) in subst (Unmet e) (I .bars k i) (f k i))
+  none-unmet : NoBar gaps 0 g (Inside e) → All (Unmet e) (gapsOf c)
+  none-unmet f = all-at (barOn 0 0 0) (gapsOf c) (λ k h. let i : k < g = omega (arith, I .count) in subst (Unmet e) (I .bars k i) (f k i))
 
-  unmet-none : All (Unmet e) (gapsOf c) → None gaps 0 g (Inside e)
-  unmet-none a k h = subst (Unmet e) (sym (I .bars k h)) (at-all (bar 0 0 0) a k (omega (arith, I .count)))
+  unmet-none : All (Unmet e) (gapsOf c) → NoBar gaps 0 g (Inside e)
+  unmet-none a k h = subst (Unmet e) (sym (I .bars k h)) (at-all (barOn 0 0 0) a k (omega (arith, I .count)))
 
 -- gap by gap
 flat-all : {A B : Type 0} {Q : B → Type 0} (f : A → List B) (xs : List A) → All (λ x. All Q (f x)) xs → All Q (flatMap f xs)
@@ -66,7 +65,7 @@ all-flat f (x ∷ xs) a = all-cons (all-left (f x) (flatMap f xs) a) (all-flat f
 
 -- the cells between two cells of a row are those of the gap
 module _ (f : Cell × Cell) (e : Cell × Cell) (r : e .0 .row ≡ e .1 .row) (h : e .0 .column < e .1 .column) where
-  unmet-gap : All (Unmet f) (gapIn e) → ¬ Common (Inside f) (Inside e)
+  unmet-gap : All (Unmet f) (gapIn e) → ¬ CommonCell (Inside f) (Inside e)
   unfolding gapIn choose
   unmet-gap a (x, i, j) = go (decLt (e .0 .column + 1) (e .1 .column)) a j
     where
@@ -75,7 +74,7 @@ module _ (f : Cell × Cell) (e : Cell × Cell) (r : e .0 .row ≡ e .1 .row) (h 
       go (no d) b (inl k) = omega arith
       go d b (inr k) = omega arith
 
-  gap-unmet : ¬ Common (Inside f) (Inside e) → All (Unmet f) (gapIn e)
+  gap-unmet : ¬ CommonCell (Inside f) (Inside e) → All (Unmet f) (gapIn e)
   unfolding gapIn choose
   gap-unmet p = go (decLt (e .0 .column + 1) (e .1 .column))
     where
@@ -108,19 +107,19 @@ module _ (c : Chart) (G : All (Gapped c) (c .strokes)) (gaps : List ℕ) (g : �
   pub rule-clear : GapRule c → All (Clear c gaps g) (c .strokes)
   rule-clear a = all-imp at-clear a
 
--- the stroke at a place
-module _ (s : List ℕ) (at : ℕ) where
-  pub level-clear : getD s at 0 ≡ 0 → (gaps : List ℕ) (g : ℕ) → Clear (chartIn s) gaps g (strokeAt s at)
-  level-clear z gaps g = rw (level-at s at z) tt
+-- a stroke that was read
+module _ (c : Chart) (t : code.Stroke) (gaps : List ℕ) (g : ℕ) where
+  pub level-clear : t .upright ≡ false → Clear c gaps g (strokeOf t)
+  level-clear l = rw l tt
 
-  module _ (small : getD s at 0 < 2) (u : getD s at 0 ≢ 0) (r : Ends) (E : EndsOf s at r) (gaps : List ℕ) (g : ℕ) where
-    cells : (r .first, r .last) ≡ ends (chartIn s) (upright (edgeAt s at) (get16 s (at + 5)))
-    cells = E .same ∙ ap (ends (chartIn s)) (upright-at s at small u)
+  module _ {r : Ends} (u : t .upright ≡ true) (E : EndsOf c t r) where
+    cells : (r .first, r .last) ≡ ends c (upright (t .a — t .b) (t .column))
+    cells = rw u at (E .same)
 
-    pub upright-clear : None gaps 0 g (Inside (r .first, r .last)) → Clear (chartIn s) gaps g (strokeAt s at)
-    upright-clear f = rw (upright-at s at small u) (subst (λ (e : Cell × Cell). None gaps 0 g (Inside e)) cells f)
+    pub upright-clear : NoBar gaps 0 g (Inside (r .first, r .last)) → Clear c gaps g (strokeOf t)
+    upright-clear f = rw u (subst (λ (e : Cell × Cell). NoBar gaps 0 g (Inside e)) cells f)
 
-    pub upright-met : Some gaps 0 g (Inside (r .first, r .last)) → Clear (chartIn s) gaps g (strokeAt s at) → ⊥
+    pub upright-met : SomeBar gaps 0 g (Inside (r .first, r .last)) → Clear c gaps g (strokeOf t) → ⊥
     upright-met w k =
-        let f : None gaps 0 g (Inside (ends (chartIn s) (upright (edgeAt s at) (get16 s (at + 5))))) = rw (upright-at s at small u) at k in
-        subst (λ (e : Cell × Cell). None gaps 0 g (Inside e)) (sym cells) f (w .0) (w .1) (w .2)
+        let f : NoBar gaps 0 g (Inside (ends c (upright (t .a — t .b) (t .column)))) = rw u at k in
+        subst (λ (e : Cell × Cell). NoBar gaps 0 g (Inside e)) (sym cells) f (w .0) (w .1) (w .2)

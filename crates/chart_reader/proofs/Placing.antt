@@ -6,11 +6,12 @@ use native.Mathlib.Numerals.{add-one}
 use native.Mathlib.Omega.{arith}
 use lib.ListN.{length, take, drop, set, getD, length-set}
 use lib.Seq.{take-suc-set, take-all, take-at, append-snoc, length-take-le}
-use Rattle.lists.specs.Lists.{All, all-nil, all-cons}
-use Rattle.lists.proofs.Lists.{here, mem-right, all-append, all-mem}
-use Rattle.chart_reader.specs.Decode.{countIn, strokeSize, places, behind, Formed}
-use Rattle.chart_reader.specs.Held.{Ending, Placed}
+use Rattle.lists.specs.Lists.{All, all-cons, all-nil}
+use Rattle.lists.proofs.Lists.{all-append, all-mem, here, mem-right}
+use Rattle.chart_reader.specs.Held.{Ending, StrokesFound}
 use Rattle.chart_reader.proofs.Encoded.{behind-up}
+use Rattle.chart.specs.Decode.{countIn, strokeSize, places, behind}
+use Rattle.chart_reader.specs.Formed.{Formed}
 
 -- what the loop keeps: i places are found, and the rest start at p
 pub record Placing (s : List ℕ) (from room : ℕ) (at : List ℕ) (i p : ℕ) : Type 0 where
@@ -92,7 +93,7 @@ module _ (s : List ℕ) (n : ℕ) (count : n ≡ countIn s) (at : List ℕ) (roo
   pub not-formed : (Ending s (6 + 6 * n) (length (take (2 * n - 3) at)) → ⊥) → Formed s → ⊥
   not-formed f F = f (rw (room-is, count) (record { bits = F .bits; exact = F .exact }))
 
-  pub framed : (o : List ℕ) → 6 ≤ length s → (o ≡ places s (6 + 6 * n) (length (take (2 * n - 3) at))) × Ending s (6 + 6 * n) (length (take (2 * n - 3) at)) → length o ≡ length (take (2 * n - 3) at) → Placed s n (take (2 * n - 3) (o ++ drop (2 * n - 3) at))
+  pub framed : (o : List ℕ) → 6 ≤ length s → (o ≡ places s (6 + 6 * n) (length (take (2 * n - 3) at))) × Ending s (6 + 6 * n) (length (take (2 * n - 3) at)) → length o ≡ length (take (2 * n - 3) at) → StrokesFound s n (take (2 * n - 3) (o ++ drop (2 * n - 3) at))
   framed o six (p, E) kept =
       let G : Ending s (6 + 6 * countIn s) (2 * countIn s - 3) = rw (room-is, count) at E in
       let q : o ≡ places s (6 + 6 * n) (2 * n - 3) = rw room-is at p in

@@ -3,7 +3,7 @@ use mathlib.Core.List.{List, [], _∷_, _++_}
 use Prim.Native.Nat.{ℕ}
 use native.Mathlib.Omega.{arith}
 use Rattle.lists.specs.Lists.{All, numbers}
-use Rattle.lists.proofs.Lists.{here, there, all-imp}
+use Rattle.lists.proofs.Lists.{all-imp, here, there}
 use Rattle.lists.proofs.Places.{numbers-in}
 use Rattle.codec.specs.Answer.{written}
 use Rattle.sheet.specs.Refusals.{RefusedBy, holds}

@@ -4,14 +4,14 @@ use Prim.Native.Nat.{ℕ, _<_}
 use Rattle.polygon.specs.Polygon.{Polygon}
 use Rattle.chart.specs.Chart.{Chart, True, Shows}
 
-pub record Same (d c : Chart) : Type 0 where
+pub record SameNumbers (d c : Chart) : Type 0 where
   pub rows : d .rows ≡ c .rows
   pub columns : d .columns ≡ c .columns
   pub corners : d .n ≡ c .n
   pub bars : (x : ℕ) → x < c .n → d .bar x ≡ c .bar x
   pub strokes : d .strokes ≡ c .strokes
 
-module _ (d c : Chart) (S : Same d c) where
+module _ (d c : Chart) (S : SameNumbers d c) where
   pub same-true : True c → True d
   same-true T = record {
     bars = λ x h. let i : x < c .n = rw (S .corners) at h in rw (S .bars x i, S .columns, S .rows) (T .bars x i);

@@ -5,8 +5,8 @@ use mathlib.Core.Option.{none}
 use Prim.Native.Nat.{_+_, _*_, _≤_, _<_}
 use native.Mathlib.Omega.{arith}
 use lib.ListN.{length, length-map}
-use Rattle.lists.specs.Lists.{Mem, All}
-use Rattle.lists.proofs.Lists.{all-mem, all-of, all-map, keep-test, keep-sub, keep-mem, keep-sorted, sorted-same, mem-map}
+use Rattle.lists.specs.Lists.{All, Mem}
+use Rattle.lists.proofs.Lists.{all-map, all-mem, all-of, keep-mem, keep-sorted, keep-sub, keep-test, sorted-same, mem-map}
 use Rattle.polygon.specs.Polygon.{Edge, Ascending, Diagonal, Polygon, Valid, Linked}
 use Rattle.polygon.specs.Order.{diagonal?}
 use Rattle.polygon.proofs.Order.{one-way}
@@ -14,7 +14,7 @@ use Rattle.polygon.proofs.Reading.{diagonal-reads}
 use Rattle.polygon.proofs.Triangle.{linked-up}
 use Rattle.chart.specs.Chart.{strokeEdge, Chart, chartOf, Shows}
 use Rattle.chart.proofs.Theorems.{chart-shows, chart-stroke-count}
-use Rattle.chart_reader.specs.Rules.{sides, Named, edgesIn, diagonalsIn, PartRule, partIn}
+use Rattle.chart_reader.specs.Rules.{partSides, Named, edgesIn, diagonalsIn, PartRule, partIn}
 use Rattle.chart_reader.proofs.Sides.{side-among, sides-are, kinds, sides-full}
 
 -- what passes the last test shows a valid part
@@ -66,4 +66,4 @@ module _ (c : Chart) (p : Polygon) (v : Valid p) (S : Shows c p) where
   shows-part h = λ i. record { n = S .corners i; ds = diagonals-same i; number = sym h i }
 
   pub shows-rule : PartRule c
-  shows-rule = (all-of (sides (c .n)) (λ e m. S .edges e .1 (inl (rw (S .corners) at (all-mem (sides-are (c .n) (rw (S .corners) (v .least))) m)))), rw diagonals-same (v .triangulated .none-cross))
+  shows-rule = (all-of (partSides (c .n)) (λ e m. S .edges e .1 (inl (rw (S .corners) at (all-mem (sides-are (c .n) (rw (S .corners) (v .least))) m)))), rw diagonals-same (v .triangulated .none-cross))

@@ -3,14 +3,14 @@ use mathlib.Core.List.{List}
 use Prim.Native.Nat.{ℕ, _≤_}
 use Rattle.codec.specs.Answer.{written}
 use Rattle.sheet.specs.Sheet.{Reading}
-use Rattle.sheet.proofs.Size.{Counted, outcome-size}
-use Rattle.chart_reader.specs.Decode.{chartIn}
+use Rattle.sheet.proofs.Size.{CountedPart, outcome-size}
 use Rattle.chart_reader.specs.Reader.{chartRead}
 use Rattle.chart_reader.proofs.Verdict.{Verdict, taken, by-14, by-15, by-16, by-17, by-18, verdict}
 use Rattle.chart_reader.proofs.Shown.{rule-valid}
 use Rattle.chart_reader.proofs.Accepts.{strokes-count}
+use Rattle.chart.specs.Decode.{chartIn}
 
-counted : (s : List ℕ) {r : Reading} → Verdict s r → Counted r
+counted : (s : List ℕ) {r : Reading} → Verdict s r → CountedPart r
 counted s (by-14 a) = tt
 counted s (by-15 a b) = tt
 counted s (by-16 a b c) = tt

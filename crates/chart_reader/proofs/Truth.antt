@@ -5,14 +5,14 @@ use mathlib.Core.List.{map}
 use Prim.Native.Nat.{ℕ, _<_, min, max}
 use native.Mathlib.Decide.{decLt}
 use native.Mathlib.Omega.{arith}
-use Rattle.lists.specs.Lists.{Mem, All}
+use Rattle.lists.specs.Lists.{All, Mem}
 use Rattle.lists.proofs.Lists.{all-mem, all-of}
-use Rattle.lists.proofs.Places.{below-at, below-all, below-two, below-sorted-by}
+use Rattle.lists.proofs.Places.{below-all, below-at, below-sorted-by, below-two}
 use Rattle.polygon.specs.Polygon.{Edge, Ascending}
 use Rattle.chart.specs.Chart.{Stroke, upright, level, strokeEdge, Chart, Gap, Between, True}
 use Rattle.chart_reader.specs.declared.Cell.{Cell}
 use Rattle.chart_reader.specs.Cells.{cell, Amid, Inside}
-use Rattle.chart_reader.specs.Rules.{Lies, Apart, BarRule, Named, ends, Fits, StrokeRule, Passes, GapRule}
+use Rattle.chart_reader.specs.Rules.{Lies, Apart, BarRule, Named, ends, BarsFit, StrokeRule, Passes, GapRule}
 
 -- strictly between, said in two ways
 amid-of : {a b x : ℕ} → Between a b x → Amid a b x
@@ -88,7 +88,7 @@ module _ (c : Chart) where
     path-of e j x (inl q) = absurd (omega (arith, q))
     path-of e j x (inr q) = (q .0, between-of _ _ _ (q .2))
 
-    true-fits : (s : Stroke) → Mem s (c .strokes) → Fits c s
+    true-fits : (s : Stroke) → Mem s (c .strokes) → BarsFit c s
     true-fits (level e) m =
         let (a, b, r, f) = T .levels e m in
         (r, below-all (c .n) (λ z h w. let g = gap-of e m (w .0) (w .1) in f z (w .0 .column) h (w .2 .0 ∙ sym (g .0)) (w .2 .1, w .2 .2) (g .1)))

@@ -4,7 +4,8 @@ use mathlib.Core.List.{List}
 use Prim.Native.Nat.{ℕ}
 use Rattle.sheet.specs.Sheet.{Reading, refused, held, ask}
 use Rattle.sheet.proofs.Asks.{ask-yes, ask-no, past}
-use Rattle.chart_reader.specs.Decode.{chartIn, Formed, formed?}
+use Rattle.chart.specs.Decode.{chartIn}
+use Rattle.chart_reader.specs.Formed.{Formed, formed?}
 use Rattle.chart_reader.specs.Rules.{BarRule, StrokeRule, GapRule, PartRule, partIn}
 use Rattle.chart_reader.specs.Reader.{bars?, strokes?, gaps?, part?, readChart}
 

@@ -8,33 +8,33 @@ use Rattle.lists.specs.Lists.{choose, recast?}
 use Rattle.chart.specs.Chart.{Bar}
 use Rattle.chart_reader.specs.declared.Cell.{Cell}
 use Rattle.chart_reader.specs.declared.Area.{Area}
-use Rattle.chart_reader.specs.Cells.{cell, Has, Inside, Common, Stands}
+use Rattle.chart_reader.specs.Cells.{cell, HasCell, Inside, CommonCell, Stands}
 
 -- the cell lies in the area
-abbrev pub Within : Area → Cell → Type 0
-Within a c = (a .top ≤ c .row) × (c .row < a .bottom) × (a .left ≤ c .column) × (c .column < a .right)
+abbrev pub InArea : Area → Cell → Type 0
+InArea a c = (a .top ≤ c .row) × (c .row < a .bottom) × (a .left ≤ c .column) × (c .column < a .right)
 
-unfoldable pub common? : (a b : Area) → Dec (Common (Within a) (Within b))
+unfoldable pub common? : (a b : Area) → Dec (CommonCell (InArea a) (InArea b))
 common? a b = go (decLt (max (a .top) (b .top)) (min (a .bottom) (b .bottom))) (decLt (max (a .left) (b .left)) (min (a .right) (b .right)))
   where
-    go : Dec (max (a .top) (b .top) < min (a .bottom) (b .bottom)) → Dec (max (a .left) (b .left) < min (a .right) (b .right)) → Dec (Common (Within a) (Within b))
+    go : Dec (max (a .top) (b .top) < min (a .bottom) (b .bottom)) → Dec (max (a .left) (b .left) < min (a .right) (b .right)) → Dec (CommonCell (InArea a) (InArea b))
     go (yes h) (yes k) = yes (cell (max (a .top) (b .top)) (max (a .left) (b .left)), omega arith, omega arith)
     go (no h) k = no (λ x. h (omega (arith, x .1, x .2)))
     go (yes h) (no k) = no (λ x. k (omega (arith, x .1, x .2)))
 
 -- a kind of cells that fills an area
 pub record Fills (P : Cell → Type 0) (a : Area) : Type 0 where
-  pub covered : (c : Cell) → P c → Within a c
-  pub filled : (c : Cell) → Within a c → P c
+  pub covered : (c : Cell) → P c → InArea a c
+  pub filled : (c : Cell) → InArea a c → P c
 
-unfoldable pub common-of : {P Q : Cell → Type 0} (a b : Area) → Fills P a → Fills Q b → Dec (Common P Q)
+unfoldable pub common-of : {P Q : Cell → Type 0} (a b : Area) → Fills P a → Fills Q b → Dec (CommonCell P Q)
 common-of a b F G = recast? (λ x. (x .0, F .filled (x .0) (x .1), G .filled (x .0) (x .2))) (λ x. (x .0, F .covered (x .0) (x .1), G .covered (x .0) (x .2))) (common? a b)
 
 -- the cells of a bar
 abbrev pub barArea : Bar → Area
 barArea b = record { top = b .row; bottom = suc (b .row); left = b .left; right = suc (b .right) }
 
-pub bar-fills : (b : Bar) → Fills (Has b) (barArea b)
+pub bar-fills : (b : Bar) → Fills (HasCell b) (barArea b)
 bar-fills b = record { covered = λ c h. omega arith; filled = λ c h. omega arith }
 
 -- the cells between two cells
@@ -72,8 +72,8 @@ between-fills e = go (ℕ-discrete (e .0 .row) (e .1 .row)) (ℕ-discrete (e .0 
 unfoldable pub stands? : (e : Cell × Cell) (b : Bar) → Dec (Stands e b)
 stands? e b = common-of (between e) (barArea b) (between-fills e) (bar-fills b)
 
-unfoldable pub shares? : (b d : Bar) → Dec (Common (Has b) (Has d))
+unfoldable pub shares? : (b d : Bar) → Dec (CommonCell (HasCell b) (HasCell d))
 shares? b d = common-of (barArea b) (barArea d) (bar-fills b) (bar-fills d)
 
-unfoldable pub crosses? : (e f : Cell × Cell) → Dec (Common (Inside e) (Inside f))
+unfoldable pub crosses? : (e f : Cell × Cell) → Dec (CommonCell (Inside e) (Inside f))
 crosses? e f = common-of (between e) (between f) (between-fills e) (between-fills f)

@@ -8,12 +8,9 @@ use Rattle.chart_reader.specs.declared.Cell.{Cell}
 abbrev pub cell : ℕ → ℕ → Cell
 cell r j = record { row = r; column = j }
 
-abbrev pub bar : ℕ → ℕ → ℕ → Bar
-bar r i j = record { row = r; left = i; right = j }
-
 -- the bar has the cell
-abbrev pub Has : Bar → Cell → Type 0
-Has b c = (b .row ≡ c .row) × (b .left ≤ c .column) × (c .column ≤ b .right)
+abbrev pub HasCell : Bar → Cell → Type 0
+HasCell b c = (b .row ≡ c .row) × (b .left ≤ c .column) × (c .column ≤ b .right)
 
 -- x is strictly between a and b
 abbrev pub Amid : ℕ → ℕ → ℕ → Type 0
@@ -25,9 +22,9 @@ Inside e c = ((e .0 .row ≡ c .row) × (e .1 .row ≡ c .row) × Amid (e .0 .co
     ⊎ ((e .0 .column ≡ c .column) × (e .1 .column ≡ c .column) × Amid (e .0 .row) (e .1 .row) (c .row))
 
 -- some cell is of both kinds
-abbrev pub Common : (Cell → Type 0) → (Cell → Type 0) → Type 0
-Common P Q = (c : Cell) × P c × Q c
+abbrev pub CommonCell : (Cell → Type 0) → (Cell → Type 0) → Type 0
+CommonCell P Q = (c : Cell) × P c × Q c
 
 -- a bar stands between two cells of a row or of a column: it has a cell between them
 abbrev pub Stands : Cell × Cell → Bar → Type 0
-Stands e b = Common (Inside e) (Has b)
+Stands e b = CommonCell (Inside e) (HasCell b)

@@ -6,25 +6,25 @@ use native.Mathlib.Decide.{decLt}
 use lib.ListN.{length, getD}
 use Rattle.lists.specs.Lists.{All, choose}
 use Rattle.polygon.specs.Polygon.{Edge, Ascending}
-use Rattle.codec.specs.Numbers.{get16}
 use Rattle.chart.specs.Chart.{Bar, Stroke, upright, level, Chart}
+use Rattle.chart.specs.Decode.{barOn, countIn, barAt, places, behind, strokePlaces, strokeOf}
+use Rattle.chart.specs.declared.Stroke as code
 use Rattle.chart_reader.specs.declared.Cell.{Cell}
 use Rattle.chart_reader.specs.declared.Ends.{Ends}
-use Rattle.chart_reader.specs.declared.strokes.TwoBars.{TwoBars}
-use Rattle.chart_reader.specs.Cells.{bar, Has, Inside, Common}
-use Rattle.chart_reader.specs.Decode.{countIn, barAt, strokeSize, edgeAt, strokeAt, places, behind, strokePlaces, chartIn, Formed}
+use Rattle.chart_reader.specs.Cells.{HasCell, Inside, CommonCell}
+use Rattle.chart_reader.specs.Formed.{Formed}
 use Rattle.chart_reader.specs.Rules.{ends}
 
 -- numbers of a cell of two bytes
-abbrev pub Small : Cell → Type 0
-Small p = (p .row < 65536) × (p .column < 65536)
+abbrev pub SmallCell : Cell → Type 0
+SmallCell p = (p .row < 65536) × (p .column < 65536)
 
 -- of the m bars from a place on, none has a cell of the kind P, or some has
-abbrev pub None : List ℕ → ℕ → ℕ → (Cell → Type 0) → Type 0
-None s from m P = (x : ℕ) → x < m → ¬ Common P (Has (barAt s (from + 6 * x)))
+abbrev pub NoBar : List ℕ → ℕ → ℕ → (Cell → Type 0) → Type 0
+NoBar s from m P = (x : ℕ) → x < m → ¬ CommonCell P (HasCell (barAt s (from + 6 * x)))
 
-abbrev pub Some : List ℕ → ℕ → ℕ → (Cell → Type 0) → Type 0
-Some s from m P = (x : ℕ) × (x < m) × Common P (Has (barAt s (from + 6 * x)))
+abbrev pub SomeBar : List ℕ → ℕ → ℕ → (Cell → Type 0) → Type 0
+SomeBar s from m P = (x : ℕ) × (x < m) × CommonCell P (HasCell (barAt s (from + 6 * x)))
 
 -- the map bytes of k strokes have at most bit 0, and the strokes end where the bytes end
 pub record Ending (s : List ℕ) (from k : ℕ) : Type 0 where
@@ -32,7 +32,7 @@ pub record Ending (s : List ℕ) (from k : ℕ) : Type 0 where
   pub exact : behind s from k ≡ length s
 
 -- the bytes of a chart of n corners, with the places of its strokes
-pub record Placed (s : List ℕ) (n : ℕ) (at : List ℕ) : Type 0 where
+pub record StrokesFound (s : List ℕ) (n : ℕ) (at : List ℕ) : Type 0 where
   pub formed : Formed s
   pub count : n ≡ countIn s
   pub strokes : at ≡ strokePlaces s
@@ -43,36 +43,23 @@ pub record Bars (s : List ℕ) (n : ℕ) : Type 0 where
   pub room : 6 + 6 * n ≤ length s
 
 -- the bar has a cell in column j
-abbrev pub Spans : Bar → ℕ → Type 0
-Spans b j = (b .left ≤ j) × (j ≤ b .right)
+abbrev pub HasColumn : Bar → ℕ → Type 0
+HasColumn b j = (b .left ≤ j) × (j ≤ b .right)
 
--- the stroke at a place lies within the bytes, and its corners are below n
-pub record StrokeIn (s : List ℕ) (n : ℕ) (at : ℕ) : Type 0 where
-  pub bit : getD s at 0 < 2
-  pub room : at + strokeSize (getD s at 0) ≤ length s
-  pub low : edgeAt s at .0 < n
-  pub high : edgeAt s at .1 < n
-
--- the places of its corners' bars, and their rows
-pub record BarsOf (s : List ℕ) (at : ℕ) (r : TwoBars) : Type 0 where
-  pub place-a : r .a ≡ 6 + 6 * get16 s (at + 1)
-  pub place-b : r .b ≡ 6 + 6 * get16 s (at + 3)
-  pub row-a : r .«row_a» ≡ get16 s (r .a)
-  pub row-b : r .«row_b» ≡ get16 s (r .b)
-  pub room-a : r .a + 6 ≤ length s
-  pub room-b : r .b + 6 ≤ length s
-  pub small-a : r .«row_a» < 65536
-  pub small-b : r .«row_b» < 65536
+-- the corners of a stroke that was read are below n
+pub record StrokeIn (n : ℕ) (t : code.Stroke) : Type 0 where
+  pub low : t .a < n
+  pub high : t .b < n
 
 -- the two cells that it runs between
-pub record EndsOf (s : List ℕ) (at : ℕ) (r : Ends) : Type 0 where
-  pub same : (r .first, r .last) ≡ ends (chartIn s) (strokeAt s at)
-  pub first-small : Small (r .first)
-  pub last-small : Small (r .last)
+pub record EndsOf (c : Chart) (t : code.Stroke) (r : Ends) : Type 0 where
+  pub same : (r .first, r .last) ≡ ends c (strokeOf t)
+  pub first-small : SmallCell (r .first)
+  pub last-small : SmallCell (r .last)
 
 -- the gap between two cells of a row, as a bar; the gaps of the level strokes, those without a cell left out
 abbrev pub gapBar : Cell × Cell → Bar
-gapBar e = bar (e .0 .row) (e .0 .column + 1) (e .1 .column - 1)
+gapBar e = barOn (e .0 .row) (e .0 .column + 1) (e .1 .column - 1)
 
 unfoldable pub gapIn : Cell × Cell → List Bar
 gapIn e = choose (decLt (e .0 .column + 1) (e .1 .column)) (gapBar e ∷ []) []
@@ -87,12 +74,12 @@ gapsOf c = flatMap (gapOf c) (c .strokes)
 -- the first g bars in the bytes are the gaps of the level strokes
 pub record GapsIn (c : Chart) (gaps : List ℕ) (g : ℕ) : Type 0 where
   pub count : g ≡ length (gapsOf c)
-  pub bars : (k : ℕ) → k < g → barAt gaps (0 + 6 * k) ≡ getD (gapsOf c) k (bar 0 0 0)
+  pub bars : (k : ℕ) → k < g → barAt gaps (0 + 6 * k) ≡ getD (gapsOf c) k (barOn 0 0 0)
 
 -- of an upright: none of the first g gaps in the bytes stands between its two cells
 abbrev pub Clear : Chart → List ℕ → ℕ → Stroke → Type 0
 Clear c gaps g (level e) = Unit {0}
-Clear c gaps g (upright e j) = None gaps 0 g (Inside (ends c (upright e j)))
+Clear c gaps g (upright e j) = NoBar gaps 0 g (Inside (ends c (upright e j)))
 
 -- the edges of a chart of n corners that keeps the rule of strokes
 pub record EdgesOf (n : ℕ) (es : List Edge) : Type 0 where

@@ -1,5 +1,5 @@
 pub mod Cells
-pub mod Decode
+pub mod Formed
 pub mod Rules
 pub mod Reader
 pub mod Areas

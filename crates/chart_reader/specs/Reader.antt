@@ -4,15 +4,16 @@ use mathlib.Core.Logic.{Dec·and}
 use mathlib.Core.List.{List, [], _∷_}
 use Prim.Native.Nat.{ℕ}
 use native.Mathlib.Decide.{decLe, decLt, ℕ-discrete}
-use Rattle.lists.specs.Lists.{below, not?, all?, sorted?, mem?, three?}
+use Rattle.lists.specs.Lists.{all?, below, mem?, not?, sorted?, three?}
 use Rattle.polygon.specs.Order.{before?, same?, none-cross?}
 use Rattle.codec.specs.Answer.{Outcome}
 use Rattle.sheet.specs.Sheet.{Reading, held, ask, outcome}
 use Rattle.chart.specs.Chart.{Stroke, upright, level, strokeEdge, Chart}
+use Rattle.chart.specs.Decode.{chartIn}
 use Rattle.chart_reader.specs.declared.Cell.{Cell}
 use Rattle.chart_reader.specs.Areas.{shares?, stands?, crosses?}
-use Rattle.chart_reader.specs.Decode.{chartIn, formed?}
-use Rattle.chart_reader.specs.Rules.{sides, BarRule, Joins, ends, Free, StrokeRule, Passes, GapRule, edgesIn, diagonalsIn, PartRule, partIn}
+use Rattle.chart_reader.specs.Formed.{formed?}
+use Rattle.chart_reader.specs.Rules.{partSides, BarRule, Joins, ends, Free, StrokeRule, Passes, GapRule, edgesIn, diagonalsIn, PartRule, partIn}
 
 -- the decisions; what each decides is its type
 module _ (c : Chart) where
@@ -42,7 +43,7 @@ module _ (c : Chart) where
   gaps? = all? (λ s. all? (λ t. not? (passes? s t)) (c .strokes)) (c .strokes)
 
   unfoldable pub part? : Dec (PartRule c)
-  part? = Dec·and (all? (λ e. mem? same? e (edgesIn c)) (sides (c .n))) (none-cross? (diagonalsIn c))
+  part? = Dec·and (all? (λ e. mem? same? e (edgesIn c)) (partSides (c .n))) (none-cross? (diagonalsIn c))
 
 -- the numbers of the tests
 abbrev pub chartTests : List ℕ

@@ -4,20 +4,20 @@ use mathlib.Core.Logic.{_≢_}
 use mathlib.Core.List.{List, _∷_, map}
 use mathlib.Core.Option.{none}
 use Prim.Native.Nat.{ℕ, suc, _-_, _≤_, _<_, min, max}
-use Rattle.lists.specs.Lists.{Mem, All, Sorted, keep, numbers, below}
+use Rattle.lists.specs.Lists.{All, Mem, Sorted, below, keep, numbers}
 use Rattle.polygon.specs.Polygon.{Edge, _—_, Ascending, NoneCross, Polygon}
 use Rattle.polygon.specs.Order.{diagonal?}
 use Rattle.chart.specs.Chart.{Bar, Stroke, upright, level, strokeEdge, Chart, Covers}
 use Rattle.chart_reader.specs.declared.Cell.{Cell}
-use Rattle.chart_reader.specs.Cells.{cell, Has, Inside, Common, Stands}
+use Rattle.chart_reader.specs.Cells.{cell, HasCell, Inside, CommonCell, Stands}
 
 -- "side i joins corner i to i+1, and side n-1, the root, joins n-1 to 0": the sides of n corners, ascending
-unfoldable pub sides : ℕ → List Edge
-sides n = (0 — 1) ∷ (0 — (n - 1)) ∷ map (λ i. i — suc i) (numbers (n - 2) 1)
+unfoldable pub partSides : ℕ → List Edge
+partSides n = (0 — 1) ∷ (0 — (n - 1)) ∷ map (λ i. i — suc i) (numbers (n - 2) 1)
 
 -- 18: "not all sides, or diagonals cross": the edges es of n corners are those of a part
 abbrev pub PartOf : ℕ → List Edge → Type 0
-PartOf n es = All (λ e. Mem e es) (sides n) × NoneCross (keep (diagonal? n) es)
+PartOf n es = All (λ e. Mem e es) (partSides n) × NoneCross (keep (diagonal? n) es)
 
 -- 15: "a bar breaks its rule". "Each bar's left column is at most its right, and bars lie within rows and columns .."
 abbrev pub LiesIn : ℕ → ℕ → Bar → Type 0
@@ -29,7 +29,7 @@ module _ (c : Chart) where
 
   -- ".. without sharing a cell"
   abbrev pub Apart : ℕ → ℕ → Type 0
-  Apart x y = ¬ Common (Has (c .bar x)) (Has (c .bar y))
+  Apart x y = ¬ CommonCell (HasCell (c .bar x)) (HasCell (c .bar y))
 
   abbrev pub BarRule : Type 0
   BarRule = All Lies (below (c .n)) × Sorted Apart (below (c .n))
@@ -52,15 +52,15 @@ module _ (c : Chart) where
   abbrev pub Free : Cell × Cell → Type 0
   Free e = All (λ z. ¬ Stands e (c .bar z)) (below (c .n))
 
-  abbrev pub Fits : Stroke → Type 0
-  Fits s = Joins s × Free (ends s)
+  abbrev pub BarsFit : Stroke → Type 0
+  BarsFit s = Joins s × Free (ends s)
 
   abbrev pub StrokeRule : Type 0
-  StrokeRule = All Named (c .strokes) × Ascending (map strokeEdge (c .strokes)) × All Fits (c .strokes)
+  StrokeRule = All Named (c .strokes) × Ascending (map strokeEdge (c .strokes)) × All BarsFit (c .strokes)
 
   -- 17: "an upright in a level gap". "No upright passes through the gap of a level stroke, the cells of its row between its two bars."
   abbrev pub Passes : Stroke → Stroke → Type 0
-  Passes (upright e j) (level f) = Common (Inside (ends (upright e j))) (Inside (ends (level f)))
+  Passes (upright e j) (level f) = CommonCell (Inside (ends (upright e j))) (Inside (ends (level f)))
   Passes (upright e j) (upright f k) = ⊥
   Passes (level e) t = ⊥
 

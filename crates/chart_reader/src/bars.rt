@@ -1,31 +1,28 @@
 // Whether the bars keep their rule.
 ghost use mathlib.Core.Path.{_≡_};
 ghost use mathlib.Core.Bool.{true, false};
-ghost use Prim.Native.Nat.{_+_, _*_, _<_, _≤_};
-ghost use lib.ListN.{length};
 ghost use Rattle.lists.specs.Lists.{All, Sorted, below};
-ghost use Rattle.chart_reader.specs.Decode.{barAt, chartIn};
+ghost use Rattle.chart.specs.Decode.{chartIn, barOf};
 ghost use Rattle.chart_reader.specs.Rules.{LiesIn, Lies, Apart, BarRule};
 ghost use Rattle.chart_reader.specs.Held.{Bars};
 use crate::question::any_within;
 use crate::question::bar_area;
+use chart::Bar;
+use chart::corner_bar;
 use codec::get16;
 
-// Whether the bar at a place has its left column at most its right, and lies within rows and columns.
-fn lies(chart: &[u8], at: usize, rows: usize, columns: usize) -> bool
-    requires { ⌜ at + 6 ≤ length (now chart) ⌝ }
-    ensures { λ r. ⌜ (r ≡ true → LiesIn rows columns (barAt (now (chart .entry)) at)) ⌝ }
-    ensures { λ r. ⌜ (r ≡ false → LiesIn rows columns (barAt (now (chart .entry)) at) → ⊥) ⌝ }
+// Whether a bar has its left column at most its right, and lies within rows and columns.
+fn lies(b: Bar, rows: usize, columns: usize) -> bool
+    ensures { λ r. ⌜ (r ≡ true → LiesIn rows columns (barOf b)) ⌝ }
+    ensures { λ r. ⌜ (r ≡ false → LiesIn rows columns (barOf b) → ⊥) ⌝ }
 {
-    let left = get16(chart, at + 2);
-    let right = get16(chart, at + 4);
-    if left > right {
+    if b.left > b.right {
         return false;
     }
-    if right >= columns {
+    if b.right as usize >= columns {
         return false;
     }
-    get16(chart, at) < rows
+    (b.row as usize) < rows
 }
 
 // Whether each bar does.
@@ -38,7 +35,7 @@ fn all_lie(chart: &[u8], n: usize) -> bool
     let columns = get16(chart, 2);
     let mut x = 0;
     while x < n {
-        if !lies(chart, 6 + 6 * x, rows, columns) {
+        if !lies(corner_bar(chart, x), rows, columns) {
             return false;
         }
         x += 1;
@@ -54,9 +51,7 @@ fn all_apart(chart: &[u8], n: usize) -> bool
 {
     let mut x = 0;
     while x < n {
-        let at = 6 + 6 * x;
-        let a = bar_area(get16(chart, at), get16(chart, at + 2), get16(chart, at + 4));
-        if any_within(chart, 6, x, a) {
+        if any_within(chart, 6, x, bar_area(corner_bar(chart, x))) {
             return false;
         }
         x += 1;

@@ -3,8 +3,9 @@ ghost use mathlib.Core.Path.{_≡_};
 ghost use mathlib.Core.Bool.{true, false};
 ghost use Prim.Native.Nat.{_*_, _-_, _≤_};
 ghost use lib.ListN.{length, take};
-ghost use Rattle.chart_reader.specs.Decode.{places, Formed};
-ghost use Rattle.chart_reader.specs.Held.{Ending, Placed};
+ghost use Rattle.chart.specs.Decode.{places};
+ghost use Rattle.chart_reader.specs.Formed.{Formed};
+ghost use Rattle.chart_reader.specs.Held.{Ending, StrokesFound};
 use codec::get16;
 
 // Finds the places of the strokes from `from` on, as many as there is room for, if their map bytes have at most bit 0 and they end where the bytes end.
@@ -35,7 +36,7 @@ fn stroke_places(chart: &[u8], from: usize, at: &mut [usize]) -> bool
 pub fn frame(chart: &[u8], at: &mut [usize]) -> usize
     requires { ⌜ length (now at) ≡ 2045 ⌝ }
     ensures { λ r. ⌜ (r ≡ 0 → Formed (now (chart .entry)) → ⊥) ⌝ }
-    ensures { λ r. ⌜ ((r ≡ 0 → ⊥) → Placed (now (chart .entry)) r (take (2 * r - 3) (now (at .exit)))) ⌝ }
+    ensures { λ r. ⌜ ((r ≡ 0 → ⊥) → StrokesFound (now (chart .entry)) r (take (2 * r - 3) (now (at .exit)))) ⌝ }
 {
     if chart.len() < 6 {
         return 0;

@@ -7,12 +7,14 @@ ghost use lib.ListN.{length};
 ghost use lib.Seq.{sets};
 ghost use Rattle.lists.specs.Lists.{All};
 ghost use Rattle.chart.specs.Bytes.{barBytes};
-ghost use Rattle.chart_reader.specs.Decode.{strokeAt, chartIn};
+ghost use Rattle.chart.specs.Decode.{chartIn, strokeOf};
 ghost use Rattle.chart_reader.specs.Rules.{BarRule, Named, StrokeRule, GapRule};
-ghost use Rattle.chart_reader.specs.Held.{Bars, Placed, StrokeIn, gapBar, gapOf, GapsIn, Clear};
+ghost use Rattle.chart_reader.specs.Held.{Bars, StrokesFound, StrokeIn, gapBar, gapOf, GapsIn, Clear};
 use crate::Ends;
 use crate::question::bar_between;
 use crate::strokes::stroke_ends;
+use chart::Stroke;
+use chart::stroke_at;
 use codec::put16;
 
 // Writes the gap between two cells of a row as a bar.
@@ -28,16 +30,15 @@ fn put_gap(gaps: &mut [u8], at: usize, e: Ends)
 }
 
 // Writes the gap of a stroke behind g others, if it is level and its gap has a cell, and says how many there are then.
-fn put_gap_of(chart: &[u8], at: usize, n: usize, gaps: &mut [u8], g: usize) -> usize
-    requires { ⌜ StrokeIn (now chart) n at × Bars (now chart) n × (6 * g + 6 ≤ length (now gaps)) ⌝ }
-    ensures { λ r. ⌜ (r ≡ g + length (gapOf (chartIn (now (chart .entry))) (strokeAt (now (chart .entry)) at))) ⌝ }
-    ensures { λ r. ⌜ now (gaps .exit)
-        ≡ sets (now (gaps .entry)) (6 * g) (flatMap barBytes (gapOf (chartIn (now (chart .entry))) (strokeAt (now (chart .entry)) at))) ⌝ }
+fn put_gap_of(chart: &[u8], s: Stroke, n: usize, gaps: &mut [u8], g: usize) -> usize
+    requires { ⌜ StrokeIn n s × Bars (now chart) n × (6 * g + 6 ≤ length (now gaps)) ⌝ }
+    ensures { λ r. ⌜ (r ≡ g + length (gapOf (chartIn (now (chart .entry))) (strokeOf s))) ⌝ }
+    ensures { λ r. ⌜ now (gaps .exit) ≡ sets (now (gaps .entry)) (6 * g) (flatMap barBytes (gapOf (chartIn (now (chart .entry))) (strokeOf s))) ⌝ }
 {
-    if chart[at] != 0 {
+    if s.upright {
         return g;
     }
-    let e = stroke_ends(chart, at, n);
+    let e = stroke_ends(chart, s, n);
     let p = e.first;
     let q = e.last;
     if q.column <= p.column + 1 {
@@ -49,41 +50,43 @@ fn put_gap_of(chart: &[u8], at: usize, n: usize, gaps: &mut [u8], g: usize) -> u
 
 // Writes the gaps of the level strokes, and says how many there are.
 fn put_gaps(chart: &[u8], at: &[usize], n: usize, gaps: &mut [u8]) -> usize
-    requires { ⌜ Placed (now chart) n (now at) × All (Named (chartIn (now chart))) (chartIn (now chart) .strokes)
+    requires { ⌜ StrokesFound (now chart) n (now at) × All (Named (chartIn (now chart))) (chartIn (now chart) .strokes)
         × (6 * length (now at) ≤ length (now gaps)) ⌝ }
     ensures { λ r. ⌜ GapsIn (chartIn (now (chart .entry))) (now (gaps .exit)) r × (r ≤ length (now (at .entry))) ⌝ }
 {
     let mut g = 0;
     let mut i = 0;
     while i < at.len() {
-        g = put_gap_of(chart, at[i], n, gaps, g);
+        let s = stroke_at(chart, at[i]);
+        g = put_gap_of(chart, s, n, gaps, g);
         i += 1;
     }
     g
 }
 
 // Whether a stroke is no upright, or passes through none of the gaps.
-fn clear(chart: &[u8], at: usize, n: usize, gaps: &[u8], g: usize) -> bool
-    requires { ⌜ StrokeIn (now chart) n at × Bars (now chart) n × (6 * g ≤ length (now gaps)) ⌝ }
-    ensures { λ r. ⌜ (r ≡ true → Clear (chartIn (now (chart .entry))) (now (gaps .entry)) g (strokeAt (now (chart .entry)) at)) ⌝ }
-    ensures { λ r. ⌜ (r ≡ false → Clear (chartIn (now (chart .entry))) (now (gaps .entry)) g (strokeAt (now (chart .entry)) at) → ⊥) ⌝ }
+fn clear(chart: &[u8], s: Stroke, n: usize, gaps: &[u8], g: usize) -> bool
+    requires { ⌜ StrokeIn n s × Bars (now chart) n × (6 * g ≤ length (now gaps)) ⌝ }
+    ensures { λ r. ⌜ (r ≡ true → Clear (chartIn (now (chart .entry))) (now (gaps .entry)) g (strokeOf s)) ⌝ }
+    ensures { λ r. ⌜ (r ≡ false → Clear (chartIn (now (chart .entry))) (now (gaps .entry)) g (strokeOf s) → ⊥) ⌝ }
 {
-    if chart[at] == 0 {
+    if !s.upright {
         return true;
     }
-    let e = stroke_ends(chart, at, n);
+    let e = stroke_ends(chart, s, n);
     !bar_between(gaps, 0, g, e.first, e.last)
 }
 
 // Whether each stroke is.
 fn all_clear(chart: &[u8], at: &[usize], n: usize, gaps: &[u8], g: usize) -> bool
-    requires { ⌜ Placed (now chart) n (now at) × All (Named (chartIn (now chart))) (chartIn (now chart) .strokes) × (6 * g ≤ length (now gaps)) ⌝ }
+    requires { ⌜ StrokesFound (now chart) n (now at) × All (Named (chartIn (now chart))) (chartIn (now chart) .strokes) × (6 * g ≤ length (now gaps)) ⌝ }
     ensures { λ r. ⌜ (r ≡ true → All (Clear (chartIn (now (chart .entry))) (now (gaps .entry)) g) (chartIn (now (chart .entry)) .strokes)) ⌝ }
     ensures { λ r. ⌜ (r ≡ false → All (Clear (chartIn (now (chart .entry))) (now (gaps .entry)) g) (chartIn (now (chart .entry)) .strokes) → ⊥) ⌝ }
 {
     let mut i = 0;
     while i < at.len() {
-        if !clear(chart, at[i], n, gaps, g) {
+        let s = stroke_at(chart, at[i]);
+        if !clear(chart, s, n, gaps, g) {
             return false;
         }
         i += 1;
@@ -93,7 +96,7 @@ fn all_clear(chart: &[u8], at: &[usize], n: usize, gaps: &[u8], g: usize) -> boo
 
 // Whether no upright passes through the gap of a level stroke, for a chart that keeps the rules of bars and strokes.
 pub fn gaps_keep(chart: &[u8], at: &[usize], n: usize) -> bool
-    requires { ⌜ Placed (now chart) n (now at) × BarRule (chartIn (now chart)) × StrokeRule (chartIn (now chart)) ⌝ }
+    requires { ⌜ StrokesFound (now chart) n (now at) × BarRule (chartIn (now chart)) × StrokeRule (chartIn (now chart)) ⌝ }
     ensures { λ r. ⌜ (r ≡ true → GapRule (chartIn (now (chart .entry)))) ⌝ }
     ensures { λ r. ⌜ (r ≡ false → GapRule (chartIn (now (chart .entry))) → ⊥) ⌝ }
 {

@@ -1,6 +1,6 @@
 // Read a chart: the bytes of a chart, ours or another's, to the normal sheet of the part that it shows.
 // frame.rt finds the strokes in the bytes, question.rt asks whether a bar stands between two cells, bars.rt, strokes.rt, gaps.rt and part.rt test the rules.
-// The definitions that the contracts cite are in specs/: Reader.antt has the tests in their order, Rules.antt the rules, Decode.antt the bytes, Held.antt how the code holds a chart.
+// The definitions that the contracts cite are in specs/: Reader.antt has the tests in their order, Rules.antt the rules, crate chart's Decode.antt the bytes, Held.antt how the code holds a chart.
 ghost use mathlib.Core.Path.{_≡_};
 ghost use lib.ListN.{length};
 ghost use Rattle.codec.specs.Answer.{answered, written};

@@ -3,29 +3,30 @@ ghost use mathlib.Core.Path.{_≡_};
 ghost use mathlib.Core.Bool.{true, false};
 ghost use Prim.Native.Nat.{_+_, _*_, _<_, _≤_};
 ghost use lib.ListN.{length};
-ghost use Rattle.chart_reader.specs.Cells.{bar, Has, Inside, Common};
-ghost use Rattle.chart_reader.specs.Areas.{Within, Fills};
-ghost use Rattle.chart_reader.specs.Held.{Small, None, Some};
+ghost use Rattle.chart.specs.Decode.{barOf};
+ghost use Rattle.chart_reader.specs.Cells.{HasCell, Inside, CommonCell};
+ghost use Rattle.chart_reader.specs.Areas.{InArea, Fills};
+ghost use Rattle.chart_reader.specs.Held.{SmallCell, NoBar, SomeBar};
 use crate::Area;
 use crate::Cell;
-use codec::get16;
+use chart::Bar;
+use chart::bar_at;
 
 // The cells of a bar.
-pub fn bar_area(row: usize, left: usize, right: usize) -> Area
-    requires { ⌜ (row < 65536) × (right < 65536) ⌝ }
-    ensures { λ r. ⌜ Fills (Has (bar row left right)) r ⌝ }
+pub fn bar_area(b: Bar) -> Area
+    ensures { λ r. ⌜ Fills (HasCell (barOf b)) r ⌝ }
 {
     Area {
-        top: row,
-        bottom: row + 1,
-        left,
-        right: right + 1,
+        top: b.row as usize,
+        bottom: b.row as usize + 1,
+        left: b.left as usize,
+        right: b.right as usize + 1,
     }
 }
 
 // The cells between two cells of a row or of a column; neither of the two counts.
 fn between(p: Cell, q: Cell) -> Area
-    requires { ⌜ Small p × Small q ⌝ }
+    requires { ⌜ SmallCell p × SmallCell q ⌝ }
     ensures { λ r. ⌜ Fills (Inside (p, q)) r ⌝ }
 {
     if p.row == q.row {
@@ -73,10 +74,13 @@ fn between(p: Cell, q: Cell) -> Area
 }
 
 // Whether a bar has a cell of the area.
-fn meets(a: Area, row: usize, left: usize, right: usize) -> bool
-    ensures { λ r. ⌜ (r ≡ true → Common (Within a) (Has (bar row left right))) ⌝ }
-    ensures { λ r. ⌜ (r ≡ false → Common (Within a) (Has (bar row left right)) → ⊥) ⌝ }
+fn meets(a: Area, b: Bar) -> bool
+    ensures { λ r. ⌜ (r ≡ true → CommonCell (InArea a) (HasCell (barOf b))) ⌝ }
+    ensures { λ r. ⌜ (r ≡ false → CommonCell (InArea a) (HasCell (barOf b)) → ⊥) ⌝ }
 {
+    let row = b.row as usize;
+    let left = b.left as usize;
+    let right = b.right as usize;
     if row < a.top {
         return false;
     }
@@ -98,8 +102,8 @@ fn meets(a: Area, row: usize, left: usize, right: usize) -> bool
 // Whether one of the m bars from `from` on has a cell of the area.
 pub fn any_within(bars: &[u8], from: usize, m: usize, a: Area) -> bool
     requires { ⌜ from + 6 * m ≤ length (now bars) ⌝ }
-    ensures { λ r. ⌜ (r ≡ true → Some (now (bars .entry)) from m (Within a)) ⌝ }
-    ensures { λ r. ⌜ (r ≡ false → None (now (bars .entry)) from m (Within a)) ⌝ }
+    ensures { λ r. ⌜ (r ≡ true → SomeBar (now (bars .entry)) from m (InArea a)) ⌝ }
+    ensures { λ r. ⌜ (r ≡ false → NoBar (now (bars .entry)) from m (InArea a)) ⌝ }
 {
     if a.top >= a.bottom {
         return false;
@@ -109,8 +113,7 @@ pub fn any_within(bars: &[u8], from: usize, m: usize, a: Area) -> bool
     }
     let mut x = 0;
     while x < m {
-        let at = from + 6 * x;
-        if meets(a, get16(bars, at), get16(bars, at + 2), get16(bars, at + 4)) {
+        if meets(a, bar_at(bars, from + 6 * x)) {
             return true;
         }
         x += 1;
@@ -120,9 +123,9 @@ pub fn any_within(bars: &[u8], from: usize, m: usize, a: Area) -> bool
 
 // Whether one of the m bars from `from` on stands between two cells of a row or of a column: the question that the whole reader asks.
 pub fn bar_between(bars: &[u8], from: usize, m: usize, p: Cell, q: Cell) -> bool
-    requires { ⌜ (from + 6 * m ≤ length (now bars)) × Small p × Small q ⌝ }
-    ensures { λ r. ⌜ (r ≡ true → Some (now (bars .entry)) from m (Inside (p, q))) ⌝ }
-    ensures { λ r. ⌜ (r ≡ false → None (now (bars .entry)) from m (Inside (p, q))) ⌝ }
+    requires { ⌜ (from + 6 * m ≤ length (now bars)) × SmallCell p × SmallCell q ⌝ }
+    ensures { λ r. ⌜ (r ≡ true → SomeBar (now (bars .entry)) from m (Inside (p, q))) ⌝ }
+    ensures { λ r. ⌜ (r ≡ false → NoBar (now (bars .entry)) from m (Inside (p, q))) ⌝ }
 {
     any_within(bars, from, m, between(p, q))
 }

@@ -6,7 +6,8 @@ use Prim.Native.Nat.{ℕ}
 use Rattle.lists.specs.Lists.{All}
 use Rattle.polygon.specs.Polygon.{Polygon}
 use Rattle.sheet.specs.Sheet.{held}
-use Rattle.chart_reader.specs.Decode.{chartIn, Formed}
+use Rattle.chart.specs.Decode.{chartIn}
+use Rattle.chart_reader.specs.Formed.{Formed}
 use Rattle.chart_reader.specs.Rules.{Named}
 use Rattle.chart_reader.specs.Reader.{readChart}
 use Rattle.chart_reader.proofs.Verdict.{by-reading}

@@ -4,7 +4,7 @@ use mathlib.Core.Logic.{Dec·and}
 use mathlib.Core.List.{List, [], _∷_, flatMap}
 use Prim.Native.Nat.{ℕ}
 use native.Mathlib.Decide.{decLe, decLt, ℕ-discrete}
-use Rattle.lists.specs.Lists.{choose, put, keep, numbers, below, not?, either?, all?, sorted?, mem?, recast?, three?}
+use Rattle.lists.specs.Lists.{all?, below, choose, either?, keep, mem?, not?, numbers, put, sorted?, recast?, three?}
 use Rattle.polygon.specs.Order.{before?, same?, cross?, none-cross?, diagonal?}
 use Rattle.polygon.specs.Tree.{treeOf, grow, far, farther, near?}
 use Rattle.umbrella.specs.Plan.{fold}
@@ -13,13 +13,14 @@ use Rattle.umbrella.specs.Best.{best, umbrella, leftAt, rightAt, stemAt, over-n
 use Rattle.sheet.specs.Sheet.{ask, count?}
 use Rattle.chart.specs.Chart.{strokeEdge, barsOf}
 use Rattle.chart.specs.Bytes.{barBytes, strokeBytes, bytesOf}
+use Rattle.chart.specs.Decode.{shaped, places, behind}
 use Rattle.log_line.specs.Line.{digits, decimal, numberWord, line}
 use Rattle.chart_reader.specs.Areas.{common?, common-of, between, stands?, shares?, crosses?}
-use Rattle.chart_reader.specs.Decode.{shaped, places, behind, formed?}
-use Rattle.chart_reader.specs.Rules.{sides}
+use Rattle.chart_reader.specs.Formed.{formed?}
+use Rattle.chart_reader.specs.Rules.{partSides}
 use Rattle.chart_reader.specs.Reader.{bars?, free?, joins?, strokes?, passes?, gaps?, part?, readChart}
 use Rattle.chart_reader.proofs.Known.{triangle, drawn, squareBars, squareStrokes}
-use Rattle.chart_text.specs.Text.{cornerLine, cornerLines, strokeName, edgeName, strokeLine, enter, leftToRight, strokeLines, describedAs, described}
+use Rattle.chart_text.specs.Text.{cornerLine, cornerLines, strokeName, edgeName, strokeLine, insertStroke, leftToRight, strokeLines, describedAs, described}
 
 abbrev pub triangleText : List ℕ
 triangleText =
@@ -65,10 +66,13 @@ squareText =
     -- line 2 corners 2 3 side
     108 ∷ 105 ∷ 110 ∷ 101 ∷ 32 ∷ 50 ∷ 32 ∷ 99 ∷ 111 ∷ 114 ∷ 110 ∷ 101 ∷ 114 ∷ 115 ∷ 32 ∷ 50 ∷ 32 ∷ 51 ∷ 32 ∷ 115 ∷ 105 ∷ 100 ∷ 101 ∷ 10 ∷ []
 
-pub record Known : Type 0 where
+pub record KnownTexts : Type 0 where
   pub triangle-text : described triangle ≡ triangleText
   pub square-text : described (drawn 3 3 squareBars squareStrokes) ≡ squareText
 
-pub known : Known
-unfolding described describedAs line numberWord digits decimal cornerLines cornerLine strokeLines leftToRight enter strokeLine strokeName edgeName drawn readChart ask formed? recast? three? count? places behind shaped bars? free? joins? strokes? passes? gaps? part? sides common? common-of between stands? shares? crosses? bytesOf barBytes strokeBytes barsOf flatMap strokeEdge Dec·and choose put keep numbers below all? sorted? mem? not? same? before? either? none-cross? cross? diagonal? decLe decLt ℕ-discrete treeOf grow far farther near? best umbrella leftAt rightAt stemAt over-node ud fold
+pub known : KnownTexts
+unfolding described describedAs line numberWord digits decimal cornerLines cornerLine strokeLines leftToRight insertStroke strokeLine strokeName edgeName drawn readChart ask formed? recast?
+    three? count? places behind shaped bars? free? joins? strokes? passes? gaps? part? partSides common? common-of between stands? shares? crosses? bytesOf barBytes strokeBytes barsOf flatMap
+    strokeEdge Dec·and choose put keep numbers below all? sorted? mem? not? same? before? either? none-cross? cross? diagonal? decLe decLt ℕ-discrete treeOf grow far farther near? best
+    umbrella leftAt rightAt stemAt over-node ud fold
 known = record { triangle-text = refl; square-text = refl }

@@ -7,12 +7,12 @@ use Prim.Native.Nat.{_≤_}
 use native.Mathlib.Decide.{decLe}
 use native.Mathlib.Nat.{le-trans}
 use native.Mathlib.Omega.{arith}
-use Rattle.lists.specs.Lists.{Mem, head, tail, Sub, All, all-nil, all-cons, Sorted, sorted-nil, sorted-cons, choose}
-use Rattle.lists.proofs.Lists.{all-mem, all-imp, all-of, sorted-same, mem-map}
+use Rattle.lists.specs.Lists.{All, Mem, Sorted, Sub, all-cons, all-nil, choose, head, sorted-cons, sorted-nil, tail}
+use Rattle.lists.proofs.Lists.{all-imp, all-mem, all-of, sorted-same, mem-map}
 use Rattle.polygon.specs.Polygon.{Before, Ascending}
 use Rattle.polygon.proofs.Order.{one-way}
 use Rattle.chart.specs.Chart.{Stroke, strokeEdge, Chart}
-use Rattle.chart_text.specs.Text.{standing, enter, leftToRight}
+use Rattle.chart_text.specs.Text.{standing, insertStroke, leftToRight}
 
 -- one of two lists
 module _ {A P : Type 0} {x : A} where
@@ -28,18 +28,18 @@ module _ {A P : Type 0} {x : A} where
 
 module _ (c : Chart) where
   -- a stroke entered: it and the others, and no more
-  enter-has : (s : Stroke) (ts : List Stroke) → Sub (s ∷ ts) (enter c s ts)
-  unfolding enter
+  enter-has : (s : Stroke) (ts : List Stroke) → Sub (s ∷ ts) (insertStroke c s ts)
+  unfolding insertStroke
   enter-has s [] x m = m
   enter-has s (t ∷ ts) x m = choose-has (decLe (standing c s) (standing c t)) m (later m (enter-has s ts x))
     where
-      later : Mem x (s ∷ (t ∷ ts)) → (Mem x (s ∷ ts) → Mem x (enter c s ts)) → Mem x (t ∷ enter c s ts)
+      later : Mem x (s ∷ (t ∷ ts)) → (Mem x (s ∷ ts) → Mem x (insertStroke c s ts)) → Mem x (t ∷ insertStroke c s ts)
       later (head e) f = tail (f (head e))
       later (tail (head e)) f = head e
       later (tail (tail k)) f = tail (f (tail k))
 
-  enter-only : (s : Stroke) (ts : List Stroke) → Sub (enter c s ts) (s ∷ ts)
-  unfolding enter
+  enter-only : (s : Stroke) (ts : List Stroke) → Sub (insertStroke c s ts) (s ∷ ts)
+  unfolding insertStroke
   enter-only s [] x m = m
   enter-only s (t ∷ ts) x m = go (choose-only (decLe (standing c s) (standing c t)) m) (enter-only s ts x)
     where
@@ -47,7 +47,7 @@ module _ (c : Chart) where
       past (head e) = head e
       past (tail k) = tail (tail k)
 
-      go : Mem x (s ∷ (t ∷ ts)) ⊎ Mem x (t ∷ enter c s ts) → (Mem x (enter c s ts) → Mem x (s ∷ ts)) → Mem x (s ∷ (t ∷ ts))
+      go : Mem x (s ∷ (t ∷ ts)) ⊎ Mem x (t ∷ insertStroke c s ts) → (Mem x (insertStroke c s ts) → Mem x (s ∷ ts)) → Mem x (s ∷ (t ∷ ts))
       go (inl k) f = k
       go (inr (head e)) f = tail (head e)
       go (inr (tail k)) f = past (f k)
@@ -71,15 +71,15 @@ module _ (c : Chart) where
   abbrev NoLater : Stroke → Stroke → Type 0
   NoLater s t = standing c s ≤ standing c t
 
-  enter-sorted : (s : Stroke) {ts : List Stroke} → Sorted NoLater ts → Sorted NoLater (enter c s ts)
-  unfolding enter choose
+  enter-sorted : (s : Stroke) {ts : List Stroke} → Sorted NoLater ts → Sorted NoLater (insertStroke c s ts)
+  unfolding insertStroke choose
   enter-sorted s sorted-nil = sorted-cons all-nil sorted-nil
   enter-sorted s (sorted-cons {x = t} {xs = ts} a o) = go (decLe (standing c s) (standing c t)) (enter-sorted s o)
     where
-      others : NoLater t s → All (NoLater t) (enter c s ts)
-      others h = all-of (enter c s ts) (λ x m. all-mem (all-cons h a) (enter-only s ts x m))
+      others : NoLater t s → All (NoLater t) (insertStroke c s ts)
+      others h = all-of (insertStroke c s ts) (λ x m. all-mem (all-cons h a) (enter-only s ts x m))
 
-      go : (d : Dec (NoLater s t)) → Sorted NoLater (enter c s ts) → Sorted NoLater (choose d (s ∷ (t ∷ ts)) (t ∷ enter c s ts))
+      go : (d : Dec (NoLater s t)) → Sorted NoLater (insertStroke c s ts) → Sorted NoLater (choose d (s ∷ (t ∷ ts)) (t ∷ insertStroke c s ts))
       go (yes p) i = sorted-cons (all-cons p (all-imp (λ x h. le-trans p h) a)) (sorted-cons a o)
       go (no p) i = sorted-cons (others (omega arith)) i
 

@@ -2,14 +2,14 @@
 use mathlib.Core.Path.{_≡_, refl, ap, ap₂, _∙_}
 use mathlib.Core.List.{List, _∷_, _++_, map, flatMap}
 use native.Mathlib.Omega.{arith}
-use Rattle.lists.specs.Lists.{All, all-nil, all-cons, below}
+use Rattle.lists.specs.Lists.{All, all-cons, all-nil, below}
 use Rattle.lists.proofs.Lists.{all-imp}
 use Rattle.lists.proofs.Places.{below-all}
 use Rattle.chart.specs.Chart.{Stroke, upright, level, strokeEdge, Chart, barsOf}
 use Rattle.chart.specs.Bytes.{bytesOf}
 use Rattle.chart_reader.specs.Rules.{Named}
-use Rattle.chart_reader.proofs.Same.{Same}
-use Rattle.chart_text.specs.Text.{cornerLine, cornerLines, standing, strokeName, strokeLine, enter, leftToRight, strokeLines}
+use Rattle.chart_reader.proofs.Same.{SameNumbers}
+use Rattle.chart_text.specs.Text.{cornerLine, cornerLines, standing, strokeName, strokeLine, insertStroke, leftToRight, strokeLines}
 use Rattle.chart_text.proofs.Order.{order-all}
 
 -- lists made of equal parts
@@ -22,7 +22,7 @@ unfolding flatMap
 flat-same all-nil = refl
 flat-same (all-cons e a) = ap₂ _++_ e (flat-same a)
 
-module _ (d c : Chart) (S : Same d c) where
+module _ (d c : Chart) (S : SameNumbers d c) where
   -- the bars
   bars-same : All (λ x. d .bar x ≡ c .bar x) (below (c .n))
   bars-same = below-all (c .n) (S .bars)
@@ -46,8 +46,8 @@ module _ (d c : Chart) (S : Same d c) where
   same-line (upright e j) N = rw (S .corners)
   same-line (level e) N = rw (S .corners, S .bars (e .0) (omega arith), S .bars (e .1) (omega arith))
 
-  same-enter : (s : Stroke) → Named c s → {ts : List Stroke} → All (Named c) ts → enter d s ts ≡ enter c s ts
-  unfolding enter
+  same-enter : (s : Stroke) → Named c s → {ts : List Stroke} → All (Named c) ts → insertStroke d s ts ≡ insertStroke c s ts
+  unfolding insertStroke
   same-enter s N all-nil = refl
   same-enter s N (all-cons {x} M a) = rw (same-standing s N, same-standing x M, same-enter s N a)
 

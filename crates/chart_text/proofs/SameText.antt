@@ -17,15 +17,15 @@ use Rattle.sheet.specs.Sheet.{held}
 use Rattle.codec.proofs.Numbers.{Byte, byte-at}
 use Rattle.chart.specs.Chart.{Chart}
 use Rattle.chart.specs.Bytes.{StrokeFits, Fits}
-use Rattle.log_line.proofs.Reading.{Small, line-told}
-use Rattle.chart_reader.specs.Decode.{shaped, edgeAt, strokeAt, strokePlaces, chartIn}
-use Rattle.chart_reader.proofs.Same.{Same}
-use Rattle.chart_reader.proofs.Accepts.{Held}
+use Rattle.log_line.proofs.Reading.{SmallFacts, line-told}
+use Rattle.chart_reader.proofs.Same.{SameNumbers}
+use Rattle.chart_reader.proofs.Accepts.{KeepsRules}
 use Rattle.chart_text.specs.Text.{chartFacts, cornerLines, strokeLines, describedAs}
 use Rattle.chart_text.proofs.Told.{Readable, lines-tell}
+use Rattle.chart.specs.Decode.{shaped, cornersAt, strokeAt, strokePlaces, chartIn}
 
 -- the numbers of the first line are small
-facts-small : (c : Chart) (p : Polygon) → Fits c → Valid p → Small (chartFacts c p)
+facts-small : (c : Chart) (p : Polygon) → Fits c → Valid p → SmallFacts (chartFacts c p)
 facts-small c p F v =
     let b = umbrellas-bound (planOf p) in
     let T = tree-of (p .n) (p .ds) (v .triangulated) in
@@ -39,14 +39,14 @@ facts-small c p F v =
     }
 
 -- a chart with a part of as many corners, without a number
-pub record Shown (c : Chart) (p : Polygon) : Type 0 where
+pub record ShownPart (c : Chart) (p : Polygon) : Type 0 where
   pub readable : Readable c
   pub valid : Valid p
   pub unnumbered : p .number ≡ none
   pub corners : c .n ≡ p .n
 
 -- Two charts with the same text have the same numbers.
-pub text-tells : (c d : Chart) (p q : Polygon) → Shown c p → Shown d q → describedAs c (held p) ≡ describedAs d (held q) → Same c d
+pub text-tells : (c d : Chart) (p q : Polygon) → ShownPart c p → ShownPart d q → describedAs c (held p) ≡ describedAs d (held q) → SameNumbers c d
 unfolding describedAs
 text-tells c d p q S T e =
     let f = facts-small c p (S .readable .fits) (S .valid) in
@@ -67,7 +67,7 @@ module _ (s : List ℕ) (B : All Byte s) where
   shaped-fits (suc b) e j h k = (h .0, h .1, k)
 
   stroke-fits : (at : ℕ) → StrokeFits (strokeAt s at)
-  stroke-fits at = shaped-fits (getD s at 0 % 2) (edgeAt s at) (get16 s (at + 5)) (number-fits (at + 1), number-fits (at + 3)) (number-fits (at + 5))
+  stroke-fits at = shaped-fits (getD s at 0 % 2) (cornersAt s at) (get16 s (at + 5)) (number-fits (at + 1), number-fits (at + 3)) (number-fits (at + 5))
 
   bytes-fit : Fits (chartIn s)
   bytes-fit = record {
@@ -78,7 +78,7 @@ module _ (s : List ℕ) (B : All Byte s) where
     strokes = all-map (strokeAt s) (all-of (strokePlaces s) (λ at m. stroke-fits at));
   }
 
-  pub bytes-shown : (p : Polygon) → Held s p → Valid p → Shown (chartIn s) p
+  pub bytes-shown : (p : Polygon) → KeepsRules s p → Valid p → ShownPart (chartIn s) p
   bytes-shown p H v = record {
     readable = record { fits = bytes-fit; named = H .strokes .0; ascending = H .strokes .1 };
     valid = v;

@@ -8,17 +8,17 @@ use native.Mathlib.Numerals.{add-one}
 use native.Mathlib.Omega.{arith}
 use lib.ListN.{length, take, set}
 use lib.Seq.{take-suc-set}
-use Rattle.lists.specs.Lists.{All, all-nil, all-cons, choose, numbers, below}
+use Rattle.lists.specs.Lists.{All, all-cons, all-nil, below, choose, numbers}
 use Rattle.lists.proofs.Lists.{all-imp, all-map}
 use Rattle.lists.proofs.Places.{numbers-in, below-next, map-places}
 use Rattle.keys.specs.Sort.{insertKey, sortKeys}
 use Rattle.keys.proofs.Insert.{insert-below, insert-past, all-sort}
 use Rattle.chart.specs.Chart.{Stroke, Chart}
-use Rattle.chart_reader.specs.Decode.{strokeAt, chartIn}
-use Rattle.chart_reader.specs.Held.{Placed}
+use Rattle.chart.specs.Decode.{strokeAt, chartIn}
+use Rattle.chart_reader.specs.Held.{StrokesFound}
 use Rattle.chart_reader.proofs.Stroked.{strokes-room}
-use Rattle.chart_text.specs.Text.{standing, enter, leftToRight, strokeLines}
-use Rattle.chart_text.specs.Ordered.{strokeOf, keyFor, strokeKeys, strokesOf, linesOf}
+use Rattle.chart_text.specs.Text.{standing, insertStroke, leftToRight, strokeLines}
+use Rattle.chart_text.specs.Ordered.{strokeNo, keyFor, strokeKeys, strokesOf, keyLines}
 
 -- y is a key whose number is above that of x; f is the stroke of a key
 abbrev Later : Chart → (ℕ → Stroke) → ℕ → ℕ → Type 0
@@ -26,13 +26,13 @@ Later c f x y = (y / 2048 ≡ standing c (f y)) × (x % 2048 < y % 2048)
 
 -- a key whose number is below those of the others goes where its stroke enters
 module _ (c : Chart) (f : ℕ → Stroke) (x : ℕ) (stands : x / 2048 ≡ standing c (f x)) where
-  insert-enters : {ys : List ℕ} → All (Later c f x) ys → map f (insertKey x ys) ≡ enter c (f x) (map f ys)
-  unfolding insertKey enter choose
+  insert-enters : {ys : List ℕ} → All (Later c f x) ys → map f (insertKey x ys) ≡ insertStroke c (f x) (map f ys)
+  unfolding insertKey insertStroke choose
   insert-enters all-nil = refl
   insert-enters (all-cons {x = y} {l = ys} p a) = go (decLt x y) (decLe (standing c (f x)) (standing c (f y))) (insert-enters a)
     where
-      go : Dec (x < y) → (d : Dec (standing c (f x) ≤ standing c (f y))) → map f (insertKey x ys) ≡ enter c (f x) (map f ys)
-          → map f (insertKey x (y ∷ ys)) ≡ choose d (f x ∷ (f y ∷ map f ys)) (f y ∷ enter c (f x) (map f ys))
+      go : Dec (x < y) → (d : Dec (standing c (f x) ≤ standing c (f y))) → map f (insertKey x ys) ≡ insertStroke c (f x) (map f ys)
+          → map f (insertKey x (y ∷ ys)) ≡ choose d (f x ∷ (f y ∷ map f ys)) (f y ∷ insertStroke c (f x) (map f ys))
       go (yes h) (yes d) e = rw (insert-below x y ys h)
       go (yes h) (no d) e = absurd (d (omega arith))
       go (no h) (yes d) e = absurd (h (omega arith))
@@ -43,31 +43,31 @@ module _ (s at : List ℕ) where
   number-of : (i : ℕ) → i < 2048 → keyFor s at i % 2048 ≡ i
   number-of i h = omega arith
 
-  stands-at : (i : ℕ) → i < 2048 → keyFor s at i / 2048 ≡ standing (chartIn s) (strokeOf s at (keyFor s at i % 2048))
+  stands-at : (i : ℕ) → i < 2048 → keyFor s at i / 2048 ≡ standing (chartIn s) (strokeNo s at (keyFor s at i % 2048))
   stands-at i h = rw (number-of i h) (omega arith)
 
   -- the keys of later strokes
-  later-keys : (k i : ℕ) → i + suc k ≤ 2048 → All (Later (chartIn s) (λ x. strokeOf s at (x % 2048)) (keyFor s at i)) (map (keyFor s at) (numbers k (suc i)))
+  later-keys : (k i : ℕ) → i + suc k ≤ 2048 → All (Later (chartIn s) (λ x. strokeNo s at (x % 2048)) (keyFor s at i)) (map (keyFor s at) (numbers k (suc i)))
   later-keys k i h = all-map (keyFor s at) (all-imp (λ y p. (stands-at y (omega arith), omega (arith, number-of i (omega arith), number-of y (omega arith)))) (numbers-in k (suc i)))
 
-  sorted-strokes : (k i : ℕ) → i + k ≤ 2048 → strokesOf s at (sortKeys (map (keyFor s at) (numbers k i))) ≡ leftToRight (chartIn s) (map (strokeOf s at) (numbers k i))
+  sorted-strokes : (k i : ℕ) → i + k ≤ 2048 → strokesOf s at (sortKeys (map (keyFor s at) (numbers k i))) ≡ leftToRight (chartIn s) (map (strokeNo s at) (numbers k i))
   unfolding numbers sortKeys leftToRight
   sorted-strokes zero i h = refl
   sorted-strokes (suc k) i h =
-      insert-enters (chartIn s) (λ x. strokeOf s at (x % 2048)) (keyFor s at i) (stands-at i (omega arith)) (all-sort (later-keys k i (omega arith)))
+      insert-enters (chartIn s) (λ x. strokeNo s at (x % 2048)) (keyFor s at i) (stands-at i (omega arith)) (all-sort (later-keys k i (omega arith)))
       ∙ rw (number-of i (omega arith), sorted-strokes k (suc i) (omega arith))
 
   -- in order the keys number the strokes from left to right, and each numbers a stroke
   strokes-sorted : length at ≤ 2048 → strokesOf s at (sortKeys (strokeKeys s at)) ≡ leftToRight (chartIn s) (map (strokeAt s) at)
   unfolding below
-  strokes-sorted few = sorted-strokes (length at) 0 (omega arith) ∙ ap (leftToRight (chartIn s)) (map-places (strokeAt s) (strokeOf s at) 0 at 0 (λ i h. let e : 0 + i ≡ i = omega arith in rw e))
+  strokes-sorted few = sorted-strokes (length at) 0 (omega arith) ∙ ap (leftToRight (chartIn s)) (map-places (strokeAt s) (strokeNo s at) 0 at 0 (λ i h. let e : 0 + i ≡ i = omega arith in rw e))
 
   keys-number : length at ≤ 2048 → All (λ k. k % 2048 < length at) (sortKeys (strokeKeys s at))
   unfolding below
   keys-number few = all-sort (all-map (keyFor s at) (all-imp (λ i p. omega (arith, number-of i (omega arith))) (numbers-in (length at) 0)))
 
 -- the strokes of a chart, by their places
-module _ (s : List ℕ) (n : ℕ) (at : List ℕ) (P : Placed s n at) where
+module _ (s : List ℕ) (n : ℕ) (at : List ℕ) (P : StrokesFound s n at) where
   -- 2n - 3 of at most 1,024 corners
   pub few-strokes : length at ≤ 2045
   few-strokes = omega (arith, strokes-room s n at P, P .count, P .formed .most)
@@ -77,7 +77,7 @@ module _ (s : List ℕ) (n : ℕ) (at : List ℕ) (P : Placed s n at) where
     pub ordered-number : All (λ k. k % 2048 < length at) ks
     ordered-number = rw e (keys-number s at (omega (arith, few-strokes)))
 
-    pub ordered-lines : linesOf s at ks ≡ strokeLines (chartIn s)
+    pub ordered-lines : keyLines s at ks ≡ strokeLines (chartIn s)
     unfolding strokeLines
     ordered-lines = rw (e, strokes-sorted s at (omega (arith, few-strokes)), ← P .strokes)
 

@@ -10,12 +10,12 @@ use Rattle.sheet.specs.Sheet.{held, normalSheet}
 use Rattle.sheet.proofs.Back.{read-back}
 use Rattle.chart.specs.Chart.{Stroke, Chart, chartOf}
 use Rattle.chart.specs.Bytes.{bytesOf}
+use Rattle.chart.specs.Decode.{chartIn}
 use Rattle.draw.specs.Printed.{printedOf, printed}
 use Rattle.log_line.specs.Line.{line}
-use Rattle.chart_reader.specs.Decode.{chartIn}
 use Rattle.chart_reader.specs.Reader.{readChart}
 use Rattle.chart_reader.specs.Charts.{Charts, withoutNumber}
-use Rattle.chart_reader.proofs.Same.{Same}
+use Rattle.chart_reader.proofs.Same.{SameNumbers}
 use Rattle.chart_reader.proofs.Decoded.{decoded}
 use Rattle.chart_reader.proofs.Encoded.{encoded}
 use Rattle.chart_reader.proofs.Shown.{shows-named, shows-count}
@@ -42,7 +42,7 @@ pub same-text-read : (s t : List ℕ) (p q : Polygon) → All (λ b. b < 256) s 
 same-text-read s t p q A B f g e = same-text s t p q A B (accepts s p A .0 f) (accepts t q B .0 g) e
 
 -- the chart in the bytes of a chart of a part has the numbers of that chart
-decoded-same : {s : List ℕ} {p : Polygon} (C : Charts s p) → Same (chartIn s) (C .chart)
+decoded-same : {s : List ℕ} {p : Polygon} (C : Charts s p) → SameNumbers (chartIn s) (C .chart)
 decoded-same {s} {p} C =
     let c : Chart = C .chart in
     let count : length (c .strokes) + 3 ≡ 2 * c .n = rw (C .shows .corners) (shows-count c p (C .valid) (C .shows)) in

@@ -5,9 +5,9 @@ use mathlib.Core.List.{List, [], _∷_, _++_, map, flatMap, append-assoc, append
 use Prim.Native.Nat.{ℕ, _+_, _<_}
 use native.Mathlib.Omega.{arith}
 use lib.ListN.{drop, getD}
-use Rattle.lists.specs.Lists.{All, all-nil, all-cons, choose, below}
+use Rattle.lists.specs.Lists.{All, all-cons, all-nil, below, choose}
 use Rattle.lists.proofs.Lists.{all-both}
-use Rattle.lists.proofs.Places.{below-at, below-all}
+use Rattle.lists.proofs.Places.{below-all, below-at}
 use Rattle.polygon.specs.Polygon.{Edge, Ascending}
 use Rattle.polygon.specs.Order.{diagonal?}
 use Rattle.chart.specs.Chart.{Bar, Stroke, upright, level, strokeEdge, Chart}

@@ -8,15 +8,15 @@
 use mathlib.Core.List.{List, [], _∷_, _++_, flatMap}
 use Prim.Native.Nat.{ℕ, _+_, _*_, min, max}
 use native.Mathlib.Decide.{decLe}
-use Rattle.lists.specs.Lists.{choose, below}
+use Rattle.lists.specs.Lists.{below, choose}
 use Rattle.polygon.specs.Polygon.{Edge, Polygon}
 use Rattle.polygon.specs.Order.{diagonal?}
 use Rattle.sheet.specs.Sheet.{Reading, refused, held}
 use Rattle.umbrella.specs.Plan.{levels, umbrellas, stems}
 use Rattle.umbrella.specs.Best.{planOf}
 use Rattle.chart.specs.Chart.{Bar, Stroke, upright, level, strokeEdge, Chart}
+use Rattle.chart.specs.Decode.{chartIn}
 use Rattle.log_line.specs.Line.{decimal, cornersWord, columnsWord, Facts, line, refusedLine}
-use Rattle.chart_reader.specs.Decode.{chartIn}
 use Rattle.chart_reader.specs.Reader.{readChart}
 
 -- the words, with the blanks around them
@@ -89,13 +89,13 @@ abbrev pub standing : Chart → Stroke → ℕ
 standing c (upright e j) = 2 * j
 standing c (level e) = 2 * leaves c e + 1
 
-unfoldable pub enter : Chart → Stroke → List Stroke → List Stroke
-enter c s [] = s ∷ []
-enter c s (t ∷ ts) = choose (decLe (standing c s) (standing c t)) (s ∷ (t ∷ ts)) (t ∷ enter c s ts)
+unfoldable pub insertStroke : Chart → Stroke → List Stroke → List Stroke
+insertStroke c s [] = s ∷ []
+insertStroke c s (t ∷ ts) = choose (decLe (standing c s) (standing c t)) (s ∷ (t ∷ ts)) (t ∷ insertStroke c s ts)
 
 unfoldable pub leftToRight : Chart → List Stroke → List Stroke
 leftToRight c [] = []
-leftToRight c (s ∷ ss) = enter c s (leftToRight c ss)
+leftToRight c (s ∷ ss) = insertStroke c s (leftToRight c ss)
 
 unfoldable pub strokeLines : Chart → List ℕ
 strokeLines c = flatMap (strokeLine c) (leftToRight c (c .strokes))

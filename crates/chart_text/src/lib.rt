@@ -5,13 +5,16 @@ ghost use lib.ListN.{length};
 ghost use Rattle.lists.specs.Lists.{All};
 ghost use Rattle.sheet.specs.Sheet.{held};
 ghost use Rattle.sheet.specs.Held.{polygonOf, InHand};
+ghost use Rattle.chart.specs.Decode.{chartIn, barOf};
 ghost use Rattle.log_line.specs.Put.{Put};
 ghost use Rattle.log_line.specs.Line.{line};
-ghost use Rattle.chart_reader.specs.Decode.{barAt, chartIn, Formed};
+ghost use Rattle.chart_reader.specs.Formed.{Formed};
 ghost use Rattle.chart_reader.specs.Rules.{Named};
 ghost use Rattle.chart_reader.specs.Held.{Bars};
 ghost use Rattle.chart_text.specs.Text.{chartFacts, cornerLine, cornerLines, describedAs, described};
 use crate::strokes::put_strokes;
+use chart::Bar;
+use chart::corner_bar;
 use chart_reader::frame::frame;
 use chart_reader::read_part;
 use codec::get16;
@@ -38,19 +41,16 @@ fn put_head(chart: &[u8], h: Head, keys: &[u32], out: &mut [u8]) -> usize
     counts_line(h, plan_part(h, keys), rows, columns, out)
 }
 
-// Writes the line of a corner, whose bar stands at `bar` in the chart, and says where it ends.
-fn put_corner(out: &mut [u8], at: usize, corner: usize, chart: &[u8], bar: usize) -> usize
-    requires { ⌜ (at + 128 ≤ length (now out)) × (corner < 1024) × (bar + 6 ≤ length (now chart)) ⌝ }
-    ensures text { λ r. ⌜ Put (cornerLine corner (barAt (now (chart .entry)) bar)) (now (out .entry)) at (now (out .exit)) r ⌝ }
+// Writes the line of a corner with its bar, and says where it ends.
+fn put_corner(out: &mut [u8], at: usize, corner: usize, bar: Bar) -> usize
+    requires { ⌜ (at + 128 ≤ length (now out)) × (corner < 1024) ⌝ }
+    ensures text { λ r. ⌜ Put (cornerLine corner (barOf bar)) (now (out .entry)) at (now (out .exit)) r ⌝ }
     ensures within { λ r. ⌜ r ≤ at + 45 ⌝ }
 {
-    let row = get16(chart, bar);
-    let left = get16(chart, bar + 2);
-    let right = get16(chart, bar + 4);
     let a = put_field(out, at, b"corner ", corner);
-    let b = put_field(out, a, b" row ", row);
-    let c = put_field(out, b, b" columns ", left);
-    let d = put_field(out, c, b" to ", right);
+    let b = put_field(out, a, b" row ", bar.row as usize);
+    let c = put_field(out, b, b" columns ", bar.left as usize);
+    let d = put_field(out, c, b" to ", bar.right as usize);
     put_word(out, d, b"\n")
 }
 
@@ -64,7 +64,7 @@ fn put_corners(out: &mut [u8], at: usize, chart: &[u8], n: usize) -> usize
     let mut end = at;
     let mut x = 0;
     while x < n {
-        end = put_corner(out, end, x, chart, 6 + 6 * x);
+        end = put_corner(out, end, x, corner_bar(chart, x));
         x += 1;
     }
     end

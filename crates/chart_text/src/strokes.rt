@@ -5,28 +5,29 @@ ghost use lib.ListN.{length, take};
 ghost use Rattle.lists.specs.Lists.{All};
 ghost use Rattle.polygon.specs.Polygon.{_—_};
 ghost use Rattle.keys.specs.Sort.{sortKeys};
+ghost use Rattle.chart.specs.Decode.{chartIn, strokeOf};
 ghost use Rattle.log_line.specs.Put.{Put};
-ghost use Rattle.chart_reader.specs.Decode.{strokeAt, chartIn};
 ghost use Rattle.chart_reader.specs.Rules.{Named};
-ghost use Rattle.chart_reader.specs.Held.{Bars, Placed, StrokeIn};
+ghost use Rattle.chart_reader.specs.Held.{Bars, StrokesFound, StrokeIn};
 ghost use Rattle.chart_text.specs.Text.{strokeName, edgeName, strokeLine, standing, strokeLines};
-ghost use Rattle.chart_text.specs.Ordered.{strokeKeys, linesOf};
+ghost use Rattle.chart_text.specs.Ordered.{strokeKeys, keyLines};
+use chart::Stroke;
+use chart::stroke_at;
 use chart_reader::part::is_diagonal;
 use chart_reader::strokes::stroke_ends;
-use codec::get16;
 use keys::key;
 use keys::sort::sort;
 use log_line::put_field;
 use log_line::put_word;
 
-// The key of the stroke at a place, whose number is i: where it stands, and then the number.
-fn stroke_key(chart: &[u8], p: usize, n: usize, i: usize) -> u32
-    requires { ⌜ StrokeIn (now chart) n p × Bars (now chart) n × (i < 2048) ⌝ }
-    ensures { λ r. ⌜ r ≡ standing (chartIn (now (chart .entry))) (strokeAt (now (chart .entry)) p) * 2048 + i ⌝ }
+// The key of a stroke whose number is i: where it stands, and then the number.
+fn stroke_key(chart: &[u8], s: Stroke, n: usize, i: usize) -> u32
+    requires { ⌜ StrokeIn n s × Bars (now chart) n × (i < 2048) ⌝ }
+    ensures { λ r. ⌜ r ≡ standing (chartIn (now (chart .entry))) (strokeOf s) * 2048 + i ⌝ }
 {
-    let e = stroke_ends(chart, p, n);
+    let e = stroke_ends(chart, s, n);
     let first = e.first;
-    if chart[p] == 0 {
+    if !s.upright {
         return ((2 * first.column + 1) * 2048 + i) as u32;
     }
     (2 * first.column * 2048 + i) as u32
@@ -34,19 +35,20 @@ fn stroke_key(chart: &[u8], p: usize, n: usize, i: usize) -> u32
 
 // Writes the keys of the strokes at these places.
 fn stroke_keys(chart: &[u8], at: &[usize], n: usize, keys: &mut [u32])
-    requires { ⌜ Placed (now chart) n (now at) × All (Named (chartIn (now chart))) (chartIn (now chart) .strokes) × (length (now at) ≤ length (now keys)) ⌝ }
+    requires { ⌜ StrokesFound (now chart) n (now at) × All (Named (chartIn (now chart))) (chartIn (now chart) .strokes) × (length (now at) ≤ length (now keys)) ⌝ }
     ensures { λ _. ⌜ take (length (now (at .entry))) (now (keys .exit)) ≡ strokeKeys (now (chart .entry)) (now (at .entry)) ⌝ }
 {
     let mut i = 0;
     while i < at.len() {
-        keys[i] = stroke_key(chart, at[i], n, i);
+        let s = stroke_at(chart, at[i]);
+        keys[i] = stroke_key(chart, s, n, i);
         i += 1;
     }
 }
 
 // Writes them in order; `spare` is overwritten.
 fn order(chart: &[u8], at: &[usize], n: usize, keys: &mut [u32], spare: &mut [u32])
-    requires { ⌜ Placed (now chart) n (now at) × All (Named (chartIn (now chart))) (chartIn (now chart) .strokes) ⌝ }
+    requires { ⌜ StrokesFound (now chart) n (now at) × All (Named (chartIn (now chart))) (chartIn (now chart) .strokes) ⌝ }
     requires { ⌜ (length (now at) ≤ length (now keys)) × (length (now at) ≤ length (now spare)) ⌝ }
     ensures { λ _. ⌜ take (length (now (at .entry))) (now (keys .exit)) ≡ sortKeys (strokeKeys (now (chart .entry)) (now (at .entry))) ⌝ }
 {
@@ -55,16 +57,16 @@ fn order(chart: &[u8], at: &[usize], n: usize, keys: &mut [u32], spare: &mut [u3
     sort(&mut keys[..m], spare, 32);
 }
 
-// Writes how the stroke at a place is found on the tape.
-fn put_name(out: &mut [u8], from: usize, chart: &[u8], p: usize, n: usize) -> usize
-    requires { ⌜ StrokeIn (now chart) n p × Bars (now chart) n × (from + 50 ≤ length (now out)) ⌝ }
-    ensures { λ r. ⌜ Put (strokeName (chartIn (now (chart .entry))) (strokeAt (now (chart .entry)) p)) (now (out .entry)) from (now (out .exit)) r ⌝ }
+// Writes how a stroke is found on the tape.
+fn put_name(out: &mut [u8], from: usize, chart: &[u8], s: Stroke, n: usize) -> usize
+    requires { ⌜ StrokeIn n s × Bars (now chart) n × (from + 50 ≤ length (now out)) ⌝ }
+    ensures { λ r. ⌜ Put (strokeName (chartIn (now (chart .entry))) (strokeOf s)) (now (out .entry)) from (now (out .exit)) r ⌝ }
     ensures { λ r. ⌜ r ≤ from + 20 ⌝ }
 {
-    let e = stroke_ends(chart, p, n);
+    let e = stroke_ends(chart, s, n);
     let first = e.first;
     let last = e.last;
-    if chart[p] == 0 {
+    if !s.upright {
         let a = put_field(out, from, b"level ", first.column);
         return put_field(out, a, b" to ", last.column);
     }
@@ -85,16 +87,14 @@ fn put_edge(out: &mut [u8], from: usize, a: usize, b: usize, n: usize) -> usize
     put_word(out, d, b" side\n")
 }
 
-// Writes the line of the stroke at a place.
-fn put_stroke(out: &mut [u8], from: usize, chart: &[u8], p: usize, n: usize) -> usize
-    requires { ⌜ StrokeIn (now chart) n p × Bars (now chart) n × (n ≤ 1024) × (from + 128 ≤ length (now out)) ⌝ }
-    ensures { λ r. ⌜ Put (strokeLine (chartIn (now (chart .entry))) (strokeAt (now (chart .entry)) p)) (now (out .entry)) from (now (out .exit)) r ⌝ }
+// Writes the line of a stroke.
+fn put_stroke(out: &mut [u8], from: usize, chart: &[u8], s: Stroke, n: usize) -> usize
+    requires { ⌜ StrokeIn n s × Bars (now chart) n × (n ≤ 1024) × (from + 128 ≤ length (now out)) ⌝ }
+    ensures { λ r. ⌜ Put (strokeLine (chartIn (now (chart .entry))) (strokeOf s)) (now (out .entry)) from (now (out .exit)) r ⌝ }
     ensures { λ r. ⌜ r ≤ from + 44 ⌝ }
 {
-    let next = put_name(out, from, chart, p, n);
-    let a = get16(chart, p + 1);
-    let b = get16(chart, p + 3);
-    put_edge(out, next, a, b, n)
+    let next = put_name(out, from, chart, s, n);
+    put_edge(out, next, s.a as usize, s.b as usize, n)
 }
 
 // Writes the line of each key's stroke.
@@ -106,16 +106,17 @@ fn put_lines(
     n: usize,
     keys: &[u32],
 ) -> usize
-    requires { ⌜ Placed (now chart) n (now at) × All (Named (chartIn (now chart))) (chartIn (now chart) .strokes) ⌝ }
+    requires { ⌜ StrokesFound (now chart) n (now at) × All (Named (chartIn (now chart))) (chartIn (now chart) .strokes) ⌝ }
     requires { ⌜ All (λ k. k % 2048 < length (now at)) (now keys) × (from + 44 * length (now keys) + 128 ≤ length (now out)) ⌝ }
-    ensures { λ r. ⌜ Put (linesOf (now (chart .entry)) (now (at .entry)) (now (keys .entry))) (now (out .entry)) from (now (out .exit)) r ⌝ }
+    ensures { λ r. ⌜ Put (keyLines (now (chart .entry)) (now (at .entry)) (now (keys .entry))) (now (out .entry)) from (now (out .exit)) r ⌝ }
     ensures { λ r. ⌜ r ≤ from + 44 * length (now (keys .entry)) ⌝ }
 {
     let mut end = from;
     let mut k = 0;
     while k < keys.len() {
         let i = (keys[k] % 2048) as usize;
-        end = put_stroke(out, end, chart, at[i], n);
+        let s = stroke_at(chart, at[i]);
+        end = put_stroke(out, end, chart, s, n);
         k += 1;
     }
     end
@@ -123,7 +124,7 @@ fn put_lines(
 
 // Writes the lines of the strokes, from left to right.
 pub fn put_strokes(out: &mut [u8], from: usize, chart: &[u8], at: &[usize], n: usize) -> usize
-    requires { ⌜ Placed (now chart) n (now at) × All (Named (chartIn (now chart))) (chartIn (now chart) .strokes) ⌝ }
+    requires { ⌜ StrokesFound (now chart) n (now at) × All (Named (chartIn (now chart))) (chartIn (now chart) .strokes) ⌝ }
     requires { ⌜ from + 44 * length (now at) + 128 ≤ length (now out) ⌝ }
     ensures { λ r. ⌜ Put (strokeLines (chartIn (now (chart .entry)))) (now (out .entry)) from (now (out .exit)) r ⌝ }
     ensures { λ r. ⌜ r ≤ from + 44 * length (now (at .entry)) ⌝ }

@@ -9,13 +9,13 @@ use native.Mathlib.Omega.{arith}
 use lib.ListN.{length, take, drop, getD, set, length-set, length-map, length-append, drop-of-length-le}
 use lib.Seq.{drop-cons, take-suc, length-take-le}
 use Rattle.lists.specs.Lists.{choose}
-use Rattle.lists.proofs.Lists.{choose-yes, choose-no}
+use Rattle.lists.proofs.Lists.{choose-no, choose-yes}
 use Rattle.lists.proofs.Places.{stored}
 use Rattle.polygon.specs.Polygon.{Edge}
 use Rattle.keys.specs.Keys.{edgeOf}
-use Rattle.tree.specs.Shows.{edgeAt}
+use Rattle.tree.specs.Table.{edgeAt}
 use Rattle.chart.specs.Chart.{Meets, meets?, first, last}
-use Rattle.chart_writer.specs.Tables.{Uprights, Filled, Spans}
+use Rattle.chart_writer.specs.Tables.{Uprights, FilledWith, Spans}
 
 -- one column more, before the others or behind them
 first-met : (x : ℕ) (e : Edge) (us : List Edge) → Meets x e → first x (e ∷ us) ≡ 0
@@ -35,10 +35,10 @@ unfolding last
 last-past x e us f = rw (reverse-append us (e ∷ []), first-past x e (reverse us) f) (omega (arith, length-append us (e ∷ [])))
 
 -- a column stored at both corners of its upright
-abbrev pub both : List ℕ → ℕ → ℕ → List ℕ
-both table k j = set (set table (k / 1024) j) (k % 1024) j
+abbrev pub storeBoth : List ℕ → ℕ → ℕ → List ℕ
+storeBoth table k j = set (set table (k / 1024) j) (k % 1024) j
 
-both-stored : (P : ℕ → Type 0) (table : List ℕ) (k j x : ℕ) → length table ≡ 1024 → k < 1047552 → (Meets x (edgeOf k) → P j) → ((Meets x (edgeOf k) → ⊥) → P (getD table x 0)) → P (getD (both table k j) x 0)
+both-stored : (P : ℕ → Type 0) (table : List ℕ) (k j x : ℕ) → length table ≡ 1024 → k < 1047552 → (Meets x (edgeOf k) → P j) → ((Meets x (edgeOf k) → ⊥) → P (getD table x 0)) → P (getD (storeBoth table k j) x 0)
 both-stored P table k j x size h f g =
     stored P (set table (k / 1024) j) (k % 1024) j x (rw (length-set table (k / 1024) j) (omega arith)) (λ p. f (inr (sym p)))
     (λ p. stored P table (k / 1024) j x (omega arith) (λ q. f (inl (sym q))) (λ q. g (λ m. elim m [ inl a ↦ q (sym a) | inr a ↦ p (sym a) ])))
@@ -55,11 +55,11 @@ module _ (tr columns : List ℕ) where
   abbrev pub Lefts : List ℕ → ℕ → Type 0
   Lefts left j = (x : ℕ) → x < 1024 → getD left x 0 ≡ j + first x (map (edgeAt tr) (drop j columns))
 
-  pub lefts-begin : (left : List ℕ) → Filled 1024 (length columns) left → Lefts left (length columns)
+  pub lefts-begin : (left : List ℕ) → FilledWith 1024 (length columns) left → Lefts left (length columns)
   unfolding first
   lefts-begin left (e, z) x h = rw (drop-of-length-le columns {i = length columns} (omega arith)) (omega (arith, z x h))
 
-  pub lefts-next : (left : List ℕ) (j : ℕ) → Uprights tr columns → length left ≡ 1024 → j < length columns → Lefts left (suc j) → Lefts (both left (getD tr (getD columns j 0) 0) j) j
+  pub lefts-next : (left : List ℕ) (j : ℕ) → Uprights tr columns → length left ≡ 1024 → j < length columns → Lefts left (suc j) → Lefts (storeBoth left (getD tr (getD columns j 0) 0) j) j
   lefts-next left j K size h L x k =
       let rest : List Edge = map (edgeAt tr) (drop (suc j) columns) in
       rw (drop-cons columns j 0 h)
@@ -71,11 +71,11 @@ module _ (tr columns : List ℕ) where
   abbrev pub Rights : List ℕ → ℕ → Type 0
   Rights right j = (x : ℕ) → x < 1024 → getD right x 0 ≡ last x (map (edgeAt tr) (take j columns))
 
-  pub rights-begin : (right : List ℕ) → Filled 1024 0 right → Rights right 0
+  pub rights-begin : (right : List ℕ) → FilledWith 1024 0 right → Rights right 0
   unfolding last first
   rights-begin right (e, z) x h = z x h
 
-  pub rights-next : (right : List ℕ) (j : ℕ) → Uprights tr columns → length right ≡ 1024 → j < length columns → Rights right j → Rights (both right (getD tr (getD columns j 0) 0) j) (j + 1)
+  pub rights-next : (right : List ℕ) (j : ℕ) → Uprights tr columns → length right ≡ 1024 → j < length columns → Rights right j → Rights (storeBoth right (getD tr (getD columns j 0) 0) j) (j + 1)
   rights-next right j K size h L x k =
       let front : List Edge = map (edgeAt tr) (take j columns) in
       let n : length (map (edgeAt tr) (take j columns)) ≡ j = length-map (take j columns) (edgeAt tr) ∙ length-take-le j columns (omega arith) in

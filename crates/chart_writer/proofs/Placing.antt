@@ -6,27 +6,27 @@ use native.Mathlib.Decide.{ℕ-discrete}
 use native.Mathlib.Omega.{arith}
 use lib.ListN.{length, take, drop, getD, set, length-map, drop-of-length-le, List·getD-map}
 use lib.Seq.{drop-cons, length-take-le, getD-take}
-use Rattle.lists.specs.Lists.{choose, All, all-nil, all-cons, sorted-nil, sorted-cons}
-use Rattle.lists.proofs.Lists.{choose-yes, choose-no}
+use Rattle.lists.specs.Lists.{All, all-cons, all-nil, choose, sorted-cons, sorted-nil}
+use Rattle.lists.proofs.Lists.{choose-no, choose-yes}
 use Rattle.lists.proofs.Places.{all-at, at-all, stored}
 use Rattle.polygon.specs.Polygon.{Edge}
 use Rattle.polygon.specs.Order.{same?, Distinct}
 use Rattle.polygon.proofs.Sort.{distinct-of}
 use Rattle.keys.specs.Keys.{edgeOf, edgesOf}
-use Rattle.tree.specs.Shows.{edgeAt}
+use Rattle.tree.specs.Table.{edgeAt}
 use Rattle.chart.specs.Chart.{upright, level, stroke}
-use Rattle.chart_writer.specs.Tables.{Edges, Among, column, strokeOf, mapByte}
+use Rattle.chart_writer.specs.Tables.{Edges, Among, column, edgeStroke, strokeMap}
 
 -- the columns from j on are stored
-abbrev pub Placed : List ℕ → List ℕ → ℕ → Type 0
-Placed columns stands j = (i : ℕ) → i < 2045 → getD stands i 0 ≡ column j (drop j columns) i
+abbrev pub ColumnsPlaced : List ℕ → List ℕ → ℕ → Type 0
+ColumnsPlaced columns stands j = (i : ℕ) → i < 2045 → getD stands i 0 ≡ column j (drop j columns) i
 
 module _ (columns stands : List ℕ) where
-  pub placed-begin : ((i : ℕ) → i < 2045 → getD stands i 0 ≡ 65535) → Placed columns stands (length columns)
+  pub placed-begin : ((i : ℕ) → i < 2045 → getD stands i 0 ≡ 65535) → ColumnsPlaced columns stands (length columns)
   unfolding column
   placed-begin z i h = rw (drop-of-length-le columns {i = length columns} (omega arith)) (z i h)
 
-  pub placed-next : (j : ℕ) → j < length columns → getD columns j 0 < length stands → Placed columns stands (suc j) → Placed columns (set stands (getD columns j 0) j) j
+  pub placed-next : (j : ℕ) → j < length columns → getD columns j 0 < length stands → ColumnsPlaced columns stands (suc j) → ColumnsPlaced columns (set stands (getD columns j 0) j) j
   unfolding column
   placed-next j h k P i q =
       rw (drop-cons columns j 0 h)
@@ -35,31 +35,31 @@ module _ (columns stands : List ℕ) where
       (λ p. P i q ∙ sym (choose-no (ℕ-discrete i (getD columns j 0)) _ p)))
 
 -- the stroke by the column, and the chart's
-pub level-stroke : (k c : ℕ) → c ≡ 65535 → strokeOf k c ≡ level (edgeOf k)
-unfolding strokeOf
+pub level-stroke : (k c : ℕ) → c ≡ 65535 → edgeStroke k c ≡ level (edgeOf k)
+unfolding edgeStroke
 level-stroke k c e = choose-yes (ℕ-discrete c 65535) _ e
 
-pub upright-stroke : (k c : ℕ) → (c ≡ 65535 → ⊥) → strokeOf k c ≡ upright (edgeOf k) c
-unfolding strokeOf
+pub upright-stroke : (k c : ℕ) → (c ≡ 65535 → ⊥) → edgeStroke k c ≡ upright (edgeOf k) c
+unfolding edgeStroke
 upright-stroke k c f = choose-no (ℕ-discrete c 65535) _ f
 
-pub level-map : (c : ℕ) → c ≡ 65535 → mapByte c ≡ 0
-unfolding mapByte
+pub level-map : (c : ℕ) → c ≡ 65535 → strokeMap c ≡ 0
+unfolding strokeMap
 level-map c e = choose-yes {A = ℕ} (ℕ-discrete c 65535) 1 e
 
-pub upright-map : (c : ℕ) → (c ≡ 65535 → ⊥) → mapByte c ≡ 1
-unfolding mapByte
+pub upright-map : (c : ℕ) → (c ≡ 65535 → ⊥) → strokeMap c ≡ 1
+unfolding strokeMap
 upright-map c f = choose-no {A = ℕ} (ℕ-discrete c 65535) 0 f
 
 -- the places ps hold other edges than the place i, but for i itself
 stroke-among : (tr : List ℕ) (i j : ℕ) {ps : List ℕ} → All (λ p. edgeAt tr i ≡ edgeAt tr p → i ≡ p) ps → j + length ps ≤ 65535
-    → strokeOf (getD tr i 0) (column j ps i) ≡ stroke j (map (edgeAt tr) ps) (edgeAt tr i)
+    → edgeStroke (getD tr i 0) (column j ps i) ≡ stroke j (map (edgeAt tr) ps) (edgeAt tr i)
 unfolding column stroke
 stroke-among tr i j all-nil h = level-stroke (getD tr i 0) 65535 refl
 stroke-among tr i j {ps = p ∷ ps} (all-cons f a) h = go (ℕ-discrete i p) (same? (edgeAt tr i) (edgeAt tr p)) (stroke-among tr i (suc j) a (omega arith))
   where
-    go : (d : Dec (i ≡ p)) (s : Dec (edgeAt tr i ≡ edgeAt tr p)) → strokeOf (getD tr i 0) (column (suc j) ps i) ≡ stroke (suc j) (map (edgeAt tr) ps) (edgeAt tr i)
-        → strokeOf (getD tr i 0) (choose d j (column (suc j) ps i)) ≡ choose s (upright (edgeAt tr i) j) (stroke (suc j) (map (edgeAt tr) ps) (edgeAt tr i))
+    go : (d : Dec (i ≡ p)) (s : Dec (edgeAt tr i ≡ edgeAt tr p)) → edgeStroke (getD tr i 0) (column (suc j) ps i) ≡ stroke (suc j) (map (edgeAt tr) ps) (edgeAt tr i)
+        → edgeStroke (getD tr i 0) (choose d j (column (suc j) ps i)) ≡ choose s (upright (edgeAt tr i) j) (stroke (suc j) (map (edgeAt tr) ps) (edgeAt tr i))
     go (yes d) s e = rw (choose-yes (yes d) (column (suc j) ps i) d, choose-yes s (stroke (suc j) (map (edgeAt tr) ps) (edgeAt tr i)) (ap (edgeAt tr) d)) (upright-stroke (getD tr i 0) j (λ q. omega arith))
     go (no d) s e = rw (choose-no (no d) j d, choose-no s (upright (edgeAt tr i) j) (λ q. d (f q))) e
 
@@ -78,7 +78,7 @@ module _ (m : ℕ) (tr columns : List ℕ) (fits : m ≤ length tr) (E : Edges m
   pub edges-count : length (edgesOf (take m tr)) ≡ m
   edges-count = length-map (take m tr) edgeOf ∙ length-take-le m tr fits
 
-  pub stroke-is : length columns ≤ 65535 → (i : ℕ) → i < m → strokeOf (getD tr i 0) (column 0 columns i) ≡ stroke 0 (map (edgeAt tr) columns) (edgeAt tr i)
+  pub stroke-is : length columns ≤ 65535 → (i : ℕ) → i < m → edgeStroke (getD tr i 0) (column 0 columns i) ≡ stroke 0 (map (edgeAt tr) columns) (edgeAt tr i)
   stroke-is w i h =
       stroke-among tr i 0
       (all-at 0 columns (λ j k e. place-same (edgeOf 0) (distinct-of (E .ascending)) i (getD columns j 0) (omega (arith, edges-count)) (omega (arith, edges-count, A j k)) (edge-listed i h ∙ (e ∙ sym (edge-listed (getD columns j 0) (A j k))))))

@@ -7,14 +7,14 @@ use native.Mathlib.Numerals.{add-one}
 use native.Mathlib.Omega.{arith}
 use lib.ListN.{length, getD, set, length-append, length-map}
 use lib.Seq.{sets, set-set, set-comm}
-use Rattle.lists.specs.Lists.{numbers, below}
+use Rattle.lists.specs.Lists.{below, numbers}
 use Rattle.lists.proofs.Places.{below-count, below-next}
 use Rattle.lists.proofs.Stores.{sets-append}
 use Rattle.codec.specs.Numbers.{bytes16}
 use Rattle.chart.specs.Bytes.{barBytes, strokeBytes}
 use Rattle.chart.proofs.Sizes.{bars-size}
-use Rattle.chart_writer.specs.Tables.{mapByte, edgeBytes, strokeOf, barAt, strokeAt, barRun, strokeRun}
-use Rattle.chart_writer.proofs.Placing.{level-stroke, upright-stroke, level-map, upright-map}
+use Rattle.chart_writer.specs.Tables.{edgeBytes, barRun, strokeRun, strokeMap, edgeStroke, tableBar, tableStroke}
+use Rattle.chart_writer.proofs.Placing.{level-map, level-stroke, upright-map, upright-stroke}
 
 -- a store before others, and stores over others
 set-before : (s l : List ℕ) (i j y : ℕ) → i < j → set (sets l j s) i y ≡ sets (set l i y) j s
@@ -59,7 +59,7 @@ module _ {A : Type 0} (f : A → List ℕ) (h : ℕ → A) where
 
 module _ (rows left right : List ℕ) where
   pub bars-none : (out : List ℕ) → out ≡ sets out 6 (barRun rows left right 0)
-  bars-none out = rw (run-none barBytes (barAt rows left right))
+  bars-none out = rw (run-none barBytes (tableBar rows left right))
 
   pub bar-stored : (out : List ℕ) (x : ℕ)
       → sets (sets (sets (sets out 6 (barRun rows left right x)) (6 + 6 * x) (bytes16 (getD rows x 0))) (8 + 6 * x) (bytes16 (getD left x 0))) (10 + 6 * x) (bytes16 (getD right x 0))
@@ -72,53 +72,53 @@ module _ (rows left right : List ℕ) where
       let c : List ℕ = bytes16 (getD right x 0) in
       let p : 8 + 6 * x ≡ 6 + 6 * x + 2 = omega arith in
       let q : 10 + 6 * x ≡ 6 + 6 * x + 2 + 2 = omega arith in
-      let r : 6 + 6 * x ≡ 6 + length (barRun rows left right x) = omega (arith, bars-size (map (barAt rows left right) (below x)), length-map (below x) (barAt rows left right), below-count x) in
+      let r : 6 + 6 * x ≡ 6 + length (barRun rows left right x) = omega (arith, bars-size (map (tableBar rows left right) (below x)), length-map (below x) (tableBar rows left right), below-count x) in
       rw (p, q)
       (sym (sets-append b c (sets s (6 + 6 * x) a) (6 + 6 * x + 2))
-      ∙ (sym (sets-append a (b ++ c) s (6 + 6 * x)) ∙ rw (r, add-one x) (run-stored barBytes (barAt rows left right) out 6 x)))
+      ∙ (sym (sets-append a (b ++ c) s (6 + 6 * x)) ∙ rw (r, add-one x) (run-stored barBytes (tableBar rows left right) out 6 x)))
 
 -- a stroke, by the bytes before its column
 module _ (k c : ℕ) where
-  pub level-bytes : c ≡ 65535 → edgeBytes k c ≡ strokeBytes (strokeOf k c)
+  pub level-bytes : c ≡ 65535 → edgeBytes k c ≡ strokeBytes (edgeStroke k c)
   unfolding strokeBytes
   level-bytes e = rw (level-stroke k c e, level-map c e)
 
-  pub upright-bytes : (c ≡ 65535 → ⊥) → edgeBytes k c ++ bytes16 c ≡ strokeBytes (strokeOf k c)
+  pub upright-bytes : (c ≡ 65535 → ⊥) → edgeBytes k c ++ bytes16 c ≡ strokeBytes (edgeStroke k c)
   unfolding strokeBytes
   upright-bytes f = rw (upright-stroke k c f, upright-map c f)
 
-  pub stroke-size : length (strokeBytes (strokeOf k c)) ≡ 5 + 2 * mapByte c
+  pub stroke-size : length (strokeBytes (edgeStroke k c)) ≡ 5 + 2 * strokeMap c
   stroke-size = go (ℕ-discrete c 65535)
     where
-      go : Dec (c ≡ 65535) → length (strokeBytes (strokeOf k c)) ≡ 5 + 2 * mapByte c
+      go : Dec (c ≡ 65535) → length (strokeBytes (edgeStroke k c)) ≡ 5 + 2 * strokeMap c
       go (yes e) = omega (arith, ap length (level-bytes e), level-map c e)
       go (no f) = omega (arith, ap length (upright-bytes f), upright-map c f)
 
   -- the stroke with a column is the stroke, and at most two bytes behind it
-  with-column : (s : List ℕ) × (length s ≤ 2) × (edgeBytes k c ++ bytes16 c ≡ strokeBytes (strokeOf k c) ++ s)
+  with-column : (s : List ℕ) × (length s ≤ 2) × (edgeBytes k c ++ bytes16 c ≡ strokeBytes (edgeStroke k c) ++ s)
   with-column = go (ℕ-discrete c 65535)
     where
-      go : Dec (c ≡ 65535) → (s : List ℕ) × (length s ≤ 2) × (edgeBytes k c ++ bytes16 c ≡ strokeBytes (strokeOf k c) ++ s)
+      go : Dec (c ≡ 65535) → (s : List ℕ) × (length s ≤ 2) × (edgeBytes k c ++ bytes16 c ≡ strokeBytes (edgeStroke k c) ++ s)
       go (yes e) = (bytes16 c, omega arith, ap (λ (l : List ℕ). l ++ bytes16 c) (level-bytes e))
-      go (no f) = ([], omega arith, upright-bytes f ∙ sym (append-nil (strokeBytes (strokeOf k c))))
+      go (no f) = ([], omega arith, upright-bytes f ∙ sym (append-nil (strokeBytes (edgeStroke k c))))
 
 -- the bytes that one more stroke takes
 module _ (tr stands : List ℕ) where
-  pub stroke-more : (i : ℕ) → length (strokeRun tr stands (i + 1)) ≡ length (strokeRun tr stands i) + (5 + 2 * mapByte (getD stands i 0))
-  stroke-more i = rw (add-one i) (run-size strokeBytes (strokeAt tr stands) i ∙ rw (stroke-size (getD tr i 0) (getD stands i 0)))
+  pub stroke-more : (i : ℕ) → length (strokeRun tr stands (i + 1)) ≡ length (strokeRun tr stands i) + (5 + 2 * strokeMap (getD stands i 0))
+  stroke-more i = rw (add-one i) (run-size strokeBytes (tableStroke tr stands) i ∙ rw (stroke-size (getD tr i 0) (getD stands i 0)))
 
   pub strokes-none : 0 ≡ length (strokeRun tr stands 0)
-  strokes-none = rw (run-none strokeBytes (strokeAt tr stands))
+  strokes-none = rw (run-none strokeBytes (tableStroke tr stands))
 
   pub stroke-room : (i m : ℕ) → i + 1 < m → length (strokeRun tr stands i) + 7 ≤ length (strokeRun tr stands m)
-  stroke-room i m h = omega (arith, run-room strokeBytes (strokeAt tr stands) (i + 1) m h, stroke-more i, stroke-size (getD tr (i + 1) 0) (getD stands (i + 1) 0))
+  stroke-room i m h = omega (arith, run-room strokeBytes (tableStroke tr stands) (i + 1) m h, stroke-more i, stroke-size (getD tr (i + 1) 0) (getD stands (i + 1) 0))
 
   -- the first i strokes are stored from a byte on, with at most two bytes behind them
   abbrev pub Over : List ℕ → ℕ → ℕ → List ℕ → Type 0
   Over out from i o = (s : List ℕ) × (length s ≤ 2) × (o ≡ sets out from (strokeRun tr stands i ++ s))
 
   pub over-begin : (out : List ℕ) (from : ℕ) → Over out from 0 out
-  over-begin out from = ([], omega arith, rw (run-none strokeBytes (strokeAt tr stands)))
+  over-begin out from = ([], omega arith, rw (run-none strokeBytes (tableStroke tr stands)))
 
   -- bytes stored behind them
   over : (out o bs : List ℕ) (from i : ℕ) → Over out from i o → 2 ≤ length bs → sets o (from + length (strokeRun tr stands i)) bs ≡ sets out from (strokeRun tr stands i ++ bs)
@@ -135,8 +135,8 @@ module _ (tr stands : List ℕ) where
         s,
         h,
         over out o (edgeBytes k c ++ bytes16 c) from i v (omega arith)
-            ∙ rw (e, add-one i, run-next strokeBytes (strokeAt tr stands) i) (ap (sets out from) (sym (append-assoc (strokeRun tr stands i) (strokeBytes (strokeOf k c)) s))),
+            ∙ rw (e, add-one i, run-next strokeBytes (tableStroke tr stands) i) (ap (sets out from) (sym (append-assoc (strokeRun tr stands i) (strokeBytes (edgeStroke k c)) s))),
       )
 
-  pub over-end : (out o : List ℕ) (from i : ℕ) → Over out from i o → sets o (from + length (strokeRun tr stands i)) (strokeBytes (strokeAt tr stands i)) ≡ sets out from (strokeRun tr stands (i + 1))
-  over-end out o from i v = over out o (strokeBytes (strokeAt tr stands i)) from i v (omega (arith, stroke-size (getD tr i 0) (getD stands i 0))) ∙ rw (add-one i, run-next strokeBytes (strokeAt tr stands) i)
+  pub over-end : (out o : List ℕ) (from i : ℕ) → Over out from i o → sets o (from + length (strokeRun tr stands i)) (strokeBytes (tableStroke tr stands i)) ≡ sets out from (strokeRun tr stands (i + 1))
+  over-end out o from i v = over out o (strokeBytes (tableStroke tr stands i)) from i v (omega (arith, stroke-size (getD tr i 0) (getD stands i 0))) ∙ rw (add-one i, run-next strokeBytes (tableStroke tr stands) i)

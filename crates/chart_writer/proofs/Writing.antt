@@ -6,18 +6,18 @@ use native.Mathlib.Omega.{arith}
 use lib.ListN.{length, take, getD, length-map, length-append}
 use lib.Seq.{sets}
 use Rattle.lists.specs.Lists.{below}
-use Rattle.lists.proofs.Places.{map-places, map-below}
+use Rattle.lists.proofs.Places.{map-below, map-places}
 use Rattle.lists.proofs.Stores.{sets-append, sets-front}
 use Rattle.polygon.specs.Polygon.{Edge}
 use Rattle.codec.specs.Numbers.{bytes16}
 use Rattle.codec.specs.Answer.{Answer, refusal, written, write}
 use Rattle.codec.proofs.Answers.{written-short, written-fits}
 use Rattle.keys.specs.Keys.{edgeOf, edgesOf}
-use Rattle.tree.specs.Shows.{edgeAt}
+use Rattle.tree.specs.Table.{edgeAt}
 use Rattle.chart.specs.Chart.{stroke, Chart, layout, barsOf}
 use Rattle.chart.specs.Bytes.{barBytes, strokeBytes, bytesOf}
 use Rattle.chart.proofs.Sizes.{bars-count, bars-size}
-use Rattle.chart_writer.specs.Tables.{Uprights, Sizes, Edges, Among, Laid, Columns, Spans, RowsAre, barAt, strokeAt, barRun, strokeRun}
+use Rattle.chart_writer.specs.Tables.{Uprights, Sizes, Edges, Among, Laid, Columns, Spans, RowsAre, tableBar, tableStroke, barRun, strokeRun}
 use Rattle.chart_writer.proofs.Placing.{edge-listed, edges-count, stroke-is}
 
 module _ (n D : ℕ) (rs : List ℕ) (us es : List Edge) (pos : 1 ≤ n) where
@@ -29,7 +29,7 @@ module _ (n D : ℕ) (rs : List ℕ) (us es : List Edge) (pos : 1 ≤ n) where
   unfolding barsOf layout
   bars-are rows left right R S =
       let e : suc (n - 1) ≡ n = omega arith in
-      ap (flatMap barBytes) (rw e (map-below (barAt rows left right) (C .bar) n (λ x k. λ i. record { row = R x k i; left = S .lefts x k i; right = S .rights x k i })))
+      ap (flatMap barBytes) (rw e (map-below (tableBar rows left right) (C .bar) n (λ x k. λ i. record { row = R x k i; left = S .lefts x k i; right = S .rights x k i })))
 
   -- all fields
   bars-length : length (flatMap barBytes (barsOf C)) ≡ 6 * n
@@ -78,8 +78,8 @@ module _ (n height : ℕ) (tr columns rows : List ℕ) (Z : Sizes n height tr co
   strokes-are stands K =
       let e : m ≡ length (edgesOf (take m tr)) = sym (edges-count m tr columns (Z .edges) E A) in
       ap (flatMap strokeBytes)
-      (ap (λ (k : ℕ). map (strokeAt tr stands) (below k)) e
-      ∙ map-places (stroke 0 (map (edgeAt tr) columns)) (strokeAt tr stands) (edgeOf 0) (edgesOf (take m tr)) 0
+      (ap (λ (k : ℕ). map (tableStroke tr stands) (below k)) e
+      ∙ map-places (stroke 0 (map (edgeAt tr) columns)) (tableStroke tr stands) (edgeOf 0) (edgesOf (take m tr)) 0
       (λ i k. let h : i < m = omega arith in let q : 0 + i ≡ i = omega arith in rw (q, edge-listed m tr columns (Z .edges) E A i h, K i (omega (arith, Z .most))) (stroke-is m tr columns (Z .edges) E A (omega (arith, Z .few)) i h)))
 
   module _ (stands out : List ℕ) (K : Columns columns stands) (z : ℕ) (size : z ≡ length (run stands)) {D : ℕ} {rs : List ℕ} {us es : List Edge} (L : Laid n height tr columns rows D rs us es) where

@@ -3,17 +3,17 @@ ghost use mathlib.Core.Path.{_≡_};
 ghost use mathlib.Core.List.{map};
 ghost use Prim.Native.Nat.{ℕ, _<_, _≤_};
 ghost use lib.ListN.{length, getD};
-ghost use Rattle.tree.specs.Shows.{edgeAt};
+ghost use Rattle.tree.specs.Table.{edgeAt};
 ghost use Rattle.chart.specs.Chart.{first, last};
-ghost use Rattle.chart_writer.specs.Tables.{Uprights, Filled, Columns, Spans};
+ghost use Rattle.chart_writer.specs.Tables.{Uprights, FilledWith, Columns, Spans};
 use keys::high;
 use keys::low;
 
 // From the last column to the first, so that the first column of a corner, and that of an edge, is stored last. An edge that is not upright keeps 65,535.
 fn lefts(tree: &[u32], columns: &[u16], left: &mut [u16], stands: &mut [u16])
     requires uprights { ⌜ Uprights (now tree) (now columns) × (length (now columns) < 65536) ⌝ }
-    requires left { ⌜ Filled 1024 (length (now columns)) (now left) ⌝ }
-    requires none { ⌜ Filled 2045 65535 (now stands) ⌝ }
+    requires left { ⌜ FilledWith 1024 (length (now columns)) (now left) ⌝ }
+    requires none { ⌜ FilledWith 2045 65535 (now stands) ⌝ }
     ensures lefts { λ _. ⌜ ((x : ℕ) → x < 1024 → getD (now (left .exit)) x 0 ≡ first x (map (edgeAt (now (tree .entry))) (now (columns .entry)))) ⌝ }
     ensures columns { λ _. ⌜ Columns (now (columns .entry)) (now (stands .exit)) ⌝ }
 {
@@ -31,7 +31,7 @@ fn lefts(tree: &[u32], columns: &[u16], left: &mut [u16], stands: &mut [u16])
 // From the first column to the last.
 fn rights(tree: &[u32], columns: &[u16], right: &mut [u16])
     requires uprights { ⌜ Uprights (now tree) (now columns) × (length (now columns) < 65536) ⌝ }
-    requires none { ⌜ Filled 1024 0 (now right) ⌝ }
+    requires none { ⌜ FilledWith 1024 0 (now right) ⌝ }
     ensures { λ _. ⌜ ((x : ℕ) → x < 1024 → getD (now (right .exit)) x 0 ≡ last x (map (edgeAt (now (tree .entry))) (now (columns .entry)))) ⌝ }
 {
     let mut j: usize = 0;
@@ -54,9 +54,9 @@ pub fn spans(
 )
     requires uprights { ⌜ Uprights (now tree) (now columns) × (1 ≤ length (now columns)) × (length (now columns) < 65536) ⌝ }
     requires corners { ⌜ (1 ≤ n) × (n ≤ 1024) ⌝ }
-    requires left { ⌜ Filled 1024 (length (now columns)) (now left) ⌝ }
-    requires right { ⌜ Filled 1024 0 (now right) ⌝ }
-    requires none { ⌜ Filled 2045 65535 (now stands) ⌝ }
+    requires left { ⌜ FilledWith 1024 (length (now columns)) (now left) ⌝ }
+    requires right { ⌜ FilledWith 1024 0 (now right) ⌝ }
+    requires none { ⌜ FilledWith 2045 65535 (now stands) ⌝ }
     ensures spans { λ _. ⌜ Spans n (map (edgeAt (now (tree .entry))) (now (columns .entry))) (now (left .exit)) (now (right .exit)) ⌝ }
     ensures columns { λ _. ⌜ Columns (now (columns .entry)) (now (stands .exit)) ⌝ }
 {

@@ -6,7 +6,7 @@ ghost use lib.ListN.{length};
 ghost use lib.Seq.{sets};
 ghost use Rattle.codec.specs.Numbers.{bytes16};
 ghost use Rattle.chart.specs.Bytes.{strokeBytes};
-ghost use Rattle.chart_writer.specs.Tables.{Keyed, mapByte, edgeBytes, strokeOf, barRun, strokeRun};
+ghost use Rattle.chart_writer.specs.Tables.{EdgeKeys, strokeMap, edgeBytes, edgeStroke, barRun, strokeRun};
 use codec::put16;
 use keys::high;
 use keys::low;
@@ -27,7 +27,7 @@ pub fn put_bars(out: &mut [u8], n: usize, rows: &[u16], left: &[u16], right: &[u
 
 // The map byte of a stroke: 1 if it is upright.
 fn map_byte(c: u16) -> u8
-    ensures { λ r. ⌜ (r ≡ mapByte c) × (r ≤ 1) ⌝ }
+    ensures { λ r. ⌜ (r ≡ strokeMap c) × (r ≤ 1) ⌝ }
 {
     if c == 65535 { 0 } else { 1 }
 }
@@ -46,7 +46,7 @@ fn put_edge(out: &mut [u8], at: usize, k: u32, c: u16)
 fn put_stroke(out: &mut [u8], at: usize, k: u32, c: u16) -> usize
     requires { ⌜ (at + 7 ≤ length (now out)) × (k < 1047552) ⌝ }
     ensures bytes { λ _. ⌜ now (out .exit) ≡ sets (now (out .entry)) at (edgeBytes k c ++ bytes16 c) ⌝ }
-    ensures place { λ r. ⌜ r ≡ at + length (strokeBytes (strokeOf k c)) ⌝ }
+    ensures place { λ r. ⌜ r ≡ at + length (strokeBytes (edgeStroke k c)) ⌝ }
 {
     put_edge(out, at, k, c);
     put16(out, at + 5, c as usize);
@@ -55,8 +55,8 @@ fn put_stroke(out: &mut [u8], at: usize, k: u32, c: u16) -> usize
 
 // The last stroke: no byte behind it changes.
 fn put_last(out: &mut [u8], at: usize, k: u32, c: u16)
-    requires { ⌜ (at + length (strokeBytes (strokeOf k c)) ≤ length (now out)) × (k < 1047552) ⌝ }
-    ensures { λ _. ⌜ now (out .exit) ≡ sets (now (out .entry)) at (strokeBytes (strokeOf k c)) ⌝ }
+    requires { ⌜ (at + length (strokeBytes (edgeStroke k c)) ≤ length (now out)) × (k < 1047552) ⌝ }
+    ensures { λ _. ⌜ now (out .exit) ≡ sets (now (out .entry)) at (strokeBytes (edgeStroke k c)) ⌝ }
 {
     put_edge(out, at, k, c);
     if c == 65535 {
@@ -82,7 +82,7 @@ pub fn strokes_size(stands: &[u16], m: usize) -> usize
 
 // The strokes of m edges, from a byte on.
 pub fn put_strokes(out: &mut [u8], from: usize, m: usize, tree: &[u32], stands: &[u16])
-    requires keyed { ⌜ Keyed m (now tree) ⌝ }
+    requires keyed { ⌜ EdgeKeys m (now tree) ⌝ }
     requires some { ⌜ (1 ≤ m) × (m ≤ length (now tree)) × (m ≤ length (now stands)) ⌝ }
     requires room { ⌜ from + length (strokeRun (now tree) (now stands) m) ≤ length (now out) ⌝ }
     ensures { λ _. ⌜ now (out .exit) ≡ sets (now (out .entry)) from (strokeRun (now (tree .entry)) (now (stands .entry)) m) ⌝ }

@@ -2,14 +2,13 @@
 use mathlib.Core.Path.{refl}
 use mathlib.Core.Logic.{inl, inr}
 use mathlib.Core.List.{List, [], _∷_, _++_}
-use Prim.Native.Nat.{ℕ, _≤_, _<_}
-use native.Mathlib.Decide.{decLe}
+use Prim.Native.Nat.{ℕ, _<_}
 use native.Mathlib.Omega.{arith}
-use lib.ListN.{length}
 use lib.Seq.{take-append-seam, drop-append-seam}
 use Rattle.lists.specs.Lists.{Mem, All}
 use Rattle.lists.proofs.Lists.{here, mem-left, mem-right, all-mem}
-use Rattle.codec.specs.Answer.{Outcome, refuse, write, Answer, refusal, whole, fit, written}
+use Rattle.codec.specs.Answer.{Outcome, refuse, write, Answer, refusal, whole, written}
+use Rattle.codec.proofs.Answers.{written-is}
 use Rattle.codec.specs.Refusals.{Refuses, number, writes, Proper, Finished, Refusal, Settled}
 
 -- the two cases of an answer
@@ -21,13 +20,13 @@ refusal-refuses out m p = record { published = m; proper = p; nothing = refl; un
 
 -- an operation that refuses by ks, with its output looked at: by ks or by 8
 pub settled : {ks : List ℕ} (o : Outcome) (out : List ℕ) → All Proper ks → Refuses ks o → Settled (ks ++ (8 ∷ [])) o out (written o out)
-unfolding written fit
+unfolding written
 settled (refuse k) out P (number m) = inr (refusal-refuses out (mem-left (8 ∷ []) m) (all-mem P m))
-settled {ks} (write bs) out P writes = go (decLe (length bs) (length out))
-  where
-    go : (d : Dec (length bs ≤ length out)) → Settled (ks ++ (8 ∷ [])) (write bs) out (fit d bs out)
-    go (yes p) = inl (bs, refl, whole-finished bs out)
-    go (no p) = inr (refusal-refuses out (mem-right ks here) (omega arith, omega arith))
+settled {ks} (write bs) out P writes =
+    elim (written-is bs out) [
+      | inl w ↦ inl (bs, refl, rw (w .1) (whole-finished bs out))
+      | inr w ↦ inr (rw (w .1) (refusal-refuses out (mem-right ks here) (omega arith, omega arith)))
+    ]
 
 -- so its number is one of two bytes
 pub small-number : {ks : List ℕ} {o : Outcome} {out : List ℕ} {a : Answer} → Settled ks o out a → a .number < 65536

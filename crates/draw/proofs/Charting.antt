@@ -1,27 +1,25 @@
 -- From the edges, columns and rows of the plan drawn to its chart.
 use mathlib.Core.Path.{_≡_, ap, sym, _∙_}
 use mathlib.Core.List.{List}
-use Prim.Native.Nat.{ℕ, _+_, _*_, _-_, _≤_, _<_}
+use Prim.Native.Nat.{ℕ, _*_, _-_, _≤_, _<_}
 use native.Mathlib.Omega.{arith}
 use lib.ListN.{length, take, getD}
 use lib.Seq.{getD-take, length-take-le}
-use Rattle.lists.specs.Lists.{All}
 use Rattle.polygon.specs.Edges.{edges}
 use Rattle.polygon.specs.Tree.{Tree, span}
-use Rattle.polygon.proofs.Edges.{edges-in, edges-ascending}
-use Rattle.keys.specs.Keys.{edgesOf}
-use Rattle.keys.proofs.InOrder.{edges-at}
+use Rattle.polygon.proofs.Edges.{edges-ascending}
 use Rattle.umbrella.specs.Plan.{Plan, levels}
 use Rattle.umbrella.specs.Best.{best}
 use Rattle.umbrella.proofs.Theorems.{umbrellas-bound}
-use Rattle.tree.specs.declared.Piece.{Piece}
+use Rattle.tree.specs.declared.Root.{Root}
+use Rattle.tree.proofs.Whole.{keyed}
 use Rattle.levels.specs.Numbered.{Filled}
 use Rattle.chart.specs.Places.{cols, rows}
 use Rattle.chart.specs.Chart.{layout, chart}
 use Rattle.chart.specs.Bytes.{bytesOf}
 use Rattle.chart.proofs.Width.{width}
-use Rattle.chart_writer.specs.Tables.{Keyed, Sizes, Edges, Among, Laid}
-use Rattle.drawing.specs.Placed.{Placed}
+use Rattle.chart_writer.specs.Tables.{Sizes, Edges, Among, Laid}
+use Rattle.drawing.specs.Located.{Located}
 use Rattle.drawing.specs.declared.Size.{Size}
 use Rattle.drawing.proofs.Whole.{sized}
 
@@ -30,7 +28,7 @@ sizes : {t : Tree} (p : Plan t) → 2 ≤ span t → span t ≤ 1023 → (1 ≤ 
 sizes {t} p h k = omega (arith, width p 0 (span t), umbrellas-bound p)
 
 -- a part drawn: what its writer asks for, and the chart that comes of it
-module _ {n : ℕ} {t : Tree} {tr ds : List ℕ} {p : Piece} (F : Filled n t tr ds p) (least : 3 ≤ n) {columns ranks : List ℕ} {s : Size} (P : Placed n t tr columns ranks s) where
+module _ {n : ℕ} {t : Tree} {tr ds : List ℕ} {p : Root} (F : Filled n t tr ds p) (least : 3 ≤ n) {columns ranks : List ℕ} {s : Size} (P : Located n t tr columns ranks s) where
   last : n - 1 ≡ span t
   last = omega (arith, sized F)
 
@@ -53,15 +51,8 @@ module _ {n : ℕ} {t : Tree} {tr ds : List ℕ} {p : Piece} (F : Filled n t tr 
     few = omega (arith, count, placed-sizes);
   }
 
-  -- the keys are of edges of the part
-  keyed : Keyed (2 * n - 3) tr
-  keyed j h =
-      let inside : All (λ e. (0 ≤ e .0) × (e .0 < e .1) × (e .1 ≤ 0 + span t)) (edgesOf (take (2 * n - 3) tr)) = rw (P .listed) (edges-in 0 t) in
-      let b = edges-at (take (2 * n - 3) tr) inside j (omega (arith, length-take-le (2 * n - 3) tr (omega (arith, P .tree-kept, sized F)))) in
-      omega (arith, b, sized F, getD-take (2 * n - 3) tr j 0 h)
-
   pub placed-edges : Edges (2 * n - 3) tr
-  placed-edges = record { keyed = keyed; ascending = rw (P .listed) (edges-ascending 0 t) }
+  placed-edges = record { keyed = keyed t tr (omega (arith, sized F)) (omega (arith, sized F)) (omega (arith, P .tree-kept, sized F)) (P .listed); ascending = rw (P .listed) (edges-ascending 0 t) }
 
   pub placed-among : Among (2 * n - 3) (take (s .columns) columns)
   placed-among j h = rw (getD-take (s .columns) columns j 0 (omega (arith, count))) (P .among j (omega (arith, count)))

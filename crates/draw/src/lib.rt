@@ -1,24 +1,26 @@
 // The operation Draw: the chart of a sheet's part, and its bars in a lent list of records; and what the program does with its input (program.rt, line.rt).
-// The columns and rows come from the crate drawing, the bytes from chart_writer, the records from bar_list. specs/Answer.antt says what the operation answers, specs/WithBars.antt how the code's answer stands for that.
+// The columns and rows come from the crate drawing, the bytes from chart_writer, the records from bar_list. specs/Answer.antt says what the operation answers.
 ghost use mathlib.Core.Path.{_≡_};
 ghost use mathlib.Core.List.{List, map};
 ghost use Prim.Native.Nat.{_≤_};
 ghost use lib.ListN.{length};
 ghost use Rattle.polygon.specs.Tree.{Tree};
 ghost use Rattle.codec.specs.Answer.{answered, written, write};
+ghost use Rattle.codec.specs.TwoOutputs.{answeredBoth};
 ghost use Rattle.sheet.specs.Held.{polygonOf, InHand};
 ghost use Rattle.umbrella.specs.Best.{best};
 ghost use Rattle.levels.specs.Numbered.{Filled};
 ghost use Rattle.chart.specs.Chart.{chart, chartOf};
 ghost use Rattle.chart.specs.Bytes.{bytesOf};
-ghost use Rattle.bar_list.specs.declared.Bar.{Bar};
-ghost use Rattle.bar_list.specs.OfChart.{barOf};
+ghost use Rattle.chart.specs.declared.Bar.{Bar};
+ghost use Rattle.chart.specs.Decode.{barOf};
 ghost use Rattle.draw.specs.Answer.{drawn, drawnWithBars};
-ghost use Rattle.draw.specs.WithBars.{drawing, filledBy, Fits};
+ghost use Rattle.draw.specs.WithBars.{filledBy, BarsFit};
 ghost use Rattle.draw.specs.Charted.{Wrote};
-use bar_list::Bar;
 use bar_list::fill_bars;
+use chart::Bar;
 use chart_writer::write_chart;
+use codec::BothWritten;
 use codec::Written;
 use drawing::Size;
 use drawing::place;
@@ -30,16 +32,10 @@ use sheet::Head;
 use sheet::Read;
 use sheet::reader::read_sheet;
 use tree::PLACES;
-use tree::Piece;
+use tree::Root;
 
 pub mod line;
 pub mod program;
-
-// The answer of Draw with the bar list: the length of the chart and the number of its bars, or the number of the refusal.
-pub enum Drawn {
-    Chart(usize, usize),
-    Refused(u16),
-}
 
 // The answer for a chart, and how many columns and rows it has.
 struct Charted {
@@ -52,7 +48,7 @@ fn write_part(
     n: usize,
     tree: &[u32; PLACES],
     depths: &[u16; NUMBERS],
-    p: Piece,
+    p: Root,
     out: &mut [u8],
 ) -> Charted
     requires least { ⌜ 3 ≤ n ⌝ }
@@ -83,22 +79,23 @@ fn draw_part(h: Head, keys: &[u32], out: &mut [u8]) -> Written
 }
 
 // Writes the chart of a sheet, if the output is long enough and `room` records hold its bars.
-pub fn draw_for(sheet: &[u8], out: &mut [u8], room: usize) -> Drawn
+pub fn draw_for(sheet: &[u8], out: &mut [u8], room: usize) -> BothWritten
     ensures answer { λ r. ⌜ ((bars : List Bar) → length bars ≡ room
-        → drawing r (now (out .exit)) (filledBy r (now (out .exit)) bars) ≡ drawnWithBars (now (sheet .entry)) (now (out .entry)) (map barOf bars)) ⌝ }
-    ensures fits { λ r. ⌜ Fits r room (length (now (out .entry))) ⌝ }
+        → answeredBoth r (now (out .exit)) (map barOf (filledBy r (now (out .exit)) bars))
+        ≡ drawnWithBars (now (sheet .entry)) (now (out .entry)) (map barOf bars)) ⌝ }
+    ensures fits { λ r. ⌜ BarsFit r room (length (now (out .entry))) ⌝ }
 {
     let mut keys = [0u32; 1021];
     match read_sheet(sheet, &mut keys) {
-        Read::Refused(k) => Drawn::Refused(k),
+        Read::Refused(k) => BothWritten::Refused(k),
         Read::Held(h) => {
             let n = h.n;
             if room < n {
-                return Drawn::Refused(8);
+                return BothWritten::Refused(8);
             }
             match draw_part(h, &keys, out) {
-                Written::Refused(k) => Drawn::Refused(k),
-                Written::Bytes(size) => Drawn::Chart(size, n),
+                Written::Refused(k) => BothWritten::Refused(k),
+                Written::Bytes(size) => BothWritten::Lengths(size, n),
             }
         }
     }
@@ -109,19 +106,19 @@ pub fn draw(sheet: &[u8], out: &mut [u8]) -> Written
     ensures { λ r. ⌜ answered r (now (out .exit)) ≡ written (drawn (now (sheet .entry))) (now (out .entry)) ⌝ }
 {
     match draw_for(sheet, out, 1024) {
-        Drawn::Refused(k) => Written::Refused(k),
-        Drawn::Chart(size, _) => Written::Bytes(size),
+        BothWritten::Refused(k) => Written::Refused(k),
+        BothWritten::Lengths(size, _) => Written::Bytes(size),
     }
 }
 
 // Draw, with the bar list.
-pub fn draw_with_bars(sheet: &[u8], out: &mut [u8], bars: &mut [Bar]) -> Drawn
-    ensures { λ r. ⌜ drawing r (now (out .exit)) (now (bars .exit))
+pub fn draw_with_bars(sheet: &[u8], out: &mut [u8], bars: &mut [Bar]) -> BothWritten
+    ensures { λ r. ⌜ answeredBoth r (now (out .exit)) (map barOf (now (bars .exit)))
         ≡ drawnWithBars (now (sheet .entry)) (now (out .entry)) (map barOf (now (bars .entry))) ⌝ }
 {
     let room = bars.len();
     let d = draw_for(sheet, out, room);
-    if let Drawn::Chart(_, n) = d {
+    if let BothWritten::Lengths(_, n) = d {
         fill_bars(&out[..], n, bars);
     }
     d

@@ -7,7 +7,7 @@ use native.Mathlib.Nat.{add-zero}
 use native.Mathlib.Omega.{arith}
 use Rattle.polygon.specs.Tree.{Tree, node}
 use Rattle.umbrella.specs.Numbers.{ud}
-use Rattle.chart.specs.Places.{up}
+use Rattle.chart.specs.Places.{rowUp}
 use Rattle.umbrella.specs.declared.roles.Role.{Role}
 use Rattle.umbrella.specs.declared.roles.Role.the-variants.{Hung, LeftRim, RightRim, FromLeft, FromRight}
 use Rattle.drawing.specs.declared.lines.Line.{Line}
@@ -32,7 +32,7 @@ at-zero m O = sym (O .agrees 0 (omega arith) ∙ on-zero (m .down) (m .base))
 
 -- row 2D and row 1 of a piece with D levels, n of them and k under its umbrella
 module _ (f : ℕ → ℕ) (D n k : ℕ) (e : D ≡ n) (s : suc k ≡ n) where
-  far-by : (b : Bool) (base : ℕ) → OnLine (record { base = base; down = b }) f (2 * n) → OnLine (farLine n (record { base = base; down = b })) (λ r. f (up D r)) (2 * k)
+  far-by : (b : Bool) (base : ℕ) → OnLine (record { base = base; down = b }) f (2 * n) → OnLine (farLine n (record { base = base; down = b })) (λ r. f (rowUp D r)) (2 * k)
   far-by true base O = record { agrees = λ r h. O .agrees (2 * D - r) (omega arith) ∙ omega arith; room = λ h. omega arith }
   far-by false base O =
       let i : 2 * n ≤ base = O .room refl in
@@ -44,7 +44,7 @@ module _ (f : ℕ → ℕ) (D n k : ℕ) (e : D ≡ n) (s : suc k ≡ n) where
       let i : 2 * n ≤ base = O .room refl in
       record { agrees = λ r h. O .agrees (suc r) (omega arith) ∙ omega arith; room = λ h. omega (arith, i) }
 
-  pub far-on : (m : Line) → OnLine m f (2 * n) → OnLine (farLine n m) (λ r. f (up D r)) (2 * k)
+  pub far-on : (m : Line) → OnLine m f (2 * n) → OnLine (farLine n m) (λ r. f (rowUp D r)) (2 * k)
   far-on m O = far-by (m .down) (m .base) O
 
   pub near-on : (m : Line) → OnLine m f (2 * n) → OnLine (nearLine m) (λ r. f (suc r)) (2 * k)

@@ -13,14 +13,14 @@ use Rattle.umbrella.specs.declared.roles.Role.the-variants.{Hung, LeftRim, Righ
 use Rattle.umbrella.specs.declared.roles.Step.{Step}
 use Rattle.umbrella.specs.Roles.{fromRight, isHung, stepAt, stepOf, levelsUnder}
 use Rattle.drawing.specs.Columns.{around, arranged, sideColumn, columns}
-use Rattle.drawing.specs.Walk.{differ, lay}
+use Rattle.drawing.specs.Walk.{differ, turnIf}
 
 -- a rim or a stem as it is built: the own column, the piece beside it, reversed if that lies to the right, and the piece that it goes on to
 abbrev pub Built : (left b : Bool) → Edge → List Edge → List Edge → List Edge
-Built true b e xs ys = e ∷ (lay true ys ++ lay b xs)
-Built false b e xs ys = e ∷ (lay false xs ++ lay b ys)
+Built true b e xs ys = e ∷ (turnIf true ys ++ turnIf b xs)
+Built false b e xs ys = e ∷ (turnIf false xs ++ turnIf b ys)
 
-pub built : (e : Edge) (xs ys : List Edge) (b x : Bool) → lay b (around b x e xs ys) ≡ Built (differ b x) b e xs ys
+pub built : (e : Edge) (xs ys : List Edge) (b x : Bool) → turnIf b (around b x e xs ys) ≡ Built (differ b x) b e xs ys
 unfolding around
 built e xs ys false false = refl
 built e xs ys false true = refl
@@ -28,32 +28,25 @@ built e xs ys true false = reverse-append xs (ys ++ (e ∷ [])) ∙ rw (reverse-
 built e xs ys true true = reverse-append ys (reverse xs ++ (e ∷ [])) ∙ rw (reverse-append (reverse xs) (e ∷ []), reverse-reverse xs)
 
 -- turned, or not
-pub lay-turned : (b t : Bool) (xs : List Edge) → differ b t ≡ true → reverse (lay b xs) ≡ lay t xs
-lay-turned true false xs h = reverse-reverse xs
-lay-turned false true xs h = refl
-lay-turned true true xs h = absurd (false≢true h)
-lay-turned false false xs h = absurd (false≢true h)
+pub turn-if-turned : (b t : Bool) (xs : List Edge) → differ b t ≡ true → reverse (turnIf b xs) ≡ turnIf t xs
+turn-if-turned true false xs h = reverse-reverse xs
+turn-if-turned false true xs h = refl
+turn-if-turned true true xs h = absurd (false≢true h)
+turn-if-turned false false xs h = absurd (false≢true h)
 
-pub lay-kept : (b t : Bool) (xs : List Edge) → differ b t ≡ false → lay b xs ≡ lay t xs
-lay-kept true true xs h = refl
-lay-kept false false xs h = refl
-lay-kept true false xs h = absurd (true≢false h)
-lay-kept false true xs h = absurd (true≢false h)
+pub turn-if-kept : (b t : Bool) (xs : List Edge) → differ b t ≡ false → turnIf b xs ≡ turnIf t xs
+turn-if-kept true true xs h = refl
+turn-if-kept false false xs h = refl
+turn-if-kept true false xs h = absurd (true≢false h)
+turn-if-kept false true xs h = absurd (true≢false h)
 
-pub lay-one : (b : Bool) (e : Edge) → lay b (e ∷ []) ≡ e ∷ []
-lay-one true e = refl
-lay-one false e = refl
+pub turn-if-one : (b : Bool) (e : Edge) → turnIf b (e ∷ []) ≡ e ∷ []
+turn-if-one true e = refl
+turn-if-one false e = refl
 
-pub lay-none : (b : Bool) → lay b [] ≡ []
-lay-none true = refl
-lay-none false = refl
-
-pub only-hung : (p : Role) → isHung p ≡ true → p ≡ Hung
-only-hung Hung h = refl
-only-hung LeftRim h = absurd (false≢true h)
-only-hung RightRim h = absurd (false≢true h)
-only-hung FromLeft h = absurd (false≢true h)
-only-hung FromRight h = absurd (false≢true h)
+pub turn-if-none : (b : Bool) → turnIf b [] ≡ []
+turn-if-none true = refl
+turn-if-none false = refl
 
 -- the columns of a rim or a stem at a side and at a triangle
 pub side-columns : (p : Role) (d : ℕ) (t : Tree) (u v : ℕ) → isHung p ≡ false → t ≡ leaf → columns p d t u v ≡ (u — v) ∷ []
@@ -81,9 +74,9 @@ pub rims : (d : ℕ) (l r : Tree) (u v k : ℕ) → ud (node l r) - 1 ≡ k → 
 unfolding columns stepAt arranged
 rims d l r u v k e = rw e
 
-pub lay-length : (t : Bool) (xs : List Edge) → length (lay t xs) ≡ length xs
-lay-length true xs = length-reverse xs
-lay-length false xs = refl
+pub turn-if-length : (t : Bool) (xs : List Edge) → length (turnIf t xs) ≡ length xs
+turn-if-length true xs = length-reverse xs
+turn-if-length false xs = refl
 
 around-length : (b x : Bool) (e : Edge) (xs ys : List Edge) → length (around b x e xs ys) ≤ suc (length xs + length ys)
 unfolding around

@@ -11,7 +11,7 @@ use Rattle.umbrella.specs.Best.{best}
 use Rattle.umbrella.specs.declared.roles.Role.the-variants.{Hung, LeftRim, RightRim, FromLeft, FromRight}
 use Rattle.umbrella.specs.Roles.{stemStep, stepOf}
 use Rattle.umbrella.proofs.Induction.{stem, by-recursion}
-use Rattle.chart.specs.Places.{up, rows, leftRows, rightRows, leftGateRows, rightGateRows, stemRows}
+use Rattle.chart.specs.Places.{rowUp, rows, leftRows, rightRows, leftGateRows, rightGateRows, stemRows}
 use Rattle.drawing.specs.declared.lines.Line.{Line}
 use Rattle.drawing.specs.Lines.{farLine, nearLine, aside, ranks}
 use Rattle.drawing.proofs.OnLines.{OnLine, fewer, at-zero, far-on, near-on, joined, hung-ranks, own-ranks}
@@ -31,12 +31,12 @@ besideBy false g = suc
 
 -- both rims
 root : (d k : ℕ) (l r : Tree) (far near : Line) (f : ℕ → ℕ) (D : ℕ) (xs ys : List ℕ) → ud (node l r) ≡ suc k → D ≡ suc k → OnLine far f (2 * ud (node l r))
-    → ((m j : Line) → Both k m j f (up D) → ranks LeftRim k m j l ≡ map f xs) → ((m j : Line) → Both k m j f (up D) → ranks RightRim k m j r ≡ map f ys)
-    → ranks Hung d far near (node l r) ≡ map f (xs ++ (up D 0 ∷ ys))
+    → ((m j : Line) → Both k m j f (rowUp D) → ranks LeftRim k m j l ≡ map f xs) → ((m j : Line) → Both k m j f (rowUp D) → ranks RightRim k m j r ≡ map f ys)
+    → ranks Hung d far near (node l r) ≡ map f (xs ++ (rowUp D 0 ∷ ys))
 root d k l r far near f D xs ys h e o L R =
     let o′ : OnLine far f (2 * suc k) = rw h at o in
-    let B : Both k (farLine (suc k) far) (nearLine far) f (up D) = record { on-far = far-on f D (suc k) k e refl far o′; on-near = near-on f D (suc k) k e refl far o′ } in
-    hung-ranks d far near l r (suc k) k h (omega arith) ∙ joined f xs (up D 0) ys (L _ _ B) (at-zero (farLine (suc k) far) (B .on-far)) (R _ _ B)
+    let B : Both k (farLine (suc k) far) (nearLine far) f (rowUp D) = record { on-far = far-on f D (suc k) k e refl far o′; on-near = near-on f D (suc k) k e refl far o′ } in
+    hung-ranks d far near l r (suc k) k h (omega arith) ∙ joined f xs (rowUp D 0) ys (L _ _ B) (at-zero (farLine (suc k) far) (B .on-far)) (R _ _ B)
 
 -- a piece hung on a line
 hung-on : (d : ℕ) (t : Tree) (p : Plan t) (far near : Line) (f g : ℕ → ℕ) → HungIs t p → ud t ≤ d → OnLine far (λ r. f (g r)) (2 * d) → ranks Hung d far near t ≡ map f (map g (rows p))
@@ -69,13 +69,13 @@ rows-best = by-recursion (record {
   empty = λ d far near f o. refl;
   bare = λ k l r A B h L R d far near f o.
       let D : ℕ = levels (plain A B) in
-      root d k l r far near f D (leftRows (up D) A) (rightRows (up D) B) (h .0) (h .1) o (λ m j b. L m j f (up D) (b .on-far)) (λ m j b. R m j f (up D) (b .on-far));
+      root d k l r far near f D (leftRows (rowUp D) A) (rightRows (rowUp D) B) (h .0) (h .1) o (λ m j b. L m j f (rowUp D) (b .on-far)) (λ m j b. R m j f (rowUp D) (b .on-far));
   stem-below = λ k l r G B h L R d far near f o.
       let D : ℕ = levels (stemLeft G B) in
-      root d k l r far near f D (leftGateRows (up D) G) (rightRows (up D) B) (h .0) (h .1) o (λ m j b. L m j f (up D) b) (λ m j b. R m j f (up D) (b .on-far));
+      root d k l r far near f D (leftGateRows (rowUp D) G) (rightRows (rowUp D) B) (h .0) (h .1) o (λ m j b. L m j f (rowUp D) b) (λ m j b. R m j f (rowUp D) (b .on-far));
   stem-above = λ k l r A G h L R d far near f o.
       let D : ℕ = levels (stemRight A G) in
-      root d k l r far near f D (leftRows (up D) A) (rightGateRows (up D) G) (h .0) (h .1) o (λ m j b. L m j f (up D) (b .on-far)) (λ m j b. R m j f (up D) b);
+      root d k l r far near f D (leftRows (rowUp D) A) (rightGateRows (rowUp D) G) (h .0) (h .1) o (λ m j b. L m j f (rowUp D) (b .on-far)) (λ m j b. R m j f (rowUp D) b);
   left-end = λ d far near f g o. refl;
   left-on = λ d a b A p e i L P far near f g o. own-ranks d far near a b LeftRim _ refl e
       ∙ joined f (leftRows g A) (g 0) (map g (rows p)) (L far near f g o) (at-zero far o) (hung-on d b p far near f g P i o);

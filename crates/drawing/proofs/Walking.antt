@@ -3,36 +3,36 @@
 use mathlib.Core.Path.{_≡_, refl, sym, _∙_, ap}
 use mathlib.Core.Bool.{Bool, true, false, true≢false}
 use mathlib.Core.List.{List, [], _∷_, _++_, reverse, map-append}
-use Prim.Native.Nat.{ℕ, suc, _+_, _-_, _≤_}
+use Prim.Native.Nat.{ℕ, suc, _+_, _≤_}
 use native.Mathlib.Nat.{add-zero}
 use native.Mathlib.Decide.{decLe}
 use native.Mathlib.Omega.{arith}
 use lib.ListN.{length, set, length-append, length-reverse}
 use lib.Seq.{sets}
-use Rattle.lists.specs.Lists.{all-nil, all-cons, choose}
+use Rattle.lists.specs.Lists.{all-cons, all-nil, choose}
 use Rattle.lists.proofs.Lists.{all-append, all-reverse, map-reverse}
-use Rattle.lists.proofs.Stores.{sets-append, sets-set, sets-comm}
+use Rattle.lists.proofs.Stores.{sets-append, sets-comm, sets-set}
 use Rattle.polygon.specs.Polygon.{Edge}
 use Rattle.polygon.specs.Tree.{Tree, leaf, node, span}
 use Rattle.umbrella.specs.declared.roles.Role.{Role}
 use Rattle.umbrella.specs.declared.roles.Role.the-variants.{Hung, LeftRim, RightRim, FromLeft, FromRight}
 use Rattle.umbrella.specs.declared.roles.Step.{Step}
 use Rattle.umbrella.specs.Roles.{fromRight, isHung, leftStep, rightStep, goesLeft, stemStep, stepAt, stepOf}
-use Rattle.tree.specs.Shows.{edgeAt}
+use Rattle.tree.specs.Table.{edgeAt}
 use Rattle.drawing.specs.declared.lines.Line.{Line}
 use Rattle.drawing.specs.Lines.{aside, linesOf, ranks}
-use Rattle.drawing.specs.Walk.{differ, besideLine, Held, Drawn, Turned}
+use Rattle.drawing.specs.Walk.{differ, besideLine, HoldsEdge, Noted, Turned}
 use Rattle.drawing.proofs.OnLines.{own-ranks}
 use Rattle.drawing.proofs.Sets.{turned-run}
 
 module _ {tr : List ℕ} where
-  pub none : (at : ℕ) (o : List ℕ) → Drawn tr [] at o o at
+  pub none : (at : ℕ) (o : List ℕ) → Noted tr [] at o o at
   none at o = record { places = []; are = refl; held = all-nil; outs = refl; end = sym (add-zero at) }
 
-  pub one : (f : Edge) (e at : ℕ) (o : List ℕ) → edgeAt tr e ≡ f → Held tr e → Drawn tr (f ∷ []) at o (set o at e) (at + 1)
+  pub one : (f : Edge) (e at : ℕ) (o : List ℕ) → edgeAt tr e ≡ f → HoldsEdge tr e → Noted tr (f ∷ []) at o (set o at e) (at + 1)
   one f e at o p h = record { places = e ∷ []; are = rw p; held = all-cons h all-nil; outs = refl; end = refl }
 
-  pub seq : {xs ys : List Edge} {at n m : ℕ} {o o₁ o₂ : List ℕ} → Drawn tr xs at o o₁ n → Drawn tr ys n o₁ o₂ m → Drawn tr (xs ++ ys) at o o₂ m
+  pub seq : {xs ys : List Edge} {at n m : ℕ} {o o₁ o₂ : List ℕ} → Noted tr xs at o o₁ n → Noted tr ys n o₁ o₂ m → Noted tr (xs ++ ys) at o o₂ m
   seq {at = at} {o = o} d f = record {
     places = d .places ++ f .places;
     are = map-append (edgeAt tr) (d .places) (f .places) ∙ rw (d .are, f .are);
@@ -41,10 +41,10 @@ module _ {tr : List ℕ} where
     end = f .end ∙ rw (d .end, length-append (d .places) (f .places)) (omega arith);
   }
 
-  pub same : {xs ys : List Edge} {at n : ℕ} {o o₁ : List ℕ} → xs ≡ ys → Drawn tr xs at o o₁ n → Drawn tr ys at o o₁ n
+  pub same : {xs ys : List Edge} {at n : ℕ} {o o₁ : List ℕ} → xs ≡ ys → Noted tr xs at o o₁ n → Noted tr ys at o o₁ n
   same p d = rw p at d
 
-  pub turned : {es : List Edge} {at n : ℕ} {o o₁ o₂ : List ℕ} → n ≤ length o → Drawn tr es at o o₁ n → Turned at n o₁ o₂ → Drawn tr (reverse es) at o o₂ n
+  pub turned : {es : List Edge} {at n : ℕ} {o o₁ o₂ : List ℕ} → n ≤ length o → Noted tr es at o o₁ n → Turned at n o₁ o₂ → Noted tr (reverse es) at o o₂ n
   turned {at = at} {n} {o} {o₁} {o₂} h d T = record {
     places = reverse (d .places);
     are = map-reverse (edgeAt tr) (d .places) ∙ ap reverse (d .are);
@@ -58,7 +58,7 @@ module _ (u c v : ℕ) (xs ys o : List ℕ) (middle : u + 1 + length xs ≡ c) w
   pub left-then-right : sets (sets (set o c v) (u + 1) xs) (c + 1) ys ≡ sets o (u + 1) (xs ++ (v ∷ ys))
   left-then-right =
       let i : c + 1 ≡ suc c = omega arith in
-      let a : sets (sets (set o c v) (u + 1) xs) (suc c) ys ≡ sets (set (sets o (u + 1) xs) c v) (suc c) ys = ap (λ (l : List ℕ). sets l (suc c) ys) (sym (sets-set xs o (u + 1) c v (λ h. omega arith) (λ h. omega arith))) in
+      let a : sets (sets (set o c v) (u + 1) xs) (suc c) ys ≡ sets (set (sets o (u + 1) xs) c v) (suc c) ys = ap (λ (l : List ℕ). sets l (suc c) ys) (sym (sets-set xs o (u + 1) c v (λ h k. omega arith))) in
       let b : sets o (u + 1) (xs ++ (v ∷ ys)) ≡ sets (set (sets o (u + 1) xs) c v) (suc c) ys = sets-append xs (v ∷ ys) o (u + 1) ∙ rw middle in
       rw i (a ∙ sym b)
 

@@ -15,8 +15,8 @@ use Rattle.umbrella.specs.Numbers.{ud}
 use Rattle.umbrella.specs.Best.{best}
 use Rattle.umbrella.proofs.Theorems.{computed-has}
 use Rattle.lists.proofs.Places.{at-all}
-use Rattle.tree.specs.declared.Piece.{Piece}
-use Rattle.tree.specs.Shows.{edgeAt}
+use Rattle.tree.specs.declared.Root.{Root}
+use Rattle.tree.specs.Table.{edgeAt}
 use Rattle.tree.proofs.Pieces.{corners, ends}
 use Rattle.levels.specs.Numbered.{Filled}
 use Rattle.chart.specs.Places.{cols, rows}
@@ -24,8 +24,8 @@ use Rattle.drawing.specs.declared.lines.Line.{Line}
 use Rattle.drawing.specs.declared.lines.Way.{Way}
 use Rattle.drawing.specs.Columns.{columns}
 use Rattle.drawing.specs.Lines.{ranks}
-use Rattle.drawing.specs.Walk.{Held, Walked}
-use Rattle.drawing.specs.Placed.{Placed}
+use Rattle.drawing.specs.Walk.{HoldsEdge, Walked}
+use Rattle.drawing.specs.Located.{Located}
 use Rattle.drawing.proofs.OnLines.{OnLine}
 use Rattle.drawing.proofs.Planned.{columns-best}
 use Rattle.drawing.proofs.Ranked.{rows-best}
@@ -59,18 +59,18 @@ corners-are t v n o o₁ whole p h small l e =
     rw (q, ← append-assoc (0 ∷ rs) (0 ∷ []) (drop (suc v) b)) (m ∙ rw r)
 
 -- the edges stand before place 2n - 3, and nothing behind them
-within : (n e : ℕ) (tr : List ℕ) → ((j : ℕ) → 2 * n - 3 ≤ j → j < 2048 → getD tr j 0 ≡ 0) → Held tr e → e < 2 * n - 3
+within : (n e : ℕ) (tr : List ℕ) → ((j : ℕ) → 2 * n - 3 ≤ j → j < 2048 → getD tr j 0 ≡ 0) → HoldsEdge tr e → e < 2 * n - 3
 within n e tr f H = go (decLt e (2 * n - 3))
   where
     go : Dec (e < 2 * n - 3) → e < 2 * n - 3
     go (yes h) = h
     go (no h) = let z : getD tr e 0 ≡ 0 = f e (omega arith) (omega (arith, H .inside)) in absurd (omega (arith, z, H .lower-first))
 
-module _ {n : ℕ} {t : Tree} {tr ds : List ℕ} {p : Piece} (F : Filled n t tr ds p) where
+module _ {n : ℕ} {t : Tree} {tr ds : List ℕ} {p : Root} (F : Filled n t tr ds p) where
   pub sized : (2 ≤ n) × (n ≤ 1024) × (n - 1 ≡ 0 + span t)
   sized = let s = F .whole .shows in omega (arith, corners s, ends s, F .whole .lower, F .whole .upper)
 
-  pub part-placed : (o q : List ℕ) {o₁ q₁ : List ℕ} {w d : ℕ} → length o ≡ 2048 → length q ≡ 1024 → Walked tr p topWay t 0 o (set (set q 0 0) (n - 1) 0) o₁ q₁ w → d ≡ ud t → Placed n t tr o₁ q₁ (record { columns = w; rows = 2 * d + 1 })
+  pub part-placed : (o q : List ℕ) {o₁ q₁ : List ℕ} {w d : ℕ} → length o ≡ 2048 → length q ≡ 1024 → Walked tr p topWay t 0 o (set (set q 0 0) (n - 1) 0) o₁ q₁ w → d ≡ ud t → Located n t tr o₁ q₁ (record { columns = w; rows = 2 * d + 1 })
   part-placed o q {o₁} {q₁} {w} {d} lo lq W levels-are =
       let D = W .drawn in
       let places = D .places in

@@ -1,4 +1,4 @@
 pub mod Columns
 pub mod Lines
 pub mod Walk
-pub mod Placed
+pub mod Located

@@ -10,9 +10,9 @@ use Rattle.polygon.specs.Polygon.{Edge}
 use Rattle.polygon.specs.Tree.{Tree}
 use Rattle.umbrella.specs.declared.roles.Role.the-variants.{LeftRim, RightRim}
 use Rattle.umbrella.specs.declared.roles.Step.{Step}
-use Rattle.tree.specs.declared.Piece.{Piece}
+use Rattle.tree.specs.declared.Root.{Root}
 use Rattle.tree.specs.declared.Two.{Two}
-use Rattle.tree.specs.Shows.{edgeAt}
+use Rattle.tree.specs.Table.{edgeAt}
 use Rattle.drawing.specs.declared.lines.Line.{Line}
 use Rattle.drawing.specs.declared.lines.Way.{Way}
 use Rattle.drawing.specs.declared.lines.Next.{Next}
@@ -53,30 +53,30 @@ rimsOf t true = record { first = t .right; second = t .left; role = RightRim; ot
 rimsOf t false = record { first = t .left; second = t .right; role = LeftRim; other = RightRim }
 
 -- "It is reversed left to right"
-abbrev pub lay : Bool → List Edge → List Edge
-lay true es = reverse es
-lay false es = es
+abbrev pub turnIf : Bool → List Edge → List Edge
+turnIf true es = reverse es
+turnIf false es = es
 
 -- a place that holds an edge, lower corner first
-pub record Held (tr : List ℕ) (e : ℕ) : Type 0 where
+pub record HoldsEdge (tr : List ℕ) (e : ℕ) : Type 0 where
   pub inside : e < 2045
   pub lower-first : edgeAt tr e .0 < edgeAt tr e .1
 
 -- the places of the columns es stand from `at` on in the table o′, and n is the next place
-pub record Drawn (tr : List ℕ) (es : List Edge) (at : ℕ) (o o′ : List ℕ) (n : ℕ) : Type 0 where
+pub record Noted (tr : List ℕ) (es : List Edge) (at : ℕ) (o o′ : List ℕ) (n : ℕ) : Type 0 where
   pub places : List ℕ
   pub are : map (edgeAt tr) places ≡ es
-  pub held : All (Held tr) places
+  pub held : All (HoldsEdge tr) places
   pub outs : o′ ≡ sets o at places
   pub end : n ≡ at + length places
 
 -- the columns of a piece with the tree t, and the rows of the corners inside it, are written
-pub record Walked (tr : List ℕ) (p : Piece) (w : Way) (t : Tree) (at : ℕ) (cols rows cols′ rows′ : List ℕ) (n : ℕ) : Type 0 where
-  pub drawn : Drawn tr (lay (w .turned) (columns (w .role) (w .d) t (p .u) (p .v))) at cols cols′ n
+pub record Walked (tr : List ℕ) (p : Root) (w : Way) (t : Tree) (at : ℕ) (cols rows cols′ rows′ : List ℕ) (n : ℕ) : Type 0 where
+  pub drawn : Noted tr (turnIf (w .turned) (columns (w .role) (w .d) t (p .u) (p .v))) at cols cols′ n
   pub ranked : rows′ ≡ sets rows (p .u + 1) (ranks (w .role) (w .d) (w .far) (w .near) t)
 
 -- there is room: two columns for each side, and rows that stay small
-pub record Room (p : Piece) (w : Way) (at : ℕ) (cols rows : List ℕ) : Type 0 where
+pub record Room (p : Root) (w : Way) (at : ℕ) (cols rows : List ℕ) : Type 0 where
   pub fits : at + 2 * (p .v - p .u) ≤ 2048
   pub far-small : w .far .base + 20 * (p .v - p .u) ≤ 50000
   pub near-small : w .near .base + 20 * (p .v - p .u) ≤ 50000

@@ -1,11 +1,11 @@
 // The drawing of a part: the place of each column's upright among the edges, the row of each corner, and how many columns and rows there are.
 // lines.rt says how the drawing goes on from a triangle, walk.rt writes the columns and rows.
-// The definitions that the contracts cite are in specs/; Placed.antt says what is drawn of a part.
+// The definitions that the contracts cite are in specs/; Located.antt says what is drawn of a part.
 ghost use mathlib.Core.Path.{_≡_};
 ghost use lib.ListN.{length};
 ghost use Rattle.polygon.specs.Tree.{Tree};
 ghost use Rattle.levels.specs.Numbered.{Filled};
-ghost use Rattle.drawing.specs.Placed.{Placed};
+ghost use Rattle.drawing.specs.Located.{Located};
 use crate::lines::Line;
 use crate::lines::Way;
 use crate::walk::COLUMNS;
@@ -14,7 +14,7 @@ use levels::CORNERS;
 use levels::NUMBERS;
 use levels::numbers;
 use tree::PLACES;
-use tree::Piece;
+use tree::Root;
 use umbrella::roles::Role;
 
 pub mod lines;
@@ -31,14 +31,14 @@ pub fn place(
     n: usize,
     tree: &[u32; PLACES],
     depths: &[u16; NUMBERS],
-    p: Piece,
+    p: Root,
     columns: &mut [u16; COLUMNS],
     rows: &mut [u16; CORNERS],
 ) -> Size
     requires filled { ⌜ ((t : Tree) × Filled n t (now tree) (now depths) p) ⌝ }
     requires room { ⌜ (length (now columns) ≡ 2048) × (length (now rows) ≡ 1024) ⌝ }
     ensures { λ s. ⌜ ((t : Tree) → Filled n t (now (tree .entry)) (now (depths .entry)) p
-        → Placed n t (now (tree .entry)) (now (columns .exit)) (now (rows .exit)) s) ⌝ }
+        → Located n t (now (tree .entry)) (now (columns .exit)) (now (rows .exit)) s) ⌝ }
 {
     let top = Line {
         base: 0,

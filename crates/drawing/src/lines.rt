@@ -3,7 +3,7 @@ ghost use mathlib.Core.Path.{_≡_};
 ghost use Prim.Native.Nat.{_*_, _≤_};
 ghost use Rattle.drawing.specs.Lines.{rowAt, farLine, nearLine};
 ghost use Rattle.drawing.specs.Walk.{differ, besideLine, nextOf, rimsOf};
-use tree::Piece;
+use tree::Root;
 use tree::Two;
 use umbrella::roles::Role;
 use umbrella::roles::Step;
@@ -25,16 +25,16 @@ pub struct Way {
 
 // On from a triangle: the piece beside the rim or stem and how it is drawn, the piece that the rim or stem goes on to and its role.
 pub struct Next {
-    pub beside: Piece,
+    pub beside: Root,
     pub way: Way,
-    pub on: Piece,
+    pub on: Root,
     pub role: Role,
 }
 
 // The two rims of an umbrella in the order of their columns.
 pub struct Rims {
-    pub first: Piece,
-    pub second: Piece,
+    pub first: Root,
+    pub second: Root,
     pub role: Role,
     pub other: Role,
 }

@@ -7,7 +7,7 @@ ghost use lib.ListN.{length};
 ghost use Rattle.polygon.specs.Tree.{Tree};
 ghost use Rattle.umbrella.specs.declared.roles.Role.the-variants.{Hung};
 ghost use Rattle.umbrella.specs.Roles.{isHung};
-ghost use Rattle.levels.specs.Numbered.{Known};
+ghost use Rattle.levels.specs.Numbered.{Tabled};
 ghost use Rattle.drawing.specs.Walk.{Walked, Room, Turned};
 use crate::lines::Way;
 use crate::lines::beside_line;
@@ -20,7 +20,7 @@ use levels::CORNERS;
 use levels::NUMBERS;
 use levels::numbers;
 use tree::PLACES;
-use tree::Piece;
+use tree::Root;
 use tree::open;
 use umbrella::roles::Role;
 use umbrella::roles::from_right;
@@ -52,14 +52,14 @@ pub fn draw_piece(
     depths: &[u16; NUMBERS],
     columns: &mut [u16; COLUMNS],
     rows: &mut [u16; CORNERS],
-    p: Piece,
+    p: Root,
     w: Way,
     at: usize,
 ) -> usize
-    requires known { ⌜ ((t : Tree) × Known (now tree) (now depths) (p .e) (p .u) (p .v) t) ⌝ }
+    requires known { ⌜ ((t : Tree) × Tabled (now tree) (now depths) (p .e) (p .u) (p .v) t) ⌝ }
     requires room { ⌜ Room p w at (now columns) (now rows) ⌝ }
     requires hung { ⌜ w .role ≡ Hung ⌝ }
-    ensures { λ n. ⌜ ((t : Tree) → Known (now (tree .entry)) (now (depths .entry)) (p .e) (p .u) (p .v) t
+    ensures { λ n. ⌜ ((t : Tree) → Tabled (now (tree .entry)) (now (depths .entry)) (p .e) (p .u) (p .v) t
         → Walked (now (tree .entry)) p w t at (now (columns .entry)) (now (rows .entry)) (now (columns .exit)) (now (rows .exit)) n) ⌝ }
 {
     if p.v <= p.u + 1 {
@@ -101,14 +101,14 @@ fn draw_stem(
     depths: &[u16; NUMBERS],
     columns: &mut [u16; COLUMNS],
     rows: &mut [u16; CORNERS],
-    p: Piece,
+    p: Root,
     w: Way,
     at: usize,
 ) -> usize
-    requires known { ⌜ ((t : Tree) × Known (now tree) (now depths) (p .e) (p .u) (p .v) t) ⌝ }
+    requires known { ⌜ ((t : Tree) × Tabled (now tree) (now depths) (p .e) (p .u) (p .v) t) ⌝ }
     requires room { ⌜ Room p w at (now columns) (now rows) ⌝ }
     requires walked { ⌜ isHung (w .role) ≡ false ⌝ }
-    ensures { λ n. ⌜ ((t : Tree) → Known (now (tree .entry)) (now (depths .entry)) (p .e) (p .u) (p .v) t
+    ensures { λ n. ⌜ ((t : Tree) → Tabled (now (tree .entry)) (now (depths .entry)) (p .e) (p .u) (p .v) t
         → Walked (now (tree .entry)) p w t at (now (columns .entry)) (now (rows .entry)) (now (columns .exit)) (now (rows .exit)) n) ⌝ }
 {
     let mut role = w.role;
@@ -147,13 +147,13 @@ fn draw_beside(
     depths: &[u16; NUMBERS],
     columns: &mut [u16; COLUMNS],
     rows: &mut [u16; CORNERS],
-    p: Piece,
+    p: Root,
     w: Way,
     at: usize,
 ) -> usize
-    requires known { ⌜ ((t : Tree) × Known (now tree) (now depths) (p .e) (p .u) (p .v) t) ⌝ }
+    requires known { ⌜ ((t : Tree) × Tabled (now tree) (now depths) (p .e) (p .u) (p .v) t) ⌝ }
     requires room { ⌜ Room p w at (now columns) (now rows) ⌝ }
-    ensures { λ n. ⌜ ((t : Tree) → Known (now (tree .entry)) (now (depths .entry)) (p .e) (p .u) (p .v) t
+    ensures { λ n. ⌜ ((t : Tree) → Tabled (now (tree .entry)) (now (depths .entry)) (p .e) (p .u) (p .v) t
         → Walked (now (tree .entry)) p w t at (now (columns .entry)) (now (rows .entry)) (now (columns .exit)) (now (rows .exit)) n) ⌝ }
 {
     let role = w.role;

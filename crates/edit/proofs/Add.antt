@@ -11,8 +11,8 @@ use Rattle.polygon.specs.Polygon.{Edge, _—_, Ascending, Diagonal, Triangulate
 use Rattle.polygon.proofs.Order.{low-of, high-of}
 use Rattle.edit.specs.Rules.{addEar, up, both, entering, earAdded}
 use Rattle.edit.proofs.Rule.{Takes, given}
-use Rattle.edit.proofs.Renumber.{up-is, up-mono, Ends, renumbered-ascending, renumbered-free}
-use Rattle.edit.proofs.Enter.{Apart, entered}
+use Rattle.edit.proofs.Renumber.{up-is, up-mono, BothEnds, renumbered-ascending, renumbered-free}
+use Rattle.edit.proofs.Enter.{ApartFrom, entered}
 
 -- a diagonal stays one when the corners above i go up
 up-diagonal : (n i : ℕ) (e : Edge) → Diagonal n e → Diagonal (suc n) (both (up i) e)
@@ -22,7 +22,7 @@ up-diagonal n i e d = omega (arith, up-is i (e .0), up-is i (e .1))
 -- the edge that enters is a diagonal, and apart from all that were there
 record Enters (n i : ℕ) (x : Edge) : Type 0 where
   diagonal : Diagonal (suc n) x
-  apart : (e : Edge) → Diagonal n e → Apart x (both (up i) e)
+  apart : (e : Edge) → Diagonal n e → ApartFrom x (both (up i) e)
 
 enters : (n i : ℕ) → 3 ≤ n → i < n → Enters n i (entering n i)
 unfolding entering choose both
@@ -46,11 +46,11 @@ module _ (n i : ℕ) (ds : List Edge) (P : Triangulated n ds) (h : i < n) where
   E = enters n i (omega (arith, P .full)) h
 
   -- any corner
-  ends : All (Ends (λ x. Unit {0})) ds
+  ends : All (BothEnds (λ x. Unit {0})) ds
   ends = all-imp (λ e d. (tt, tt)) (P .diagonals)
 
   -- the edge that enters is apart from the diagonals, renumbered
-  pub entering-apart : All (Apart (entering n i)) moved
+  pub entering-apart : All (ApartFrom (entering n i)) moved
   entering-apart = all-map _ (all-imp (E .apart) (P .diagonals))
 
   pub moved-ascending : Ascending moved

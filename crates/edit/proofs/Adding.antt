@@ -8,7 +8,7 @@ use native.Mathlib.Numerals.{add-one}
 use lib.ListN.{length, take}
 use lib.Seq.{length-take-le}
 use Rattle.polygon.specs.Polygon.{Edge, _—_, Diagonal}
-use Rattle.lists.proofs.Lists.{choose-yes, choose-no, all-imp}
+use Rattle.lists.proofs.Lists.{all-imp, choose-no, choose-yes}
 use Rattle.keys.specs.Keys.{keyOf, edgesOf}
 use Rattle.keys.specs.Sort.{merge}
 use Rattle.sheet.specs.declared.Head.{Head}

@@ -5,21 +5,21 @@ use mathlib.Core.List.{List, _∷_}
 use Prim.Native.Nat.{ℕ, _+_, _≤_}
 use native.Mathlib.Omega.{arith}
 use lib.ListN.{length}
-use Rattle.lists.specs.Lists.{Mem, head, All}
-use Rattle.lists.proofs.Lists.{there, all-imp, all-both, all-mem, all-self, sorted-same}
+use Rattle.lists.specs.Lists.{All, Mem, head}
+use Rattle.lists.proofs.Lists.{all-both, all-imp, all-mem, all-self, sorted-same, there}
 use Rattle.polygon.specs.Polygon.{Edge, Ascending, Cross, NoneCross, Diagonal, Triangulated}
 use Rattle.polygon.specs.Order.{same?, remove, insert}
 use Rattle.polygon.proofs.Order.{one-way, remove-all, remove-other, remove-ascending, remove-mem, insert-all, insert-ascending, insert-length, insert-mem}
 use Rattle.polygon.proofs.TreeTheorem.{from-enough}
 
 -- an edge other than x, which x does not cross
-pub record Apart (x e : Edge) : Type 0 where
+pub record ApartFrom (x e : Edge) : Type 0 where
   pub other : ¬ (e ≡ x)
   pub over : ¬ Cross e x
   pub under : ¬ Cross x e
 
 -- n - 4 diagonals and one apart from them all triangulate
-pub entered : (n : ℕ) (x : Edge) (es : List Edge) → 3 ≤ n → n ≤ length es + 4 → Ascending es → All (Diagonal n) es → NoneCross es → Diagonal n x → All (Apart x) es → Triangulated n (insert x es)
+pub entered : (n : ℕ) (x : Edge) (es : List Edge) → 3 ≤ n → n ≤ length es + 4 → Ascending es → All (Diagonal n) es → NoneCross es → Diagonal n x → All (ApartFrom x) es → Triangulated n (insert x es)
 entered n x es b h s d f i a =
     from-enough n (insert x es) b
     (insert-ascending x (all-imp (λ e k. k .other) a) s)

@@ -4,17 +4,18 @@ use mathlib.Core.Logic.{_⊎_, inl, inr}
 use mathlib.Core.List.{List, [], _∷_}
 use Prim.Native.Nat.{ℕ, _<_}
 use native.Mathlib.Omega.{arith}
-use Rattle.lists.specs.Lists.{Mem, head, tail, All, all-nil, all-cons, sorted-nil, sorted-cons}
-use Rattle.lists.proofs.Lists.{here, there, all-imp, all-both, all-mem, all-self, keep-sorted, sorted-same}
+use Rattle.lists.specs.Lists.{All, Mem, all-cons, all-nil, head, sorted-cons, sorted-nil, tail}
+use Rattle.lists.proofs.Lists.{all-both, all-imp, all-mem, all-self, here, keep-sorted, sorted-same, there}
 use Rattle.lists.proofs.Places.{below-sorted}
 use Rattle.polygon.specs.Polygon.{Edge, _—_, Cross, Diagonal, Triangulated, Polygon, Valid, Linked, Joined}
 use Rattle.polygon.specs.Order.{remove, insert, lower-first}
-use Rattle.polygon.proofs.Order.{edge, low-of, high-of, remove-all, remove-other, remove-ascending, remove-length, remove-mem, insert-mem}
+use Rattle.polygon.proofs.Order.{low-of, high-of, remove-all, remove-other, remove-ascending, remove-length, remove-mem, insert-mem}
 use Rattle.sheet.specs.Sheet.{held}
+use Rattle.sheet.proofs.Normal.{lower-first-same}
 use Rattle.edit.specs.Rules.{flip, common, enter, flipped, renewed, rule}
 use Rattle.edit.proofs.Rule.{Takes, given, rule-takes, rule-taken}
 use Rattle.edit.proofs.Reading.{common-reads}
-use Rattle.edit.proofs.Enter.{Apart, entered, remove-insert, insert-remove}
+use Rattle.edit.proofs.Enter.{ApartFrom, entered, remove-insert, insert-remove}
 use Rattle.edit.proofs.Quad.{Across, turn, across-back, joined-corners, across, only-one, no-third}
 
 -- edges that cross have four different corners; f's lower one first
@@ -60,10 +61,10 @@ module _ (n : ℕ) (ds : List Edge) (P : Triangulated n ds) (e f : Edge) (A : Ac
     fresh : ¬ Mem f ds
     fresh k = elim (A .crossing) [ inl x ↦ all-mem (all-mem (P .none-cross) m) k x | inr x ↦ all-mem (all-mem (P .none-cross) k) m x ]
 
-    apart : (g : Edge) → Mem g ds → ¬ (g ≡ e) → Apart f g
+    apart : (g : Edge) → Mem g ds → ¬ (g ≡ e) → ApartFrom f g
     apart g k h = record { other = λ q. fresh (rw q at k); over = λ x. h (only-one n ds P e f A g k (inl x)); under = λ x. h (only-one n ds P e f A g k (inr x)) }
 
-    rest-apart : All (Apart f) rest
+    rest-apart : All (ApartFrom f) rest
     rest-apart = all-both apart (remove-all e (all-self ds)) (remove-other e ds)
 
     new-diagonal : Diagonal n f
@@ -125,16 +126,11 @@ flip-valid p a b A (h, m) =
       numbered = A .numbered;
     }
 
--- an edge with its lower corner first
-lower-first-same : (e : Edge) → e .0 < e .1 → lower-first e ≡ e
-unfolding lower-first
-lower-first-same e h = edge (omega arith) (omega arith)
-
 -- the new diagonal, flipped
 flip-again : (p : Polygon) (e f : Edge) → Valid p → Across (p .n) (p .ds) e f → Mem e (p .ds) → rule (flip (f .0) (f .1)) (renewed p (p .n) (insert f (remove e (p .ds)))) ≡ held p
 flip-again p e f A X m =
     let P = A .triangulated in
-    let l = lower-first-same f (corners (X .crossing) .order) in
+    let l = lower-first-same f (omega (arith, corners (X .crossing) .order)) in
     let k : Mem (lower-first f) (insert f (remove e (p .ds))) = rw l (insert-mem f (remove e (p .ds)) f here) in
     rule-takes (flip (f .0) (f .1)) _ ((joined-corners (p .n) (p .ds) P _ _ (X .low-low) .1, joined-corners (p .n) (p .ds) P _ _ (X .low-high) .1), k)
     ∙ rw (l, flipped-back (p .n) (p .ds) P e f X m)

@@ -5,7 +5,7 @@ use mathlib.Core.List.{List, [], _∷_, map}
 use mathlib.Core.Option.{some}
 use Prim.Native.Nat.{ℕ, _-_}
 use native.Mathlib.Decide.{decLt, ℕ-discrete}
-use Rattle.lists.specs.Lists.{All, all-nil, all-cons, choose, put, keep, numbers, below, not?, either?, all?, mem?}
+use Rattle.lists.specs.Lists.{All, all-cons, all-nil, all?, below, choose, either?, keep, mem?, not?, numbers, put}
 use Rattle.polygon.specs.Polygon.{Edge, _—_, Polygon}
 use Rattle.polygon.specs.Order.{before?, same?, remove, place, insert, lower-first}
 use Rattle.sheet.specs.Sheet.{Reading, refused, held, ask}

@@ -8,16 +8,17 @@ use native.Mathlib.Omega.{arith}
 use lib.ListN.{length}
 use lib.Seq.{take-append-seam}
 use Rattle.lists.specs.Lists.{All}
-use Rattle.lists.proofs.Lists.{choose-yes, choose-no}
+use Rattle.lists.proofs.Lists.{all-mem, choose-yes, choose-no}
 use Rattle.polygon.specs.Polygon.{Polygon, Valid}
 use Rattle.codec.specs.Answer.{Answer, fit, written}
 use Rattle.sheet.specs.Sheet.{Reading, refused, held, ask, readSheet, normalSheet, outcome}
+use Rattle.sheet.specs.Refusals.{RefusedBy, by, holds}
 use Rattle.sheet.proofs.Valid.{read-valid}
 use Rattle.sheet.proofs.Back.{read-back}
-use Rattle.edit.specs.Rules.{Edit, rule}
-use Rattle.edit.specs.Model.{fitting, step, numberGiven, after, isTaken, numbers, left, taken, chosen, modelSheet}
+use Rattle.edit.specs.Rules.{Edit, ruleTests, rule}
+use Rattle.edit.specs.Model.{fitting, step, numberGiven, after, isTaken, modelNumbers, left, taken, chosen, modelSheet}
 use Rattle.edit.specs.Calls.{onHeld, edited, Call, called, lent, sheetAfter, answers, sheetLeft}
-use Rattle.edit.proofs.Rule.{Settled, rule-settled}
+use Rattle.edit.proofs.Refusals.{rule-refuses, rule-proper}
 use Rattle.edit.proofs.Keeps.{rule-valid}
 
 -- what the plain part says of an edit: refused by a number that is not 0, or a valid polygon is held
@@ -26,11 +27,11 @@ Fair (refused k) = 0 < k
 Fair (held q) = Valid q
 
 rule-fair : (e : Edit) (p : Polygon) → Valid p → Fair (rule e p)
-rule-fair e p A = go (rule e p) refl (rule-settled e p)
+rule-fair e p A = go (rule e p) refl (rule-refuses e p)
   where
-    go : (r : Reading) → rule e p ≡ r → Settled e p r → Fair r
-    go (refused k) x s = omega arith
-    go (held q) x s = rule-valid e p x A
+    go : (r : Reading) → rule e p ≡ r → RefusedBy (ruleTests e) r → Fair r
+    go r x (by m) = all-mem (rule-proper e) m .0
+    go r x holds = rule-valid e p x A
 
 -- the sheet after it
 abbrev sheetOf : List ℕ → Reading → List ℕ
@@ -70,7 +71,7 @@ from-normal p (x ∷ xs) = go (step p (x .0) (x .1)) (from-normal p xs)
 -- THE LIST OF EDITS. s is the first sheet, p the part that it holds, cs the calls: edits with the bytes of the outputs lent.
 pub record Follows (s : List ℕ) (p : Polygon) (cs : List Call) : Type 0 where
   -- each edit's number is the plain part's, which is fed the edits and the lengths of the outputs
-  pub same-numbers : answers s cs ≡ numbers p (map lent cs)
+  pub same-numbers : answers s cs ≡ modelNumbers p (map lent cs)
   -- the sheet left is the plain part's normal sheet, or s if no edit was taken
   pub same-sheet : sheetLeft s cs ≡ modelSheet s p (map lent cs)
   -- the part that the plain part is left with is valid, and it is what an operation reads from the sheet left
@@ -85,7 +86,7 @@ one-then-rest s p (refused k) xs = refl
 one-then-rest s p (held q) xs = from-normal q xs
 
 follows : (cs : List Call) (s : List ℕ) (p : Polygon) → Valid p → readSheet s ≡ held p → Follows s p cs
-unfolding answers numbers sheetLeft modelSheet chosen taken left after
+unfolding answers modelNumbers sheetLeft modelSheet chosen taken left after
 follows [] s p A e = record { same-numbers = refl; same-sheet = refl; valid = A; reads = e }
 follows (c ∷ cs) s p A e =
     let m = step p (c .edit) (length (c .out)) in

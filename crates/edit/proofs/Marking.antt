@@ -1,13 +1,12 @@
 -- The table of the corners joined to a corner, marked one edge after another; and the corners marked in two such tables.
 use mathlib.Core.Path.{_≡_, refl, sym, _∙_}
 use mathlib.Core.Logic.{_⊎_, inl, inr}
-use mathlib.Core.List.{List, [], _∷_, _++_, map-append}
+use mathlib.Core.List.{List, [], _∷_, _++_}
 use Prim.Native.Nat.{ℕ, zero, suc, _+_, _-_, _<_, _≤_}
 use native.Mathlib.Decide.{ℕ-discrete}
-use native.Mathlib.Numerals.{add-one}
 use native.Mathlib.Omega.{arith}
-use lib.ListN.{length, take, set, getD, length-set, length-map, List·getD-map}
-use lib.Seq.{take-suc, getD-set-same, getD-set-other}
+use lib.ListN.{length, set, getD, length-set, length-map, List·getD-map}
+use lib.Seq.{getD-set-same, getD-set-other}
 use Rattle.lists.specs.Lists.{Mem, head, tail, All}
 use Rattle.lists.proofs.Lists.{mem-left, mem-right, not-empty, choose-yes, choose-no}
 use Rattle.lists.proofs.Places.{all-at, at-all}
@@ -125,9 +124,6 @@ module _ (n c : ℕ) (ds : List Edge) (e : Edge) (near : List ℕ) (N : Near n d
           old (inl (inr m)) = elim (snoc-cases ds e m) [ inl k ↦ before (inl (inr k)) | inr q ↦ h (is-end x (inl (sym q)) O) ]
           old (inr (inl s)) = before (inr (inl s))
           old (inr (inr m)) = elim (snoc-cases ds e m) [ inl k ↦ before (inr (inr k)) | inr q ↦ h (is-end x (inr (sym q)) O) ]
-
-pub edges-next : (ks : List ℕ) (j : ℕ) → j < length ks → edgesOf (take (j + 1) ks) ≡ edgesOf (take j ks) ++ (edgeOf (getD ks j 0) ∷ [])
-edges-next ks j h = rw (add-one j, take-suc ks j 0 h) (map-append edgeOf (take j ks) (getD ks j 0 ∷ []))
 
 -- the other end of an edge, or 1,024, is a place of the table
 pub end-below : (c k r : ℕ) → k < 1048576 → OtherEnd (edgeOf k) c r → r < 1025

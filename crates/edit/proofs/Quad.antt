@@ -8,7 +8,7 @@ use native.Mathlib.Omega.{arith}
 use Rattle.lists.specs.Lists.{Mem}
 use Rattle.polygon.specs.Polygon.{Edge, _—_, Cross, Triangulated, Linked, Joined}
 use Rattle.polygon.proofs.Order.{edge}
-use Rattle.polygon.proofs.Triangle.{Within, Beyond, Ahead, Outer, Some, triangle, opposite, linked-up, links-free}
+use Rattle.polygon.proofs.Triangle.{ApexWithin, Beyond, Ahead, ApexOutside, SomeCorner, triangle, opposite, linked-up, links-free}
 
 -- e and f cross, and their four ends are joined round about
 pub record Across (n : ℕ) (ds : List Edge) (e f : Edge) : Type 0 where
@@ -27,7 +27,7 @@ pub across-back : {n : ℕ} {ds : List Edge} {e f : Edge} → Across n ds e f �
 across-back A = record { crossing = turn (A .crossing); low-low = turn (A .low-low); low-high = turn (A .high-low); high-low = turn (A .low-high); high-high = turn (A .high-high) }
 
 -- of the corner c between e's ends and the corner d above or below them, each joined to both
-module _ {n : ℕ} {ds : List Edge} {e : Edge} {c d : ℕ} (w : Within (Linked n ds) e c) where
+module _ {n : ℕ} {ds : List Edge} {e : Edge} {c d : ℕ} (w : ApexWithin (Linked n ds) e c) where
   pub across-beyond : Beyond (Linked n ds) e d → Across n ds e (c — d)
   across-beyond o = record {
     crossing = inl (record { above = w .above; below = w .below; past = o .above });
@@ -63,7 +63,7 @@ module _ (n : ℕ) (ds : List Edge) (P : Triangulated n ds) where
   pub across : (e : Edge) → Mem e ds → (f : Edge) × Across n ds e f
   across e m = go (triangle n ds P e (inr m)) (opposite n ds P e m)
     where
-      go : Some (Within (Linked n ds) e) → Some (Outer (Linked n ds) e) → (f : Edge) × Across n ds e f
+      go : SomeCorner (ApexWithin (Linked n ds) e) → SomeCorner (ApexOutside (Linked n ds) e) → (f : Edge) × Across n ds e f
       go (c, w) (d, inl o) = (c — d, across-beyond w o)
       go (c, w) (d, inr o) = (d — c, across-ahead w o)
 

@@ -5,9 +5,9 @@ use mathlib.Core.List.{List}
 use Prim.Native.Nat.{ℕ, zero, suc, _+_, _-_, _≤_, _<_}
 use native.Mathlib.Decide.{ℕ-discrete}
 use native.Mathlib.Omega.{arith}
-use Rattle.lists.specs.Lists.{Mem, choose, below}
+use Rattle.lists.specs.Lists.{Mem, below, choose}
 use Rattle.lists.proofs.Lists.{all-mem, keep-mem, keep-sub, keep-test}
-use Rattle.lists.proofs.Places.{numbers-in, below-mem}
+use Rattle.lists.proofs.Places.{below-mem, numbers-in}
 use Rattle.polygon.specs.Polygon.{Edge, _—_, Side, Joined, Polygon}
 use Rattle.polygon.specs.Order.{lower-first}
 use Rattle.polygon.proofs.Order.{edge}

@@ -2,8 +2,8 @@
 use mathlib.Core.List.{List, [], _∷_, _++_}
 use Prim.Native.Nat.{ℕ}
 use native.Mathlib.Omega.{arith}
-use Rattle.lists.specs.Lists.{All, all-nil, all-cons}
-use Rattle.lists.proofs.Lists.{here, there, mem-left, mem-right, all-append}
+use Rattle.lists.specs.Lists.{All, all-cons, all-nil}
+use Rattle.lists.proofs.Lists.{all-append, here, mem-left, mem-right, there}
 use Rattle.polygon.specs.Polygon.{Polygon}
 use Rattle.codec.specs.Answer.{written}
 use Rattle.sheet.specs.Sheet.{Reading}
@@ -14,13 +14,13 @@ use Rattle.codec.proofs.Refusals.{settled}
 use Rattle.edit.specs.Rules.{Edit, addEar, removeEar, flip, ruleTests, rule}
 use Rattle.edit.specs.Calls.{onHeld, edited}
 
-rule-refuses : (e : Edit) (p : Polygon) → RefusedBy (ruleTests e) (rule e p)
+pub rule-refuses : (e : Edit) (p : Polygon) → RefusedBy (ruleTests e) (rule e p)
 unfolding rule
 rule-refuses (addEar i) p = ask-refuses 9 _ here (ask-refuses 10 _ (there here) holds)
 rule-refuses (removeEar k) p = ask-refuses 9 _ here (ask-refuses 11 _ (there here) (ask-refuses 12 _ (there (there here)) holds))
 rule-refuses (flip a b) p = ask-refuses 9 _ here (ask-refuses 13 _ (there here) holds)
 
-rule-proper : (e : Edit) → All Proper (ruleTests e)
+pub rule-proper : (e : Edit) → All Proper (ruleTests e)
 rule-proper (addEar i) = all-cons {x = 9} (omega arith, omega arith) (all-cons {x = 10} (omega arith, omega arith) all-nil)
 rule-proper (removeEar k) = all-cons {x = 9} (omega arith, omega arith) (all-cons {x = 11} (omega arith, omega arith) (all-cons {x = 12} (omega arith, omega arith) all-nil))
 rule-proper (flip a b) = all-cons {x = 9} (omega arith, omega arith) (all-cons {x = 13} (omega arith, omega arith) all-nil)

@@ -7,8 +7,8 @@ use Prim.Native.Nat.{ℕ, zero, suc, _+_, _-_, _≤_, _<_}
 use native.Mathlib.Decide.{decLe, decLt, ℕ-discrete}
 use native.Mathlib.Omega.{arith}
 use lib.ListN.{length-map}
-use Rattle.lists.specs.Lists.{Mem, All, choose}
-use Rattle.lists.proofs.Lists.{all-imp, all-both, all-of, all-map}
+use Rattle.lists.specs.Lists.{All, Mem, choose}
+use Rattle.lists.proofs.Lists.{all-both, all-imp, all-map, all-of}
 use Rattle.polygon.specs.Polygon.{Edge, _—_, Diagonal, Triangulated, Polygon, Valid}
 use Rattle.polygon.specs.Order.{remove}
 use Rattle.polygon.proofs.Order.{edge, remove-all, remove-other, remove-ascending, remove-length, removed, insert-all}

@@ -37,8 +37,8 @@ pub down-up : (i x : ℕ) → down (suc i) (up i x) ≡ x
 down-up i x = omega (arith, up-is i x, down-is (suc i) (up i x))
 
 -- an edge whose two corners have the property
-abbrev pub Ends : (ℕ → Type 0) → Edge → Type 0
-Ends Q e = Q (e .0) × Q (e .1)
+abbrev pub BothEnds : (ℕ → Type 0) → Edge → Type 0
+BothEnds Q e = Q (e .0) × Q (e .1)
 
 -- a renumbering f that keeps the order of the corners that have Q
 module _ (Q : ℕ → Type 0) (f : ℕ → ℕ) (mono : (x y : ℕ) → Q x → Q y → x < y → f x < f y) where
@@ -50,17 +50,17 @@ module _ (Q : ℕ → Type 0) (f : ℕ → ℕ) (mono : (x y : ℕ) → Q x → 
       go (no p) (yes q) = absurd (omega (arith, mono y x b a q))
       go (no p) (no q) = absurd (let e : x ≡ y = omega arith in omega (arith, ap f e))
 
-  both-before : (p q : Edge) → Ends Q p → Ends Q q → Before p q → Before (both f p) (both f q)
+  both-before : (p q : Edge) → BothEnds Q p → BothEnds Q q → Before p q → Before (both f p) (both f q)
   unfolding both
   both-before p q a b (inl h) = inl (mono _ _ (a .0) (b .0) h)
   both-before p q a b (inr h) = inr (ap f (h .0), mono _ _ (a .1) (b .1) (h .1))
 
-  both-cross : (p q : Edge) → Ends Q p → Ends Q q → Cross (both f p) (both f q) → Cross p q
+  both-cross : (p q : Edge) → BothEnds Q p → BothEnds Q q → Cross (both f p) (both f q) → Cross p q
   unfolding both
   both-cross p q a b x = record { above = back _ _ (a .0) (b .0) (x .above); below = back _ _ (b .0) (a .1) (x .below); past = back _ _ (a .1) (b .1) (x .past) }
 
-  pub renumbered-ascending : {ds : List Edge} → All (Ends Q) ds → Ascending ds → Ascending (map (both f) ds)
-  renumbered-ascending a s = sorted-map {S = Before} {P = Ends Q} (both f) both-before a s
+  pub renumbered-ascending : {ds : List Edge} → All (BothEnds Q) ds → Ascending ds → Ascending (map (both f) ds)
+  renumbered-ascending a s = sorted-map {S = Before} {P = BothEnds Q} (both f) both-before a s
 
-  pub renumbered-free : {ds : List Edge} → All (Ends Q) ds → NoneCross ds → NoneCross (map (both f) ds)
+  pub renumbered-free : {ds : List Edge} → All (BothEnds Q) ds → NoneCross ds → NoneCross (map (both f) ds)
   renumbered-free a c = all-map _ (all-both (λ p i g. all-map _ (all-both (λ q j h x. h (both-cross p q i j x)) a g)) a c)

@@ -1,7 +1,6 @@
--- When a rule takes an edit, and what it then gives (`rule-takes`, `rule-taken`); else it refuses, by 9 to 13 (`rule-settled`).
+-- When a rule takes an edit, and what it then gives (`rule-takes`, `rule-taken`); else it refuses (`rule-settled`).
 use mathlib.Core.Path.{_≡_, refl, ap}
-use Prim.Native.Nat.{ℕ, suc, _-_, _≤_, _<_}
-use native.Mathlib.Omega.{arith}
+use Prim.Native.Nat.{ℕ, suc, _-_, _<_}
 use Rattle.lists.specs.Lists.{Mem, All}
 use Rattle.polygon.specs.Polygon.{Polygon}
 use Rattle.polygon.specs.Order.{lower-first}
@@ -26,34 +25,34 @@ given (addEar i) p = renewed p (suc (p .n)) (earAdded (p .n) i (p .ds))
 given (removeEar k) p = renewed p (p .n - 1) (earRemoved (p .n) k (p .ds))
 given (flip a b) p = renewed p (p .n) (flipped (p .n) (lower-first (a, b)) (p .ds))
 
-abbrev pub Settled : Edit → Polygon → Reading → Type 0
-Settled e p (refused k) = (¬ Takes e p) × (9 ≤ k) × (k ≤ 13)
-Settled e p (held q) = Takes e p × (q ≡ given e p)
+abbrev pub Ruled : Edit → Polygon → Reading → Type 0
+Ruled e p (refused k) = ¬ Takes e p
+Ruled e p (held q) = Takes e p × (q ≡ given e p)
 
-pub rule-settled : (e : Edit) (p : Polygon) → Settled e p (rule e p)
+pub rule-settled : (e : Edit) (p : Polygon) → Ruled e p (rule e p)
 unfolding rule
 rule-settled (addEar i) p =
-    let Q : Reading → Type 0 = Settled (addEar i) p in
-    ask-cases Q 9 _ _ (λ f. (λ t. f (t .0), omega arith, omega arith))
-    (λ h. ask-cases Q 10 _ _ (λ f. (λ t. f (t .1), omega arith, omega arith))
+    let Q : Reading → Type 0 = Ruled (addEar i) p in
+    ask-cases Q 9 _ _ (λ f t. f (t .0))
+    (λ h. ask-cases Q 10 _ _ (λ f t. f (t .1))
     (λ k. ((h, k), refl)))
 rule-settled (removeEar j) p =
-    let Q : Reading → Type 0 = Settled (removeEar j) p in
-    ask-cases Q 9 _ _ (λ f. (λ t. f (t .0), omega arith, omega arith))
-    (λ h. ask-cases Q 11 _ _ (λ f. (λ t. f (t .1), omega arith, omega arith))
-    (λ k. ask-cases Q 12 _ _ (λ f. (λ t. f (t .2), omega arith, omega arith))
+    let Q : Reading → Type 0 = Ruled (removeEar j) p in
+    ask-cases Q 9 _ _ (λ f t. f (t .0))
+    (λ h. ask-cases Q 11 _ _ (λ f t. f (t .1))
+    (λ k. ask-cases Q 12 _ _ (λ f t. f (t .2))
     (λ a. ((h, k, a), refl))))
 rule-settled (flip a b) p =
-    let Q : Reading → Type 0 = Settled (flip a b) p in
-    ask-cases Q 9 _ _ (λ f. (λ t. f (t .0), omega arith, omega arith))
-    (λ h. ask-cases Q 13 _ _ (λ f. (λ t. f (t .1), omega arith, omega arith))
+    let Q : Reading → Type 0 = Ruled (flip a b) p in
+    ask-cases Q 9 _ _ (λ f t. f (t .0))
+    (λ h. ask-cases Q 13 _ _ (λ f t. f (t .1))
     (λ m. ((h, m), refl)))
 
 pub rule-takes : (e : Edit) (p : Polygon) → Takes e p → rule e p ≡ held (given e p)
 rule-takes e p t = go (rule e p) (rule-settled e p)
   where
-    go : (r : Reading) → Settled e p r → r ≡ held (given e p)
-    go (refused k) s = absurd (s .0 t)
+    go : (r : Reading) → Ruled e p r → r ≡ held (given e p)
+    go (refused k) s = absurd (s t)
     go (held q) s = ap held (s .1)
 
 pub rule-taken : (e : Edit) (p : Polygon) {q : Polygon} → rule e p ≡ held q → Takes e p × (q ≡ given e p)

@@ -6,7 +6,7 @@ use Rattle.lists.specs.Lists.{All}
 use Rattle.polygon.specs.Polygon.{Polygon}
 use Rattle.codec.specs.Answer.{written}
 use Rattle.sheet.specs.Sheet.{Reading, refused, held, readSheet, outcome}
-use Rattle.sheet.proofs.Size.{Counted, outcome-size}
+use Rattle.sheet.proofs.Size.{CountedPart, outcome-size}
 use Rattle.sheet.proofs.Valid.{read-valid}
 use Rattle.edit.specs.Rules.{Edit, rule}
 use Rattle.edit.specs.Calls.{onHeld, edited}
@@ -16,7 +16,7 @@ pub edited-size : (e : Edit) (s out : List ℕ) → All (λ b. b < 256) s → wr
 unfolding edited onHeld
 edited-size e s out bytes = go (readSheet s) refl
   where
-    ruled : (p : Polygon) → readSheet s ≡ held p → (r : Reading) → rule e p ≡ r → Counted r
+    ruled : (p : Polygon) → readSheet s ≡ held p → (r : Reading) → rule e p ≡ r → CountedPart r
     ruled p h (refused k) g = tt
     ruled p h (held q) g = let v = rule-valid e p g (read-valid s p bytes h) in (v .most, v .triangulated .full)
 

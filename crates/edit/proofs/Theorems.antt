@@ -3,13 +3,15 @@ use mathlib.Core.Path.{_≡_}
 use mathlib.Core.Logic.{_⊎_, _↔_}
 use mathlib.Core.List.{List, [], _∷_}
 use Prim.Native.Nat.{ℕ, suc, _≤_, _<_}
-use Rattle.lists.specs.Lists.{Mem, All}
+use Rattle.lists.specs.Lists.{All, Mem}
 use Rattle.polygon.specs.Polygon.{Edge, Side, Joined, Polygon, Valid}
 use Rattle.polygon.specs.Order.{remove, insert, lower-first}
-use Rattle.sheet.specs.Sheet.{refused, held, readSheet}
-use Rattle.edit.specs.Rules.{Edit, addEar, removeEar, flip, neighbours, common, rule}
+use Rattle.sheet.specs.Sheet.{held, readSheet}
+use Rattle.sheet.specs.Refusals.{RefusedBy}
+use Rattle.edit.specs.Rules.{Edit, addEar, removeEar, flip, neighbours, common, rule, ruleTests}
 use Rattle.edit.specs.Calls.{Call}
-use Rattle.edit.proofs.Rule as settled
+use Rattle.edit.proofs.Rule as rules
+use Rattle.edit.proofs.Refusals as refusals
 use Rattle.edit.proofs.Keeps as keeps
 use Rattle.edit.proofs.Reading as reading
 use Rattle.edit.proofs.Remove as ears
@@ -20,9 +22,9 @@ use Rattle.edit.proofs.List as list
 pub edit-keeps-valid : (e : Edit) (p q : Polygon) → Valid p → rule e p ≡ held q → Valid q × (q .number ≡ p .number)
 edit-keeps-valid e p q A r = (keeps.rule-valid e p r A, keeps.rule-number e p r)
 
--- An edit that is refused is refused by 9 to 13.
-pub edit-refusals : (e : Edit) (p : Polygon) (k : ℕ) → rule e p ≡ refused k → (9 ≤ k) × (k ≤ 13)
-edit-refusals e p k r = let s : settled.Settled e p (refused k) = rw r at (settled.rule-settled e p) in (s .1, s .2)
+-- An edit that is refused is refused by a number of its rule.
+pub rule-refuses : (e : Edit) (p : Polygon) → RefusedBy (ruleTests e) (rule e p)
+rule-refuses = refusals.rule-refuses
 
 -- The two neighbours of corner k are where its sides lead.
 pub neighbours-read : (n k x : ℕ) → 3 ≤ n → k < n → x < n → (Side n x k ⊎ Side n k x) ↔ ((x ≡ neighbours n k .0) ⊎ (x ≡ neighbours n k .1))
@@ -30,7 +32,7 @@ neighbours-read = reading.neighbours-read
 
 -- When a corner is taken off, the diagonal between its neighbours is there to be taken.
 pub ear-diagonal : (p q : Polygon) (k : ℕ) → Valid p → rule (removeEar k) p ≡ held q → Mem (neighbours (p .n) k) (p .ds)
-ear-diagonal p q k A r = ears.ear-diagonal p k A (settled.rule-taken (removeEar k) p r .0)
+ear-diagonal p q k A r = ears.ear-diagonal p k A (rules.rule-taken (removeEar k) p r .0)
 
 -- Taking off the corner that was added gives the part back.
 pub remove-added : (p q : Polygon) (i : ℕ) → Valid p → rule (addEar i) p ≡ held q → rule (removeEar (suc i)) q ≡ held p

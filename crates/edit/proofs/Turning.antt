@@ -6,8 +6,8 @@ use Prim.Native.Nat.{ℕ, _+_, _-_, _≤_, _<_}
 use native.Mathlib.Decide.{decLt}
 use native.Mathlib.Omega.{arith}
 use lib.ListN.{length, take, getD}
-use Rattle.lists.specs.Lists.{Mem, head, tail, all-cons, Sorted, sorted-cons}
-use Rattle.lists.proofs.Lists.{here, there, not-empty, keep-sorted}
+use Rattle.lists.specs.Lists.{Mem, Sorted, all-cons, head, sorted-cons, tail}
+use Rattle.lists.proofs.Lists.{here, keep-sorted, not-empty, there}
 use Rattle.lists.proofs.Places.{below-sorted}
 use Rattle.polygon.specs.Polygon.{Edge, _—_}
 use Rattle.polygon.specs.Order.{insert, remove, lower-first}
@@ -15,13 +15,13 @@ use Rattle.keys.specs.Keys.{keyOf, edgeOf, edgesOf}
 use Rattle.keys.specs.Sort.{merge}
 use Rattle.keys.specs.Change.{removeKey}
 use Rattle.keys.proofs.InOrder.{edge-of-key}
-use Rattle.keys.proofs.Removal.{mem-edges, edges-mem}
+use Rattle.keys.proofs.Removal.{edges-mem, mem-edges}
 use Rattle.sheet.specs.declared.Head.{Head}
 use Rattle.sheet.specs.Sheet.{refused}
 use Rattle.sheet.specs.declared.Read.the-variants.{Held}
 use Rattle.sheet.specs.Held.{polygonOf, InHand, Reads}
 use Rattle.sheet.proofs.Asks.{ask-yes, ask-no}
-use Rattle.sheet.proofs.Pairs.{lower-below, lower-above}
+use Rattle.sheet.proofs.Normal.{lower-first-same}
 use Rattle.edit.specs.Rules.{flip, rule, common}
 use Rattle.edit.specs.Tables.{Near, Common}
 use Rattle.edit.proofs.Reading.{common-reads}
@@ -76,14 +76,6 @@ module _ (n a b : ℕ) (ds : List Edge) (p q : List ℕ) (A : Near n ds a p) (B 
       go (l, inr e) = (e, omega (arith, marked y (there here) .0))
       go (l, inl e) = absurd (omega (arith, C .low))
 
--- lower corner first
-pub in-order : (a b : ℕ) → a ≤ b → lower-first (a, b) ≡ a — b
-in-order a b h = go (decLt a b)
-  where
-    go : Dec (a < b) → lower-first (a, b) ≡ a — b
-    go (yes l) = lower-below a b l
-    go (no l) = let e : a ≡ b = omega arith in lower-above a b (omega arith) ∙ rw e
-
 module _ {h : Head} {ks : List ℕ} (P : InHand h ks) (a b : ℕ) where
   pub turn-outside : ¬ ((a < h .n) × (b < h .n)) → rule (flip a b) (polygonOf h ks) ≡ refused 9
   unfolding rule
@@ -95,7 +87,7 @@ module _ {h : Head} {ks : List ℕ} (P : InHand h ks) (a b : ℕ) where
 
     pub turn-lacks : ¬ Mem k (take (h .n - 3) ks) → rule (flip a b) (polygonOf h ks) ≡ refused 13
     unfolding rule
-    turn-lacks f = ask-yes 9 _ _ (omega arith, inside) ∙ ask-no 13 _ _ (λ m. f (edges-mem k (take (h .n - 3) ks) (rw (edge-k, ← in-order a b up) m)))
+    turn-lacks f = ask-yes 9 _ _ (omega arith, inside) ∙ ask-no 13 _ _ (λ m. f (edges-mem k (take (h .n - 3) ks) (rw (edge-k, ← lower-first-same (a — b) up) m)))
 
     pub turn-out : Mem k (take (h .n - 3) ks) → {rest : List ℕ} → rest ≡ removeKey k (take (h .n - 3) ks) → Without h ks (a — b) rest
     turn-out M = taken-out P (a — b) (rw edge-k at (mem-edges k (take (h .n - 3) ks) M)) K
@@ -110,5 +102,5 @@ module _ {h : Head} {ks : List ℕ} (P : InHand h ks) (a b : ℕ) where
       let new : other ≡ keyOf f = O (f .0) (f .1) (common-is (h .n) ds T (a — b) f A) in
       let m : h .n - 3 ≡ 1 + length rest = omega (arith, W .size) in
       let edges : edgesOf (take (h .n - 3) after) ≡ insert f (remove (a — b) ds) = ap (λ (j : ℕ). edgesOf (take j after)) m ∙ (ap edgesOf I ∙ (inserted other f rest new low ∙ ap (insert f) (W .left))) in
-      let there : Mem (lower-first (a, b)) ds = rw (in-order a b up) (W .member) in
-      edited (flip a b) P ((omega arith, inside), there) (rw (edges, in-order a b up, flipped-is (h .n) ds T (a — b) f A)) long
+      let there : Mem (lower-first (a, b)) ds = rw (lower-first-same (a — b) up) (W .member) in
+      edited (flip a b) P ((omega arith, inside), there) (rw (edges, lower-first-same (a — b) up, flipped-is (h .n) ds T (a — b) f A)) long

@@ -30,9 +30,9 @@ isTaken (refused k) = false
 isTaken (held q) = true
 
 -- a list of edits, each with the length of the output lent: the numbers given, the polygon at the end, whether any edit was taken
-unfoldable pub numbers : Polygon → List (Edit × ℕ) → List ℕ
-numbers p [] = []
-numbers p (x ∷ xs) = let r = step p (x .0) (x .1) in numberGiven r ∷ numbers (after p r) xs
+unfoldable pub modelNumbers : Polygon → List (Edit × ℕ) → List ℕ
+modelNumbers p [] = []
+modelNumbers p (x ∷ xs) = let r = step p (x .0) (x .1) in numberGiven r ∷ modelNumbers (after p r) xs
 
 unfoldable pub left : Polygon → List (Edit × ℕ) → Polygon
 left p [] = p

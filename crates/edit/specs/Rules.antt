@@ -5,7 +5,7 @@ use mathlib.Core.Logic.{Dec·and}
 use mathlib.Core.List.{List, [], _∷_, map}
 use Prim.Native.Nat.{ℕ, zero, suc, _+_, _-_}
 use native.Mathlib.Decide.{decLt, ℕ-discrete}
-use Rattle.lists.specs.Lists.{choose, keep, below, not?, either?, all?, mem?}
+use Rattle.lists.specs.Lists.{all?, below, choose, either?, keep, mem?, not?}
 use Rattle.polygon.specs.Polygon.{Edge, _—_, Side, Linked, Joined, Polygon}
 use Rattle.polygon.specs.Order.{same?, insert, remove, lower-first}
 use Rattle.sheet.specs.Sheet.{Reading, held, ask}

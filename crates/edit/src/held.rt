@@ -4,7 +4,7 @@ ghost use mathlib.Core.List.{[], _∷_};
 ghost use Prim.Native.Nat.{ℕ, _<_, _≤_};
 ghost use Rattle.polygon.specs.Polygon.{_—_};
 ghost use Rattle.keys.specs.Keys.{keyOf, edgesOf};
-ghost use Rattle.sheet.specs.Held.{polygonOf, Small, InHand, Reads};
+ghost use Rattle.sheet.specs.Held.{polygonOf, SmallKeys, InHand, Reads};
 ghost use Rattle.edit.specs.Rules.{addEar, removeEar, flip, rule, entering, common};
 ghost use Rattle.edit.specs.Tables.{editOf};
 use crate::near::MARKS;
@@ -96,7 +96,7 @@ fn remove_from(h: Head, keys: &mut [u32], corner: usize) -> Read
 
 // The key of the pair of corners that are joined to both a and b.
 fn turned_key(keys: &[u32], n: usize, a: usize, b: usize) -> u32
-    requires { ⌜ (3 ≤ n) × (n ≤ 1024) × (a < n) × (b < n) × Small (now keys) ⌝ }
+    requires { ⌜ (3 ≤ n) × (n ≤ 1024) × (a < n) × (b < n) × SmallKeys (now keys) ⌝ }
     ensures { λ r. ⌜ ((x y : ℕ) → common n (edgesOf (now (keys .entry))) (a — b) ≡ x ∷ (y ∷ []) → r ≡ keyOf (x — y)) ⌝ }
 {
     let mut near = [0u8; MARKS];

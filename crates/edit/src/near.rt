@@ -5,7 +5,7 @@ ghost use Prim.Native.Nat.{ℕ, _+_, _<_, _≤_};
 ghost use lib.ListN.{length, getD};
 ghost use Rattle.lists.specs.Lists.{All};
 ghost use Rattle.keys.specs.Keys.{edgeOf, edgesOf};
-ghost use Rattle.sheet.specs.Held.{Small};
+ghost use Rattle.sheet.specs.Held.{SmallKeys};
 ghost use Rattle.edit.specs.Rules.{neighbours, Away};
 ghost use Rattle.edit.specs.Tables.{Near, Common, OtherEnd};
 use keys::CORNERS;
@@ -77,7 +77,7 @@ fn other_end(k: u32, c: usize) -> usize
 
 // Marks by 1 the corners that a side or a diagonal joins to c. The last place of the table is for the edges that do not end at c.
 pub fn mark(keys: &[u32], n: usize, c: usize, near: &mut [u8])
-    requires { ⌜ (3 ≤ n) × (n ≤ 1024) × (c < n) × (length (now near) ≡ 1025) × Small (now keys) ⌝ }
+    requires { ⌜ (3 ≤ n) × (n ≤ 1024) × (c < n) × (length (now near) ≡ 1025) × SmallKeys (now keys) ⌝ }
     requires { ⌜ ((x : ℕ) → getD (now near) x 0 ≡ 0) ⌝ }
     ensures { λ _. ⌜ Near n (edgesOf (now (keys .entry))) c (now (near .exit)) ⌝ }
 {

@@ -3,7 +3,7 @@ use mathlib.Core.Path.{_≡_, refl, ap, sym, _∙_}
 use mathlib.Core.List.{List, _++_}
 use Prim.Native.Nat.{ℕ, zero, suc, _<_}
 use lib.ListN.{take, drop}
-use Rattle.lists.proofs.Lists.{choose-yes, choose-no}
+use Rattle.lists.proofs.Lists.{choose-no, choose-yes}
 use Rattle.codec.specs.Answer.{Answer, written, answered}
 use Rattle.codec.specs.declared.Written.{Written}
 use Rattle.codec.specs.declared.Written.the-variants.{Bytes, Refused}
@@ -11,16 +11,16 @@ use Rattle.codec.proofs.Answers.{bytes-left}
 use Rattle.edit.specs.Rules.{Edit, flip}
 use Rattle.edit.specs.Calls.{edited, called}
 use Rattle.edit_list.specs.declared.Stand.{Stand}
-use Rattle.edit_list.specs.Script.{roomAt, editOf, editAt}
+use Rattle.edit_list.specs.Script.{roomAt, editBy, editAt}
 use Rattle.edit_list.specs.Desk.{placed, Desk, deskOf, other, buffer, answerOf, answeredDesk, deskStep}
-use Rattle.edit_list.specs.Steps.{numberOf, sizeOf, Lent, Stepped}
+use Rattle.edit_list.specs.Steps.{writtenNumber, writtenSize, Lent, Stepped}
 
 -- the number and the length of an answer do not depend on the lent bytes
-answer-number : (w : Written) (out : List ℕ) → answered w out .number ≡ numberOf w
+answer-number : (w : Written) (out : List ℕ) → answered w out .number ≡ writtenNumber w
 answer-number (Bytes k) out = refl
 answer-number (Refused k) out = refl
 
-answer-size : (w : Written) (out : List ℕ) → answered w out .size ≡ sizeOf w
+answer-size : (w : Written) (out : List ℕ) → answered w out .size ≡ writtenSize w
 answer-size (Bytes k) out = refl
 answer-size (Refused k) out = refl
 
@@ -59,11 +59,11 @@ module _ (first : List ℕ) where
   desk-same d p s f b = rw (p, s, f, b)
 
   -- what the code keeps: the sheet lies in the other buffer if the number is 0, else where it lay
-  module _ (d : Desk) (x : Edit × ℕ) (w : Written) (front back : List ℕ) (L : Lent first d x w front back) (r : Stand) (small : r .number < 65536) (same : r .number ≡ numberOf w) where
+  module _ (d : Desk) (x : Edit × ℕ) (w : Written) (front back : List ℕ) (L : Lent first d x w front back) (r : Stand) (small : r .number < 65536) (same : r .number ≡ writtenNumber w) where
     stepped : r .place ≡ deskStep first d x .place → r .size ≡ deskStep first d x .size → Stepped first d x r front back
     stepped p s = record { desk-after = desk-same (deskStep first d x) p s (L .front-after) (L .back-after); number-given = same ∙ L .answer-number; number-fits = small }
 
-    pub stepped-taken : r .number ≡ 0 → r .place ≡ other (d .place) → r .size ≡ sizeOf w → Stepped first d x r front back
+    pub stepped-taken : r .number ≡ 0 → r .place ≡ other (d .place) → r .size ≡ writtenSize w → Stepped first d x r front back
     unfolding deskStep answeredDesk
     stepped-taken z p s =
         let n : answerOf first d x .number ≡ 0 = sym (same ∙ L .answer-number) ∙ z in
@@ -82,8 +82,8 @@ other-else zero h = refl
 other-else (suc zero) h = absurd (h refl)
 other-else (suc (suc k)) h = refl
 
-pub edit-else : (kind a b : ℕ) → ¬ (kind ≡ 0) → ¬ (kind ≡ 1) → editOf kind a b ≡ flip a b
-unfolding editOf
+pub edit-else : (kind a b : ℕ) → ¬ (kind ≡ 0) → ¬ (kind ≡ 1) → editBy kind a b ≡ flip a b
+unfolding editBy
 edit-else zero a b h g = absurd (h refl)
 edit-else (suc zero) a b h g = absurd (g refl)
 edit-else (suc (suc k)) a b h g = refl

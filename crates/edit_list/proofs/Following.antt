@@ -4,11 +4,11 @@ use mathlib.Core.List.{List, _∷_, map}
 use Prim.Native.Nat.{ℕ, _≤_, _<_}
 use native.Mathlib.Decide.{ℕ-discrete}
 use lib.ListN.{length}
-use Rattle.lists.specs.Lists.{All, all-nil, all-cons, choose}
+use Rattle.lists.specs.Lists.{All, all-cons, all-nil, choose}
 use Rattle.polygon.specs.Polygon.{Polygon}
 use Rattle.sheet.specs.Sheet.{readSheet, held}
 use Rattle.edit.specs.Rules.{Edit}
-use Rattle.edit.specs.Model.{numbers, modelSheet}
+use Rattle.edit.specs.Model.{modelNumbers, modelSheet}
 use Rattle.edit.specs.Calls.{lent, answers, sheetLeft}
 use Rattle.edit.proofs.List.{list-of-edits}
 use Rattle.edit_list.specs.Script.{scriptOf, faultOf}
@@ -27,7 +27,7 @@ pub record Calling (first : List ℕ) (d : Desk) (xs : List (Edit × ℕ)) : Typ
   pub call-sheet : sheetLeft (current first d) (callsOf first d xs) ≡ current first (deskAfter first d xs)
   pub call-edits : map lent (callsOf first d xs) ≡ xs
 
-pub calling : (first : List ℕ) {front back : ℕ} (d : Desk) {xs : List (Edit × ℕ)} → Sound front back d → All (λ x. (x .1 ≤ front) × (x .1 ≤ back)) xs → Calling first d xs
+calling : (first : List ℕ) {front back : ℕ} (d : Desk) {xs : List (Edit × ℕ)} → Sound front back d → All (λ x. (x .1 ≤ front) × (x .1 ≤ back)) xs → Calling first d xs
 unfolding answers sheetLeft deskAfter numbersOf callsOf answerOf
 calling first d D all-nil = record { call-numbers = refl; call-sheet = refl; call-edits = refl }
 calling first d D (all-cons {x} {l} s a) =
@@ -47,15 +47,15 @@ finished-model first list front back outs p bytes e f =
     let C = calling first d (begin-sound first front back) (script-rooms list _ _ (fault-rooms list (length front) (length back) (length outs) f)) in
     let F = list-of-edits first p bytes e (callsOf first d (scriptOf list)) in
     record {
-      same-numbers = ap (λ (ns : List ℕ). numbered ns outs) (sym (C .call-numbers) ∙ (F .same-numbers ∙ ap (numbers p) (C .call-edits)));
+      same-numbers = ap (λ (ns : List ℕ). numbered ns outs) (sym (C .call-numbers) ∙ (F .same-numbers ∙ ap (modelNumbers p) (C .call-edits)));
       same-sheet = sym (C .call-sheet) ∙ (F .same-sheet ∙ ap (modelSheet first p) (C .call-edits));
     }
 
--- a run that is not refused is the plain part's
-pub result-model : (first list front back outs : List ℕ) (p : Polygon) → All (λ b. b < 256) first → readSheet first ≡ held p → resultOf first list front back outs .number ≡ 0
+-- THE LIST OF EDITS, RUN. From a first sheet of bytes that holds p, a run that is not refused writes the plain part's numbers and leaves the plain part's sheet.
+pub run-follows : (first list front back outs : List ℕ) (p : Polygon) → All (λ b. b < 256) first → readSheet first ≡ held p → resultOf first list front back outs .number ≡ 0
     → AsModel first p list outs (resultOf first list front back outs)
 unfolding resultOf choose
-result-model first list front back outs p bytes e = go _ (finished-model first list front back outs p bytes e) (ℕ-discrete _ 0)
+run-follows first list front back outs p bytes e = go _ (finished-model first list front back outs p bytes e) (ℕ-discrete _ 0)
   where
     go : (k : ℕ) → (k ≡ 0 → AsModel first p list outs (finished first list front back outs)) → (d : Dec (k ≡ 0))
         → choose d (finished first list front back outs) (unchanged k front back outs) .number ≡ 0 → AsModel first p list outs (choose d (finished first list front back outs) (unchanged k front back outs))
@@ -64,4 +64,4 @@ result-model first list front back outs p bytes e = go _ (finished-model first l
 
 pub ran-model : (first list front back outs : List ℕ) (r : Result) → r ≡ resultOf first list front back outs → All (λ b. b < 256) first
     → (p : Polygon) → readSheet first ≡ held p → r .number ≡ 0 → AsModel first p list outs r
-ran-model first list front back outs r q bytes p e z = rw q (result-model first list front back outs p bytes e (rw q at z))
+ran-model first list front back outs r q bytes p e z = rw q (run-follows first list front back outs p bytes e (rw q at z))

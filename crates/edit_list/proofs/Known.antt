@@ -5,14 +5,14 @@ use mathlib.Core.List.{List, [], _∷_}
 use Prim.Native.Nat.{ℕ}
 use native.Mathlib.Decide.{decLe, decLt, ℕ-discrete}
 use lib.ListN.{replicate}
-use Rattle.lists.specs.Lists.{All, all-nil, all-cons, choose, put, keep, numbers, below, not?, either?, all?, sorted?, mem?}
+use Rattle.lists.specs.Lists.{All, all-cons, all-nil, all?, below, choose, either?, keep, mem?, not?, numbers, put, sorted?}
 use Rattle.polygon.specs.Order.{before?, same?, cross?, none-cross?, diagonal?, distinct?, place, insert, remove, sort, lower-first}
 use Rattle.codec.specs.Numbers.{run16}
 use Rattle.codec.specs.Answer.{fit, written}
 use Rattle.sheet.specs.Sheet.{ask, pairs, partNumber, count?, more, readSheet, pairBytes, numberBytes, numberBit, mapByte, normalSheet, outcome}
 use Rattle.edit.specs.Rules.{up, both, entering, earAdded, away?, side?, linked?, joined?, common, enter, flipped, rule}
 use Rattle.edit.specs.Calls.{onHeld, edited, called}
-use Rattle.edit_list.specs.Script.{editOf, editAt, edits, scriptOf, kinds?, rooms?, test, faultOf}
+use Rattle.edit_list.specs.Script.{editBy, editAt, edits, scriptOf, kinds?, rooms?, test, faultOf}
 use Rattle.edit_list.specs.Desk.{placed, other, answerOf, answeredDesk, deskStep, deskAfter, numbersOf}
 use Rattle.edit_list.specs.Result.{numbered, finished, resultOf}
 
@@ -39,7 +39,10 @@ pub known-run : resultOf square turns (replicate 13 7) (replicate 14 8) (replica
       back = 3 ∷ 0 ∷ 4 ∷ 0 ∷ 0 ∷ 0 ∷ 2 ∷ 8 ∷ 8 ∷ 8 ∷ 8 ∷ 8 ∷ 8 ∷ 8 ∷ [];
       outs = 0 ∷ 0 ∷ 0 ∷ 0 ∷ 0 ∷ 0 ∷ 0 ∷ 12 ∷ 9 ∷ [];
     }
-unfolding resultOf finished numbered scriptOf edits editAt editOf faultOf test kinds? rooms? deskAfter deskStep numbersOf answerOf answeredDesk placed other called edited onHeld outcome written fit run16 rule ask up both entering earAdded away? side? linked? joined? common enter flipped readSheet pairs partNumber count? more pairBytes numberBytes numberBit mapByte normalSheet Dec·and decLe decLt ℕ-discrete choose put keep numbers below not? either? all? sorted? mem? before? same? cross? none-cross? diagonal? distinct? place insert remove sort lower-first
+unfolding resultOf finished numbered scriptOf edits editAt editBy faultOf test kinds? rooms? deskAfter deskStep numbersOf answerOf answeredDesk placed other
+    called edited onHeld outcome written fit run16 rule ask up both entering earAdded away? side? linked? joined? common enter flipped readSheet pairs partNumber
+    count? more pairBytes numberBytes numberBit mapByte normalSheet Dec·and decLe decLt ℕ-discrete choose put keep numbers below not? either? all? sorted? mem?
+    before? same? cross? none-cross? diagonal? distinct? place insert remove sort lower-first
 known-run = refl
 
 -- a list, the lengths of the front buffer, the back buffer and the output for the numbers, and the number of the first test that fails, or 0

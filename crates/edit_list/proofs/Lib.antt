@@ -5,4 +5,3 @@ pub mod Following
 pub mod Running
 pub mod Packing
 pub mod Known
-pub mod Theorems

@@ -13,7 +13,7 @@ use Rattle.edit_list.specs.declared.Ran.{Ran}
 use Rattle.edit_list.specs.declared.Ran.the-variants.{Done, Refused}
 use Rattle.edit_list.specs.Script.{count, editAt, scriptOf, faultOf}
 use Rattle.edit_list.specs.Desk.{placed, Desk, begin, other, current, buffer, answerOf, answeredDesk, deskStep, deskAfter}
-use Rattle.edit_list.specs.Result.{Result, finished, unchanged, ranOf, resultOf, packedRun, RunReadsBack, Told, Tellable}
+use Rattle.edit_list.specs.Result.{Result, finished, unchanged, ranOf, resultOf, packedRun, RunReadsBack, SmallRun, Tellable}
 use Rattle.edit_list.proofs.Tests.{edits-all}
 use Rattle.edit_list.proofs.Within.{written-within}
 use Rattle.edit_list.proofs.Running.{refusals}
@@ -34,24 +34,24 @@ module _ (first : List ℕ) where
   unfolding answerOf called
   answer-size d x = omega (arith, written-within (edited (x .0) (current first d)) (take (x .1) (buffer d)) .0, length-take (x .1) (buffer d))
 
-  step-told : (d : Desk) (x : Edit × ℕ) → x .1 < 4294967296 → Told (d .place) (d .size) → Told (deskStep first d x .place) (deskStep first d x .size)
+  step-told : (d : Desk) (x : Edit × ℕ) → x .1 < 4294967296 → SmallRun (d .place) (d .size) → SmallRun (deskStep first d x .place) (deskStep first d x .size)
   unfolding deskStep answeredDesk choose
   step-told d x h T = go (ℕ-discrete (answerOf first d x .number) 0)
     where
-      go : (n : Dec (answerOf first d x .number ≡ 0)) → Told (choose n (other (d .place)) (d .place)) (choose n (answerOf first d x .size) (d .size))
+      go : (n : Dec (answerOf first d x .number ≡ 0)) → SmallRun (choose n (other (d .place)) (d .place)) (choose n (answerOf first d x .size) (d .size))
       go (yes p) = (other-told (d .place), λ q. omega (arith, answer-size d x))
       go (no p) = T
 
-  after-told : (d : Desk) {xs : List (Edit × ℕ)} → All (λ (x : Edit × ℕ). x .1 < 4294967296) xs → Told (d .place) (d .size) → Told (deskAfter first d xs .place) (deskAfter first d xs .size)
+  after-told : (d : Desk) {xs : List (Edit × ℕ)} → All (λ (x : Edit × ℕ). x .1 < 4294967296) xs → SmallRun (d .place) (d .size) → SmallRun (deskAfter first d xs .place) (deskAfter first d xs .size)
   unfolding deskAfter
   after-told d all-nil T = T
   after-told d (all-cons {x} h a) T = after-told (deskStep first d x) a (step-told d x h T)
 
-  pub result-told : (list front back outs : List ℕ) → All (λ b. b < 256) list → Told (resultOf first list front back outs .place) (resultOf first list front back outs .size)
+  pub result-told : (list front back outs : List ℕ) → All (λ b. b < 256) list → SmallRun (resultOf first list front back outs .place) (resultOf first list front back outs .size)
   unfolding resultOf choose finished
   result-told list front back outs bytes = go (faultOf list (length front) (length back) (length outs)) (ℕ-discrete _ 0)
     where
-      go : (k : ℕ) (d : Dec (k ≡ 0)) → let r = choose d (finished first list front back outs) (unchanged k front back outs) in Told (r .place) (r .size)
+      go : (k : ℕ) (d : Dec (k ≡ 0)) → let r = choose d (finished first list front back outs) (unchanged k front back outs) in SmallRun (r .place) (r .size)
       go k (yes z) = after-told (begin first front back) (lends-small list bytes) (omega arith, λ q. absurd (q refl))
       go k (no z) = (omega arith, λ q. absurd (q refl))
 
@@ -67,7 +67,7 @@ in-buffer (suc zero) size p = refl
 in-buffer (suc (suc k)) size p = refl
 
 -- so the result is read back from its number
-run-back : (r : Result) → r .number < 65536 → Told (r .place) (r .size) → RunReadsBack r
+run-back : (r : Result) → r .number < 65536 → SmallRun (r .place) (r .size) → RunReadsBack r
 run-back r n T = go (ℕ-discrete (r .place) 0)
   where
     go : Dec (r .place ≡ 0) → RunReadsBack r
@@ -92,10 +92,10 @@ run-reads-back first list front back outs bytes = run-back (resultOf first list 
 
 -- from the result to the code's answer
 module _ (r : Ran) (front back outs : List ℕ) where
-  pub tellable : {s : Result} → ranOf r front back outs ≡ s → Told (s .place) (s .size) → Tellable r
+  pub tellable : {s : Result} → ranOf r front back outs ≡ s → SmallRun (s .place) (s .size) → Tellable r
   tellable e T = go r (rw e T)
     where
-      go : (r : Ran) → Told (ranOf r front back outs .place) (ranOf r front back outs .size) → Tellable r
+      go : (r : Ran) → SmallRun (ranOf r front back outs .place) (ranOf r front back outs .size) → Tellable r
       go (Done place size) T = T
       go (Refused k) T = tt
 
@@ -108,7 +108,7 @@ module _ (r : Ran) (front back outs : List ℕ) where
       go (Refused k) = (refl, (refl, refl))
 
 -- the three cases in one number
-pub told-fits : (r : Ran) (place size : ℕ) → Tellable r → r ≡ Done place size → Told place size
+pub told-fits : (r : Ran) (place size : ℕ) → Tellable r → r ≡ Done place size → SmallRun place size
 told-fits r place size t e = rw e at t
 
 pub packed-first : (r : Ran) (place size : ℕ) → r ≡ Done place size → place ≡ 0 → (front back outs : List ℕ) → 0 ≡ packedRun (ranOf r front back outs)
@@ -118,6 +118,6 @@ packed-first r place size e p front back outs = rw (e, p) refl
 pub packed-buffer : (r : Ran) (place size : ℕ) → r ≡ Done place size → ¬ (place ≡ 0) → (front back outs : List ℕ) → place * 65536 + size * 4294967296 ≡ packedRun (ranOf r front back outs)
 packed-buffer r place size e p front back outs = let l = in-buffer place size p in rw e (omega arith)
 
-pub packed-refused : (r : Ran) (k : ℕ) → r ≡ Refused k → (front back outs : List ℕ) → k ≡ packedRun (ranOf r front back outs)
+pub packed-no-run : (r : Ran) (k : ℕ) → r ≡ Refused k → (front back outs : List ℕ) → k ≡ packedRun (ranOf r front back outs)
 unfolding placed
-packed-refused r k e front back outs = rw e (omega arith)
+packed-no-run r k e front back outs = rw e (omega arith)

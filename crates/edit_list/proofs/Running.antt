@@ -9,7 +9,7 @@ use native.Mathlib.Omega.{arith}
 use lib.ListN.{length}
 use lib.Seq.{sets, length-sets}
 use Rattle.lists.specs.Lists.{choose}
-use Rattle.lists.proofs.Lists.{choose-yes, choose-no}
+use Rattle.lists.proofs.Lists.{choose-no, choose-yes}
 use Rattle.lists.proofs.Places.{below-at}
 use Rattle.lists.proofs.Stores.{sets-front}
 use Rattle.codec.specs.Numbers.{bytes16, run16}

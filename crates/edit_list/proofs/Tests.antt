@@ -6,8 +6,8 @@ use Prim.Native.Nat.{ℕ, zero, suc, _+_, _*_, _%_, _≤_, _<_}
 use native.Mathlib.Decide.{decLe, ℕ-discrete}
 use native.Mathlib.Omega.{arith}
 use lib.ListN.{length}
-use Rattle.lists.specs.Lists.{All, all-nil, all-cons, choose}
-use Rattle.lists.proofs.Lists.{choose-yes, choose-no}
+use Rattle.lists.specs.Lists.{All, all-cons, all-nil, choose}
+use Rattle.lists.proofs.Lists.{choose-no, choose-yes}
 use Rattle.lists.proofs.Places.{below-at}
 use Rattle.edit.specs.Rules.{Edit}
 use Rattle.edit_list.specs.Script.{count, editAt, edits, scriptOf, Kinds, Rooms, kinds?, rooms?, test, faultOf}

@@ -1,27 +1,25 @@
 -- Lengths on a desk: an answer is no longer than what was lent, the buffers keep their lengths, and the next edit reads what the last taken one wrote.
 use mathlib.Core.Path.{_≡_, refl, sym, _∙_}
+use mathlib.Core.Logic.{inl, inr}
 use mathlib.Core.List.{List, _++_}
 use Prim.Native.Nat.{ℕ, zero, suc, _≤_}
-use native.Mathlib.Decide.{decLe, ℕ-discrete}
+use native.Mathlib.Decide.{ℕ-discrete}
 use native.Mathlib.Omega.{arith}
 use lib.ListN.{length, take, drop, length-append, length-drop}
 use lib.Seq.{length-take-le, length-front, take-append-le}
 use Rattle.lists.specs.Lists.{choose}
-use Rattle.codec.specs.Answer.{Outcome, refuse, write, Answer, fit, written}
+use Rattle.codec.specs.Answer.{Outcome, refuse, write, Answer, written}
+use Rattle.codec.proofs.Answers.{written-is}
 use Rattle.edit.specs.Rules.{Edit}
 use Rattle.edit.specs.Calls.{edited, called, sheetAfter}
 use Rattle.edit_list.specs.Desk.{placed, Desk, deskOf, current, other, buffer, answerOf, answeredDesk, deskStep}
-use Rattle.edit_list.specs.Steps.{Lies, Spacious}
+use Rattle.edit_list.specs.Steps.{SheetLies, Spacious}
 
 -- an answer is no longer than the output, and keeps the output's length
 pub written-within : (o : Outcome) (out : List ℕ) → (written o out .size ≤ length out) × (length (written o out .bytes) ≡ length out)
-unfolding written fit
+unfolding written
 written-within (refuse k) out = (omega arith, refl)
-written-within (write bs) out = go (decLe (length bs) (length out))
-  where
-    go : (d : Dec (length bs ≤ length out)) → (fit d bs out .size ≤ length out) × (length (fit d bs out .bytes) ≡ length out)
-    go (yes p) = (p, simp (length-append, length-drop) (omega arith))
-    go (no p) = (omega arith, refl)
+written-within (write bs) out = elim (written-is bs out) [ inl w ↦ rw (w .1) (w .0, simp (length-append, length-drop) (omega arith)) | inr w ↦ rw (w .1) (omega arith, refl) ]
 
 -- the buffer has the length to lend
 lent-length : (place room : ℕ) (front back : List ℕ) → room ≤ length front → room ≤ length back → length (take room (placed place front back front)) ≡ room
@@ -68,11 +66,11 @@ module _ (place size room : ℕ) (front back : List ℕ) (a : Answer) (S : Spaci
       go (suc zero) = length-refilled back (S .1)
       go (suc (suc k)) = refl
 
-  lies-still : Lies (deskOf place size front back) → Lies (answeredDesk (deskOf place size front back) room a)
+  lies-still : SheetLies (deskOf place size front back) → SheetLies (answeredDesk (deskOf place size front back) room a)
   unfolding answeredDesk choose
   lies-still l = go (ℕ-discrete (a .number) 0)
     where
-      go : (n : Dec (a .number ≡ 0)) → Lies (deskOf (choose n (other place) place) (choose n (a .size) size) (answeredDesk (deskOf place size front back) room a .front) (answeredDesk (deskOf place size front back) room a .back))
+      go : (n : Dec (a .number ≡ 0)) → SheetLies (deskOf (choose n (other place) place) (choose n (a .size) size) (answeredDesk (deskOf place size front back) room a .front) (answeredDesk (deskOf place size front back) room a .back))
       go (yes p) q = (omega (arith, front-kept, W .size-within, S .0), omega (arith, back-kept, W .size-within, S .1))
       go (no p) q = (omega (arith, front-kept, l q .0), omega (arith, back-kept, l q .1))
 
@@ -94,7 +92,7 @@ module _ (place size room : ℕ) (front back : List ℕ) (a : Answer) (S : Spaci
 pub record Sound (front back : ℕ) (d : Desk) : Type 0 where
   pub front-length : length (d .front) ≡ front
   pub back-length : length (d .back) ≡ back
-  pub lies : Lies d
+  pub lies : SheetLies d
 
 module _ (first : List ℕ) {front back : ℕ} (d : Desk) (x : Edit × ℕ) (D : Sound front back d) (S : (x .1 ≤ front) × (x .1 ≤ back)) where
   pub spacious : Spacious (x .1) d

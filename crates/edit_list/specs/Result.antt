@@ -8,7 +8,7 @@ use Rattle.lists.specs.Lists.{choose}
 use Rattle.polygon.specs.Polygon.{Polygon}
 use Rattle.codec.specs.Numbers.{run16}
 use Rattle.codec.specs.Unpacked.{numberIn, placeIn, leftIn, OneNumber}
-use Rattle.edit.specs.Model.{numbers, modelSheet}
+use Rattle.edit.specs.Model.{modelNumbers, modelSheet}
 use Rattle.edit_list.specs.declared.Ran.{Ran}
 use Rattle.edit_list.specs.declared.Ran.the-variants.{Done, Refused}
 use Rattle.edit_list.specs.Script.{scriptOf, faultOf}
@@ -54,7 +54,7 @@ ranOf (Refused k) front back outs = unchanged k front back outs
 
 -- the numbers written are the plain part's, and the sheet left is the plain part's, from a first sheet that holds p
 pub record AsModel (first : List ℕ) (p : Polygon) (list outs : List ℕ) (r : Result) : Type 0 where
-  pub same-numbers : r .outs ≡ numbered (numbers p (scriptOf list)) outs
+  pub same-numbers : r .outs ≡ numbered (modelNumbers p (scriptOf list)) outs
   pub same-sheet : sheetAt (r .place) (r .size) first (r .front) (r .back) ≡ modelSheet first p (scriptOf list)
 
 -- the result in one number, for C: the number in the low 16 bits, the place in the next 16, the length above them; that of the first sheet is not told
@@ -71,9 +71,9 @@ pub record RunReadsBack (r : Result) : Type 0 where
   pub one-number : OneNumber (packedRun r)
 
 -- the place and the length are small enough for that
-abbrev pub Told : ℕ → ℕ → Type 0
-Told place size = (place ≤ 2) × (¬ (place ≡ 0) → size < 4294967296)
+abbrev pub SmallRun : ℕ → ℕ → Type 0
+SmallRun place size = (place ≤ 2) × (¬ (place ≡ 0) → size < 4294967296)
 
 abbrev pub Tellable : Ran → Type 0
-Tellable (Done place size) = Told place size
+Tellable (Done place size) = SmallRun place size
 Tellable (Refused k) = Unit {0}

@@ -9,7 +9,7 @@ use mathlib.Core.List.{List, [], _∷_}
 use Prim.Native.Nat.{ℕ, zero, suc, _+_, _*_, _/_, _%_, _≤_}
 use native.Mathlib.Decide.{decLe, ℕ-discrete}
 use lib.ListN.{length, getD}
-use Rattle.lists.specs.Lists.{All, choose, below, all?}
+use Rattle.lists.specs.Lists.{All, all?, below, choose}
 use Rattle.codec.specs.Numbers.{get32}
 use Rattle.edit.specs.Rules.{Edit, addEar, removeEar, flip}
 
@@ -25,14 +25,14 @@ abbrev pub roomAt : List ℕ → ℕ → ℕ
 roomAt s i = get32 s (i * 13 + 9)
 
 -- an edit by its kind and its numbers
-unfoldable pub editOf : ℕ → ℕ → ℕ → Edit
-editOf zero a b = addEar a
-editOf (suc zero) a b = removeEar a
-editOf (suc (suc k)) a b = flip a b
+unfoldable pub editBy : ℕ → ℕ → ℕ → Edit
+editBy zero a b = addEar a
+editBy (suc zero) a b = removeEar a
+editBy (suc (suc k)) a b = flip a b
 
 -- edit i, and the k edits from it on, each with the length that it lends
 unfoldable pub editAt : List ℕ → ℕ → Edit × ℕ
-editAt s i = (editOf (kindAt s i) (get32 s (i * 13 + 1)) (get32 s (i * 13 + 5)), roomAt s i)
+editAt s i = (editBy (kindAt s i) (get32 s (i * 13 + 1)) (get32 s (i * 13 + 5)), roomAt s i)
 
 unfoldable pub edits : List ℕ → ℕ → ℕ → List (Edit × ℕ)
 edits s i zero = []

@@ -10,15 +10,15 @@ use Rattle.edit_list.specs.declared.Stand.{Stand}
 use Rattle.edit_list.specs.Desk.{Desk, deskOf, answerOf, deskStep}
 
 -- the number and the length of an answer
-abbrev pub numberOf : Written → ℕ
-numberOf w = answered w [] .number
+abbrev pub writtenNumber : Written → ℕ
+writtenNumber w = answered w [] .number
 
-abbrev pub sizeOf : Written → ℕ
-sizeOf w = answered w [] .size
+abbrev pub writtenSize : Written → ℕ
+writtenSize w = answered w [] .size
 
 -- a sheet that lies in a buffer is no longer than either buffer
-abbrev pub Lies : Desk → Type 0
-Lies d = ¬ (d .place ≡ 0) → (d .size ≤ length (d .front)) × (d .size ≤ length (d .back))
+abbrev pub SheetLies : Desk → Type 0
+SheetLies d = ¬ (d .place ≡ 0) → (d .size ≤ length (d .front)) × (d .size ≤ length (d .back))
 
 -- either buffer has `room` bytes
 abbrev pub Spacious : ℕ → Desk → Type 0
@@ -26,8 +26,8 @@ Spacious room d = (room ≤ length (d .front)) × (room ≤ length (d .back))
 
 -- an edit on the desk d: the code's answer w, and the buffers afterwards
 pub record Lent (first : List ℕ) (d : Desk) (x : Edit × ℕ) (w : Written) (front back : List ℕ) : Type 0 where
-  pub answer-number : numberOf w ≡ answerOf first d x .number
-  pub answer-size : sizeOf w ≡ answerOf first d x .size
+  pub answer-number : writtenNumber w ≡ answerOf first d x .number
+  pub answer-size : writtenSize w ≡ answerOf first d x .size
   pub front-after : front ≡ deskStep first d x .front
   pub back-after : back ≡ deskStep first d x .back
 

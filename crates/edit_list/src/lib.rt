@@ -10,7 +10,7 @@ ghost use Rattle.edit.specs.Tables.{editOf};
 ghost use Rattle.edit_list.specs.Script.{count, editAt, scriptOf, roomAt, Kinds, Rooms};
 ghost use Rattle.edit_list.specs.Desk.{deskOf, begin, other, deskAfter, numbersOf};
 ghost use Rattle.edit_list.specs.Result.{AsModel, numbered, ranOf, resultOf};
-ghost use Rattle.edit_list.specs.Steps.{numberOf, sizeOf, Lies, Spacious, Lent, Stepped};
+ghost use Rattle.edit_list.specs.Steps.{writtenNumber, writtenSize, SheetLies, Spacious, Lent, Stepped};
 use codec::Written;
 use codec::get32;
 use codec::put16;
@@ -91,7 +91,7 @@ fn lend(
     e: Edit,
     room: usize,
 ) -> Written
-    requires { ⌜ Lies (deskOf place size (now front) (now back)) ⌝ }
+    requires { ⌜ SheetLies (deskOf place size (now front) (now back)) ⌝ }
     requires { ⌜ Spacious room (deskOf place size (now front) (now back)) ⌝ }
     ensures { λ r. ⌜ Lent (now (first .entry)) (deskOf place size (now (front .entry)) (now (back .entry)))
         (editOf e, room) r (now (front .exit)) (now (back .exit)) ⌝ }
@@ -106,7 +106,7 @@ fn lend(
 }
 
 fn number_of(w: Written) -> usize
-    ensures { λ r. ⌜ (r ≡ numberOf w) × (r < 65536) ⌝ }
+    ensures { λ r. ⌜ (r ≡ writtenNumber w) × (r < 65536) ⌝ }
 {
     match w {
         Written::Bytes(_) => 0,
@@ -115,7 +115,7 @@ fn number_of(w: Written) -> usize
 }
 
 fn size_of(w: Written) -> usize
-    ensures { λ r. ⌜ r ≡ sizeOf w ⌝ }
+    ensures { λ r. ⌜ r ≡ writtenSize w ⌝ }
 {
     match w {
         Written::Bytes(k) => k,
@@ -144,7 +144,7 @@ fn step(
     size: usize,
 ) -> Stand
     requires { ⌜ i < count (now list) ⌝ }
-    requires { ⌜ Lies (deskOf place size (now front) (now back)) ⌝ }
+    requires { ⌜ SheetLies (deskOf place size (now front) (now back)) ⌝ }
     requires { ⌜ Spacious (roomAt (now list) i) (deskOf place size (now front) (now back)) ⌝ }
     ensures { λ r. ⌜ Stepped (now (first .entry)) (deskOf place size (now (front .entry)) (now (back .entry)))
         (editAt (now (list .entry)) i) r (now (front .exit)) (now (back .exit)) ⌝ }

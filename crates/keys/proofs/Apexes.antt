@@ -8,8 +8,8 @@ use native.Mathlib.Numerals.{add-one}
 use native.Mathlib.Omega.{arith}
 use lib.ListN.{length, take, drop, set, getD, length-set, length-map, List·getD-map}
 use lib.Seq.{split-at, take-suc, take-all, append-snoc, getD-set-same, getD-set-other}
-use Rattle.lists.specs.Lists.{All, Sorted, sorted-nil, sorted-cons}
-use Rattle.lists.proofs.Lists.{here, mem-right, all-left, all-mem}
+use Rattle.lists.specs.Lists.{All, Sorted, sorted-cons, sorted-nil}
+use Rattle.lists.proofs.Lists.{all-left, all-mem, here, mem-right}
 use Rattle.lists.proofs.Places.{table-next}
 use Rattle.polygon.specs.Polygon.{Edge, _—_, Ascending, Diagonal}
 use Rattle.polygon.specs.Tree.{far}

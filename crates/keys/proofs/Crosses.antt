@@ -4,7 +4,7 @@ use mathlib.Core.List.{List}
 use Prim.Native.Nat.{ℕ, _+_, _/_, _%_, _<_}
 use native.Mathlib.Omega.{arith}
 use lib.ListN.{length, getD, length-map}
-use Rattle.lists.proofs.Places.{at-all, all-at}
+use Rattle.lists.proofs.Places.{all-at, at-all}
 use Rattle.polygon.specs.Polygon.{_—_, NoneCross, Diagonal}
 use Rattle.polygon.specs.Tree.{far}
 use Rattle.polygon.proofs.Far.{far-ok}

@@ -7,7 +7,7 @@ use native.Mathlib.Numerals.{add-one}
 use native.Mathlib.Omega.{arith}
 use lib.ListN.{length, take, set, getD, length-set}
 use lib.Seq.{take-suc, take-suc-set, take-all, length-take-le}
-use Rattle.lists.specs.Lists.{Mem, head, tail, put, keep, not?}
+use Rattle.lists.specs.Lists.{Mem, head, keep, not?, put, tail}
 use Rattle.lists.proofs.Lists.{keep-append}
 use Rattle.polygon.specs.Polygon.{Edge}
 use Rattle.polygon.specs.Order.{same?, remove}

@@ -8,20 +8,20 @@ use native.Mathlib.Omega.{arith}
 use lib.ListN.{length, getD, set}
 use lib.Seq.{getD-set-same, getD-set-other}
 use Rattle.polygon.specs.Tree.{Tree, node}
-use Rattle.tree.specs.declared.Piece.{Piece}
+use Rattle.tree.specs.declared.Root.{Root}
 use Rattle.tree.specs.declared.Two.{Two}
-use Rattle.tree.specs.Shows.{Shows, beyond}
+use Rattle.tree.specs.Table.{TreeAt, beyond}
 use Rattle.tree.proofs.Pieces.{Parts, opened, closed}
 use Rattle.levels.specs.Numbered.{Deep, flat, Grows, Leaves, Passed, begun, left, right}
 use Rattle.levels.proofs.Storing.{grows-on, grows-self, leaves-grow}
 use Rattle.levels.proofs.Passing.{passed-grows}
 
 -- from the piece p the piece x is reached, after k places of the path
-pub record Descending (tr ds₀ path₀ : List ℕ) (from : ℕ) (p : Piece) (ds path : List ℕ) (x : Piece) (k : ℕ) : Type 0 where
+pub record Descending (tr ds₀ path₀ : List ℕ) (from : ℕ) (p : Root) (ds path : List ℕ) (x : Root) (k : ℕ) : Type 0 where
   pub t₀ : Tree
   pub t : Tree
-  pub whole : Shows tr (p .e) (p .u) (p .v) t₀
-  pub shows : Shows tr (x .e) (x .u) (x .v) t
+  pub whole : TreeAt tr (p .e) (p .u) (p .v) t₀
+  pub shows : TreeAt tr (x .e) (x .u) (x .v) t
   pub passed : Passed tr ds path from (p .e) t₀ k (x .e) t
   pub grows : Grows tr ds₀ ds
   pub leaves : Leaves tr ds
@@ -31,7 +31,7 @@ pub record Descending (tr ds₀ path₀ : List ℕ) (from : ℕ) (p : Piece) (ds
   pub started : from ≤ k
   pub fits : k + (x .v - x .u) ≤ from + (p .v - p .u)
 
-pub descending-begins : (tr ds path : List ℕ) (from : ℕ) (p : Piece) (t : Tree) → Shows tr (p .e) (p .u) (p .v) t → Leaves tr ds → length ds ≡ 12270 → length path ≡ 1024 → Descending tr ds path from p ds path p from
+pub descending-begins : (tr ds path : List ℕ) (from : ℕ) (p : Root) (t : Tree) → TreeAt tr (p .e) (p .u) (p .v) t → Leaves tr ds → length ds ≡ 12270 → length path ≡ 1024 → Descending tr ds path from p ds path p from
 descending-begins tr ds path from p t s l h i = record {
   t₀ = t;
   t = t;
@@ -48,7 +48,7 @@ descending-begins tr ds path from p t s l h i = record {
 }
 
 -- the tables after the smaller part y, with the tree s, has its numbers; k places of the path are taken
-pub record Dealt (tr ds path ds′ path′ : List ℕ) (k : ℕ) (y : Piece) (s : Tree) : Type 0 where
+pub record Dealt (tr ds path ds′ path′ : List ℕ) (k : ℕ) (y : Root) (s : Tree) : Type 0 where
   pub grows : Grows tr ds ds′
   pub deep : Deep tr ds′ (y .e) s
   pub kept : (j : ℕ) → j < k → getD path′ j 0 ≡ getD path j 0
@@ -56,36 +56,36 @@ pub record Dealt (tr ds path ds′ path′ : List ℕ) (k : ℕ) (y : Piece) (s 
   pub path-room : length path′ ≡ 1024
 
 -- a side has them
-pub side-deep : {tr ds : List ℕ} {e u v : ℕ} {s : Tree} → Shows tr e u v s → v ≤ u + 1 → Leaves tr ds → Deep tr ds e s
+pub side-deep : {tr ds : List ℕ} {e u v : ℕ} {s : Tree} → TreeAt tr e u v s → v ≤ u + 1 → Leaves tr ds → Deep tr ds e s
 side-deep {e = e} {u} {v} x o l = let q = closed x o in rw q (flat (l .sides e u v (rw q at x)))
 
-pub dealt-side : {tr ds : List ℕ} {y : Piece} {s : Tree} (path : List ℕ) (k : ℕ) → Shows tr (y .e) (y .u) (y .v) s → y .v ≤ y .u + 1 → Leaves tr ds → length ds ≡ 12270 → length path ≡ 1024 → Dealt tr ds path ds path k y s
+pub dealt-side : {tr ds : List ℕ} {y : Root} {s : Tree} (path : List ℕ) (k : ℕ) → TreeAt tr (y .e) (y .u) (y .v) s → y .v ≤ y .u + 1 → Leaves tr ds → length ds ≡ 12270 → length path ≡ 1024 → Dealt tr ds path ds path k y s
 dealt-side path k x o l h i = record { grows = grows-self; deep = side-deep x o l; kept = λ j q. refl; room = h; path-room = i }
 
 -- the two parts of the piece reached, the one to be gone into second
-pub record Halves (tr ds₀ path₀ : List ℕ) (from : ℕ) (p : Piece) (ds path : List ℕ) (x : Piece) (k : ℕ) (b : Two) : Type 0 where
+pub record Halves (tr ds₀ path₀ : List ℕ) (from : ℕ) (p : Root) (ds path : List ℕ) (x : Root) (k : ℕ) (b : Two) : Type 0 where
   pub small : Tree
   pub large : Tree
-  pub shows-small : Shows tr (b .left .e) (b .left .u) (b .left .v) small
-  pub shows-large : Shows tr (b .right .e) (b .right .u) (b .right .v) large
+  pub shows-small : TreeAt tr (b .left .e) (b .left .u) (b .left .v) small
+  pub shows-large : TreeAt tr (b .right .e) (b .right .u) (b .right .v) large
   pub wide-small : b .left .u < b .left .v
   pub wide-large : b .right .u < b .right .v
   pub both : (b .left .v - b .left .u) + (b .right .v - b .right .u) ≡ x .v - x .u
   pub on : (ds′ path′ : List ℕ) → Dealt tr ds (set path k (x .e)) ds′ path′ (k + 1) (b .left) small → Descending tr ds₀ path₀ from p ds′ path′ (b .right) (k + 1)
 
-module _ {tr ds₀ path₀ : List ℕ} {from : ℕ} {p : Piece} {ds path : List ℕ} {x : Piece} {k : ℕ} (D : Descending tr ds₀ path₀ from p ds path x k) (apart : x .u + 1 < x .v) (fits : from + (p .v - p .u) ≤ 1024) where
+module _ {tr ds₀ path₀ : List ℕ} {from : ℕ} {p : Root} {ds path : List ℕ} {x : Root} {k : ℕ} (D : Descending tr ds₀ path₀ from p ds path x k) (apart : x .u + 1 < x .v) (fits : from + (p .v - p .u) ≤ 1024) where
   d : Parts tr (x .e) (x .u) (x .v) (D .t)
   d = opened (D .shows) apart
 
   -- the way further down, when the smaller part has its numbers
-  module _ {ds′ path′ : List ℕ} {y : Piece} {s : Tree} (S : Dealt tr ds (set path k (x .e)) ds′ path′ (k + 1) y s) where
+  module _ {ds′ path′ : List ℕ} {y : Root} {s : Tree} (S : Dealt tr ds (set path k (x .e)) ds′ path′ (k + 1) y s) where
     at-x : getD path′ k 0 ≡ x .e
     at-x = S .kept k (omega arith) ∙ getD-set-same path k (x .e) 0 (omega (arith, D .path-room, D .fits))
 
     before : (j : ℕ) → j < k → getD path′ j 0 ≡ getD path j 0
     before j h = S .kept j (omega arith) ∙ getD-set-other path k j (x .e) 0 (λ e. omega arith)
 
-    down : (z : Piece) (t : Tree) → Shows tr (z .e) (z .u) (z .v) t → Passed tr ds′ path′ from (p .e) (D .t₀) (k + 1) (z .e) t → (z .v - z .u) + 1 ≤ x .v - x .u → Descending tr ds₀ path₀ from p ds′ path′ z (k + 1)
+    down : (z : Root) (t : Tree) → TreeAt tr (z .e) (z .u) (z .v) t → Passed tr ds′ path′ from (p .e) (D .t₀) (k + 1) (z .e) t → (z .v - z .u) + 1 ≤ x .v - x .u → Descending tr ds₀ path₀ from p ds′ path′ z (k + 1)
     down z t a b w = record {
       t₀ = D .t₀;
       t = t;
@@ -104,7 +104,7 @@ module _ {tr ds₀ path₀ : List ℕ} {from : ℕ} {p : Piece} {ds path : List 
     passed-on : Passed tr ds′ path′ from (p .e) (D .t₀) k (x .e) (node (d .l) (d .r))
     passed-on = passed-grows (S .grows) before (rw (d .is) at (D .passed))
 
-    shows-on : Shows tr (x .e) (x .u) (x .v) (node (d .l) (d .r))
+    shows-on : TreeAt tr (x .e) (x .u) (x .v) (node (d .l) (d .r))
     shows-on = rw (d .is) at (D .shows)
 
     next : k + 1 ≡ suc k

@@ -5,28 +5,28 @@ use Prim.Native.Nat.{ℕ, _+_, _-_, _<_, _≤_}
 use native.Mathlib.Omega.{arith}
 use Rattle.polygon.specs.Tree.{Tree, node}
 use Rattle.umbrella.specs.Numbers.{ud}
-use Rattle.tree.specs.Shows.{apexAt, rightAt}
+use Rattle.tree.specs.Table.{apexAt, rightEdge}
 use Rattle.tree.proofs.Pieces.{Parts, opened}
-use Rattle.levels.specs.Numbered.{six, sixAt, Deep, deep, Known}
+use Rattle.levels.specs.Numbered.{six, sixAt, Deep, deep, Tabled}
 use Rattle.levels.proofs.Storing.{deep-root}
 
-pub record KnownParts (tr ds : List ℕ) (e u v : ℕ) (t : Tree) : Type 0 where
+pub record TabledParts (tr ds : List ℕ) (e u v : ℕ) (t : Tree) : Type 0 where
   pub parts : Parts tr e u v t
-  pub known-l : Known tr ds (e - 1) u (apexAt tr e) (parts .l)
-  pub known-r : Known tr ds (rightAt tr e) (apexAt tr e) v (parts .r)
+  pub known-l : Tabled tr ds (e - 1) u (apexAt tr e) (parts .l)
+  pub known-r : Tabled tr ds (rightEdge tr e) (apexAt tr e) v (parts .r)
   pub tall : 1 ≤ ud (node (parts .l) (parts .r))
   pub six-t : sixAt ds e ≡ six (node (parts .l) (parts .r))
   pub six-l : sixAt ds (e - 1) ≡ six (parts .l)
-  pub six-r : sixAt ds (rightAt tr e) ≡ six (parts .r)
+  pub six-r : sixAt ds (rightEdge tr e) ≡ six (parts .r)
 
-pub known-parts : {tr ds : List ℕ} {e u v : ℕ} {t : Tree} → Known tr ds e u v t → u + 1 < v → KnownParts tr ds e u v t
+pub tabled-parts : {tr ds : List ℕ} {e u v : ℕ} {t : Tree} → Tabled tr ds e u v t → u + 1 < v → TabledParts tr ds e u v t
 unfolding ud
-known-parts {tr} {ds} {e} {u} {v} {t} k h = of (opened (k .shows) h) (k .deep)
+tabled-parts {tr} {ds} {e} {u} {v} {t} k h = of (opened (k .shows) h) (k .deep)
   where
     tall : (l r : Tree) → 1 ≤ ud (node l r)
     tall l r = omega arith
 
-    with-deep : (d : Parts tr e u v t) → Deep tr ds e (node (d .l) (d .r)) → KnownParts tr ds e u v t
+    with-deep : (d : Parts tr e u v t) → Deep tr ds e (node (d .l) (d .r)) → TabledParts tr ds e u v t
     with-deep d (deep s x y) = record {
       parts = d;
       known-l = record { shows = d .shows-l; deep = x };
@@ -37,5 +37,5 @@ known-parts {tr} {ds} {e} {u} {v} {t} k h = of (opened (k .shows) h) (k .deep)
       six-r = deep-root y;
     }
 
-    of : (d : Parts tr e u v t) → Deep tr ds e t → KnownParts tr ds e u v t
+    of : (d : Parts tr e u v t) → Deep tr ds e t → TabledParts tr ds e u v t
     of d x = with-deep d (rw (d .is) at x)

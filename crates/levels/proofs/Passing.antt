@@ -6,15 +6,15 @@ use Prim.Native.Nat.{ℕ, suc, _+_, _-_, _<_, _≤_, max}
 use native.Mathlib.Omega.{arith}
 use lib.ListN.{length, getD}
 use Rattle.polygon.specs.Tree.{Tree, node, span}
-use Rattle.tree.specs.Shows.{rightAt, Shows, triangle}
+use Rattle.tree.specs.Table.{rightEdge, TreeAt, triangle}
 use Rattle.tree.proofs.Pieces.{ends, inside}
 use Rattle.levels.specs.Numbered.{six, join, sixAt, withSix, Deep, deep, Grows, Passed, begun, left, right, Rising}
 use Rattle.levels.proofs.Storing.{six-node, join-fits, six-same, deep-root, deep-grows, store-grows}
 
-shows-left : {tr : List ℕ} {e u v : ℕ} {l r : Tree} → Shows tr e u v (node l r) → (w : ℕ) × Shows tr (e - 1) u w l
+shows-left : {tr : List ℕ} {e u v : ℕ} {l r : Tree} → TreeAt tr e u v (node l r) → (w : ℕ) × TreeAt tr (e - 1) u w l
 shows-left (triangle i h k q x y) = (_, x)
 
-shows-right : {tr : List ℕ} {e u v : ℕ} {l r : Tree} → Shows tr e u v (node l r) → (w : ℕ) × Shows tr (rightAt tr e) w v r
+shows-right : {tr : List ℕ} {e u v : ℕ} {l r : Tree} → TreeAt tr e u v (node l r) → (w : ℕ) × TreeAt tr (rightEdge tr e) w v r
 shows-right (triangle i h k q x y) = (_, y)
 
 -- the piece whose edge stands at j of the path, and its two parts
@@ -25,10 +25,10 @@ pub record Turn (tr ds path : List ℕ) (from e₀ : ℕ) (t₀ : Tree) (j : ℕ
   pub l : Tree
   pub r : Tree
   pub at : getD path j 0 ≡ e
-  pub shows : Shows tr e u v (node l r)
+  pub shows : TreeAt tr e u v (node l r)
   pub passed : Passed tr ds path from e₀ t₀ j e (node l r)
   pub deep-l : Deep tr ds (e - 1) l
-  pub deep-r : Deep tr ds (rightAt tr e) r
+  pub deep-r : Deep tr ds (rightEdge tr e) r
 
 module _ {tr ds path : List ℕ} {from e₀ : ℕ} {t₀ : Tree} where
   -- where the numbers of more pieces are right, and the path is written further on
@@ -50,23 +50,23 @@ module _ {tr ds path : List ℕ} {from e₀ : ℕ} {t₀ : Tree} where
           record { e = e; u = u; v = v; l = l; r = r; at = ap (λ (n : ℕ). getD path n 0) (sym q) ∙ y; shows = x; passed = rw q at s; deep-l = a; deep-r = d }
 
   module _ {j : ℕ} (T : Turn tr ds path from e₀ t₀ j) (room : length ds ≡ 12270) where
-    pub turn-places : (1 ≤ T .e) × (T .e < 2045) × (rightAt tr (T .e) < 2045)
+    pub turn-places : (1 ≤ T .e) × (T .e < 2045) × (rightEdge tr (T .e) < 2045)
     turn-places = go (T .shows)
       where
-        go : {e u v : ℕ} {l r : Tree} → Shows tr e u v (node l r) → (1 ≤ e) × (e < 2045) × (rightAt tr e < 2045)
+        go : {e u v : ℕ} {l r : Tree} → TreeAt tr e u v (node l r) → (1 ≤ e) × (e < 2045) × (rightEdge tr e < 2045)
         go (triangle i h k q x y) = (i, h, inside y)
 
-    pub turn-fits : max (sixAt ds (T .e - 1) .«part_a») (sixAt ds (rightAt tr (T .e)) .«fan_b») < 1024
+    pub turn-fits : max (sixAt ds (T .e - 1) .«part_a») (sixAt ds (rightEdge tr (T .e)) .«fan_b») < 1024
     turn-fits = join-fits (T .l) (T .r) (deep-root (T .deep-l)) (deep-root (T .deep-r)) (wide (T .shows))
       where
-        wide : {e u v : ℕ} {l r : Tree} → Shows tr e u v (node l r) → span l + span r < 1024
+        wide : {e u v : ℕ} {l r : Tree} → TreeAt tr e u v (node l r) → span l + span r < 1024
         wide (triangle i h k q x y) = omega (arith, ends x, ends y)
 
-    numbers : join (sixAt ds (T .e - 1)) (sixAt ds (rightAt tr (T .e))) ≡ six (node (T .l) (T .r))
+    numbers : join (sixAt ds (T .e - 1)) (sixAt ds (rightEdge tr (T .e))) ≡ six (node (T .l) (T .r))
     numbers = ap₂ join (deep-root (T .deep-l)) (deep-root (T .deep-r)) ∙ sym (six-node (T .l) (T .r))
 
     -- its numbers are stored
-    module _ (ds′ : List ℕ) (is : ds′ ≡ withSix ds (T .e) (join (sixAt ds (T .e - 1)) (sixAt ds (rightAt tr (T .e))))) where
+    module _ (ds′ : List ℕ) (is : ds′ ≡ withSix ds (T .e) (join (sixAt ds (T .e - 1)) (sixAt ds (rightEdge tr (T .e))))) where
       stored : ds′ ≡ withSix ds (T .e) (six (node (T .l) (T .r)))
       stored = is ∙ ap (withSix ds (T .e)) numbers
 
@@ -76,7 +76,7 @@ module _ {tr ds path : List ℕ} {from e₀ : ℕ} {t₀ : Tree} where
       pub turn-rises : Rising tr ds′ path from e₀ t₀ j
       turn-rises = record { e = T .e; t = node (T .l) (T .r); passed = passed-grows turn-grows (λ i h. refl) (T .passed); deep = parts (T .shows) }
         where
-          parts : {u v : ℕ} → Shows tr (T .e) u v (node (T .l) (T .r)) → Deep tr ds′ (T .e) (node (T .l) (T .r))
+          parts : {u v : ℕ} → TreeAt tr (T .e) u v (node (T .l) (T .r)) → Deep tr ds′ (T .e) (node (T .l) (T .r))
           parts (triangle i h k q x y) = deep (ap (λ (x : List ℕ). sixAt x (T .e)) stored ∙ six-same ds (T .e) _ (omega arith)) (deep-grows turn-grows x (T .deep-l)) (deep-grows turn-grows y (T .deep-r))
 
   -- at the place where the path begins the way is back

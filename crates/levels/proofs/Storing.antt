@@ -2,7 +2,7 @@
 -- Rests on the theorems of the crate umbrella, and on Pieces.antt of the crate tree.
 use mathlib.Core.Path.{_≡_, _∙_, ap}
 use mathlib.Core.List.{List}
-use Prim.Native.Nat.{ℕ, _+_, _*_, _-_, _<_, _≤_, max}
+use Prim.Native.Nat.{ℕ, _+_, _*_, _<_, _≤_, max}
 use native.Mathlib.Decide.{ℕ-discrete}
 use native.Mathlib.Numerals.{add-one}
 use native.Mathlib.Omega.{arith}
@@ -13,7 +13,7 @@ use Rattle.umbrella.specs.Numbers.{ud}
 use Rattle.umbrella.specs.Best.{best}
 use Rattle.umbrella.proofs.Inequalities.{inequalities}
 use Rattle.umbrella.proofs.Theorems.{computed-has, umbrellas-bound}
-use Rattle.tree.specs.Shows.{Shows, side, triangle}
+use Rattle.tree.specs.Table.{TreeAt, side, triangle}
 use Rattle.tree.proofs.Pieces.{one-piece, inside}
 use Rattle.levels.specs.declared.Six.{Six}
 use Rattle.levels.specs.Numbered.{six, join, sixAt, withSix, Deep, flat, deep, Grows, Leaves}
@@ -50,15 +50,24 @@ module _ (ds : List ℕ) (e : ℕ) (s : Six) where
   abbrev d₅ : List ℕ
   d₅ = set d₄ (6 * e + 4) (s .«part_a»)
 
-  -- places of other edges
+  -- places that nothing is stored at from the sixth number on, from the fifth on, .., from the first on
+  from-sixth : (i : ℕ) → ¬ ((6 * e + 5 ≤ i) × (i < 6 * e + 6)) → getD (withSix ds e s) i 0 ≡ getD d₅ i 0
+  from-sixth i o = getD-set-other d₅ (6 * e + 5) i _ 0 (λ q. o (omega arith))
+
+  from-fifth : (i : ℕ) → ¬ ((6 * e + 4 ≤ i) × (i < 6 * e + 6)) → getD (withSix ds e s) i 0 ≡ getD d₄ i 0
+  from-fifth i o = from-sixth i (λ h. o (omega arith)) ∙ getD-set-other d₄ (6 * e + 4) i _ 0 (λ q. o (omega arith))
+
+  from-fourth : (i : ℕ) → ¬ ((6 * e + 3 ≤ i) × (i < 6 * e + 6)) → getD (withSix ds e s) i 0 ≡ getD d₃ i 0
+  from-fourth i o = from-fifth i (λ h. o (omega arith)) ∙ getD-set-other d₃ (6 * e + 3) i _ 0 (λ q. o (omega arith))
+
+  from-third : (i : ℕ) → ¬ ((6 * e + 2 ≤ i) × (i < 6 * e + 6)) → getD (withSix ds e s) i 0 ≡ getD d₂ i 0
+  from-third i o = from-fourth i (λ h. o (omega arith)) ∙ getD-set-other d₂ (6 * e + 2) i _ 0 (λ q. o (omega arith))
+
+  from-second : (i : ℕ) → ¬ ((6 * e + 1 ≤ i) × (i < 6 * e + 6)) → getD (withSix ds e s) i 0 ≡ getD d₁ i 0
+  from-second i o = from-third i (λ h. o (omega arith)) ∙ getD-set-other d₁ (6 * e + 1) i _ 0 (λ q. o (omega arith))
+
   other-place : (i : ℕ) → ¬ ((6 * e ≤ i) × (i < 6 * e + 6)) → getD (withSix ds e s) i 0 ≡ getD ds i 0
-  other-place i o =
-      getD-set-other d₅ (6 * e + 5) i _ 0 (λ q. o (omega arith))
-      ∙ (getD-set-other d₄ (6 * e + 4) i _ 0 (λ q. o (omega arith))
-      ∙ (getD-set-other d₃ (6 * e + 3) i _ 0 (λ q. o (omega arith))
-      ∙ (getD-set-other d₂ (6 * e + 2) i _ 0 (λ q. o (omega arith))
-      ∙ (getD-set-other d₁ (6 * e + 1) i _ 0 (λ q. o (omega arith))
-      ∙ (getD-set-other ds (6 * e) i _ 0 (λ q. o (omega arith)))))))
+  other-place i o = from-second i (λ h. o (omega arith)) ∙ getD-set-other ds (6 * e) i _ 0 (λ q. o (omega arith))
 
   pub six-other : (f : ℕ) → ¬ (f ≡ e) → sixAt (withSix ds e s) f ≡ sixAt ds f
   six-other f o = λ i. record {
@@ -72,25 +81,14 @@ module _ (ds : List ℕ) (e : ℕ) (s : Six) where
 
   -- its own places: a number is not overwritten by those stored after it
   pub six-same : 6 * e + 6 ≤ length ds → sixAt (withSix ds e s) e ≡ s
-  six-same room = λ i. record { ud = at-0 i; handle = at-1 i; «fan_a» = at-2 i; «fan_b» = at-3 i; «part_a» = at-4 i; «part_b» = at-5 i }
-    where
-      at-0 : getD (withSix ds e s) (6 * e) 0 ≡ s .ud
-      at-0 = getD-set-other d₅ (6 * e + 5) (6 * e) _ 0 (λ q. omega arith) ∙ (getD-set-other d₄ (6 * e + 4) (6 * e) _ 0 (λ q. omega arith) ∙ (getD-set-other d₃ (6 * e + 3) (6 * e) _ 0 (λ q. omega arith) ∙ (getD-set-other d₂ (6 * e + 2) (6 * e) _ 0 (λ q. omega arith) ∙ (getD-set-other d₁ (6 * e + 1) (6 * e) _ 0 (λ q. omega arith) ∙ (getD-set-same ds (6 * e) _ 0 (omega arith))))))
-
-      at-1 : getD (withSix ds e s) (6 * e + 1) 0 ≡ s .handle
-      at-1 = getD-set-other d₅ (6 * e + 5) (6 * e + 1) _ 0 (λ q. omega arith) ∙ (getD-set-other d₄ (6 * e + 4) (6 * e + 1) _ 0 (λ q. omega arith) ∙ (getD-set-other d₃ (6 * e + 3) (6 * e + 1) _ 0 (λ q. omega arith) ∙ (getD-set-other d₂ (6 * e + 2) (6 * e + 1) _ 0 (λ q. omega arith) ∙ (getD-set-same d₁ (6 * e + 1) _ 0 (simp length-set (omega arith))))))
-
-      at-2 : getD (withSix ds e s) (6 * e + 2) 0 ≡ s .«fan_a»
-      at-2 = getD-set-other d₅ (6 * e + 5) (6 * e + 2) _ 0 (λ q. omega arith) ∙ (getD-set-other d₄ (6 * e + 4) (6 * e + 2) _ 0 (λ q. omega arith) ∙ (getD-set-other d₃ (6 * e + 3) (6 * e + 2) _ 0 (λ q. omega arith) ∙ (getD-set-same d₂ (6 * e + 2) _ 0 (simp length-set (omega arith)))))
-
-      at-3 : getD (withSix ds e s) (6 * e + 3) 0 ≡ s .«fan_b»
-      at-3 = getD-set-other d₅ (6 * e + 5) (6 * e + 3) _ 0 (λ q. omega arith) ∙ (getD-set-other d₄ (6 * e + 4) (6 * e + 3) _ 0 (λ q. omega arith) ∙ (getD-set-same d₃ (6 * e + 3) _ 0 (simp length-set (omega arith))))
-
-      at-4 : getD (withSix ds e s) (6 * e + 4) 0 ≡ s .«part_a»
-      at-4 = getD-set-other d₅ (6 * e + 5) (6 * e + 4) _ 0 (λ q. omega arith) ∙ (getD-set-same d₄ (6 * e + 4) _ 0 (simp length-set (omega arith)))
-
-      at-5 : getD (withSix ds e s) (6 * e + 5) 0 ≡ s .«part_b»
-      at-5 = getD-set-same d₅ (6 * e + 5) _ 0 (simp length-set (omega arith))
+  six-same room = λ i. record {
+    ud = (from-second (6 * e) (λ h. omega arith) ∙ getD-set-same ds (6 * e) _ 0 (omega arith)) i;
+    handle = (from-third (6 * e + 1) (λ h. omega arith) ∙ getD-set-same d₁ (6 * e + 1) _ 0 (simp length-set (omega arith))) i;
+    «fan_a» = (from-fourth (6 * e + 2) (λ h. omega arith) ∙ getD-set-same d₂ (6 * e + 2) _ 0 (simp length-set (omega arith))) i;
+    «fan_b» = (from-fifth (6 * e + 3) (λ h. omega arith) ∙ getD-set-same d₃ (6 * e + 3) _ 0 (simp length-set (omega arith))) i;
+    «part_a» = (from-sixth (6 * e + 4) (λ h. omega arith) ∙ getD-set-same d₄ (6 * e + 4) _ 0 (simp length-set (omega arith))) i;
+    «part_b» = getD-set-same d₅ (6 * e + 5) (s .«part_b») 0 (simp length-set (omega arith)) i;
+  }
 
 module _ {tr ds : List ℕ} where
   -- what the root of a piece has
@@ -98,7 +96,7 @@ module _ {tr ds : List ℕ} where
   deep-root (flat h) = h
   deep-root (deep h x y) = h
 
-  pub deep-grows : {ds′ : List ℕ} {e u v : ℕ} {t : Tree} → Grows tr ds ds′ → Shows tr e u v t → Deep tr ds e t → Deep tr ds′ e t
+  pub deep-grows : {ds′ : List ℕ} {e u v : ℕ} {t : Tree} → Grows tr ds ds′ → TreeAt tr e u v t → Deep tr ds e t → Deep tr ds′ e t
   deep-grows g (side {e} {u} {v} h k p q) (flat d) = flat (g .right e u v leaf (side h k p q) d)
   deep-grows g (triangle {e} {u} {v} {l} {r} i h k q x y) (deep d a b) = deep (g .right e u v (node l r) (triangle {l = l} {r = r} i h k q x y) d) (deep-grows g x a) (deep-grows g y b)
 
@@ -112,10 +110,10 @@ module _ {tr ds : List ℕ} where
   grows-self = record { right = λ e u v t s h. h }
 
 -- a place shows one piece only, so storing its numbers harms none that are right
-pub store-grows : {tr : List ℕ} {e u v : ℕ} {t : Tree} (ds : List ℕ) → length ds ≡ 12270 → Shows tr e u v t → Grows tr ds (withSix ds e (six t))
+pub store-grows : {tr : List ℕ} {e u v : ℕ} {t : Tree} (ds : List ℕ) → length ds ≡ 12270 → TreeAt tr e u v t → Grows tr ds (withSix ds e (six t))
 store-grows {tr} {e} {t = t} ds room s = record { right = λ f u′ v′ t′ s′ h. go f u′ v′ t′ s′ h (ℕ-discrete f e) }
   where
-    go : (f u′ v′ : ℕ) (t′ : Tree) → Shows tr f u′ v′ t′ → sixAt ds f ≡ six t′ → Dec (f ≡ e) → sixAt (withSix ds e (six t)) f ≡ six t′
+    go : (f u′ v′ : ℕ) (t′ : Tree) → TreeAt tr f u′ v′ t′ → sixAt ds f ≡ six t′ → Dec (f ≡ e) → sixAt (withSix ds e (six t)) f ≡ six t′
     go f u′ v′ t′ s′ h (yes q) = ap (sixAt (withSix ds e (six t))) q ∙ (six-same ds e (six t) (omega (arith, inside s)) ∙ ap six (one-piece s (rw q at s′)))
     go f u′ v′ t′ s′ h (no q) = six-other ds e (six t) f q ∙ h
 

@@ -7,8 +7,8 @@ use Rattle.polygon.specs.Tree.{Tree, leaf, node}
 use Rattle.umbrella.specs.Numbers.{ud, handle, fanA, fanB, partA, partB}
 use Rattle.polygon.specs.Edges.{edges}
 use Rattle.keys.specs.Keys.{edgesOf}
-use Rattle.tree.specs.declared.Piece.{Piece}
-use Rattle.tree.specs.Shows.{rightAt, Shows, Whole}
+use Rattle.tree.specs.declared.Root.{Root}
+use Rattle.tree.specs.Table.{rightEdge, TreeAt, Whole}
 use Rattle.levels.specs.declared.Six.{Six}
 
 abbrev pub six : Tree → Six
@@ -42,23 +42,23 @@ withSix ds e s = set (set (set (set (set (set ds (6 * e) (s .ud)) (6 * e + 1) (s
 -- every edge of the piece t at e has its numbers in the table
 pub data Deep (tr ds : List ℕ) : ℕ → Tree → Type 0 where
   flat : {e : ℕ} → sixAt ds e ≡ six leaf → Deep tr ds e leaf
-  deep : {e : ℕ} {l r : Tree} → sixAt ds e ≡ six (node l r) → Deep tr ds (e - 1) l → Deep tr ds (rightAt tr e) r → Deep tr ds e (node l r)
+  deep : {e : ℕ} {l r : Tree} → sixAt ds e ≡ six (node l r) → Deep tr ds (e - 1) l → Deep tr ds (rightEdge tr e) r → Deep tr ds e (node l r)
 
 -- numbers that are right in the table ds are right in the table ds′
 pub record Grows (tr ds ds′ : List ℕ) : Type 0 where
-  pub right : (e u v : ℕ) (t : Tree) → Shows tr e u v t → sixAt ds e ≡ six t → sixAt ds′ e ≡ six t
+  pub right : (e u v : ℕ) (t : Tree) → TreeAt tr e u v t → sixAt ds e ≡ six t → sixAt ds′ e ≡ six t
 
 -- those of the sides are right
 pub record Leaves (tr ds : List ℕ) : Type 0 where
-  pub sides : (e u v : ℕ) → Shows tr e u v leaf → sixAt ds e ≡ six leaf
+  pub sides : (e u v : ℕ) → TreeAt tr e u v leaf → sixAt ds e ≡ six leaf
 
 -- the table shows the piece t at e, and holds the numbers of each of its edges
-pub record Known (tr ds : List ℕ) (e u v : ℕ) (t : Tree) : Type 0 where
-  pub shows : Shows tr e u v t
+pub record Tabled (tr ds : List ℕ) (e u v : ℕ) (t : Tree) : Type 0 where
+  pub shows : TreeAt tr e u v t
   pub deep : Deep tr ds e t
 
 -- the tables of a part with n corners and the tree t, p being the whole part
-pub record Filled (n : ℕ) (t : Tree) (tr ds : List ℕ) (p : Piece) : Type 0 where
+pub record Filled (n : ℕ) (t : Tree) (tr ds : List ℕ) (p : Root) : Type 0 where
   pub kept : length tr ≡ 3072
   pub listed : edgesOf (take (2 * n - 3) tr) ≡ edges 0 t
   pub rest : (j : ℕ) → 2 * n - 3 ≤ j → j < 2048 → getD tr j 0 ≡ 0
@@ -69,8 +69,8 @@ pub record Filled (n : ℕ) (t : Tree) (tr ds : List ℕ) (p : Piece) : Type 0 w
 -- After k places of the path the piece t at e is reached.
 pub data Passed (tr ds path : List ℕ) (from e₀ : ℕ) (t₀ : Tree) : (k e : ℕ) → Tree → Type 0 where
   begun : {k e : ℕ} {t : Tree} → k ≡ from → e ≡ e₀ → t ≡ t₀ → Passed tr ds path from e₀ t₀ k e t
-  left : {j k e u v : ℕ} {l r : Tree} → k ≡ suc j → Passed tr ds path from e₀ t₀ j e (node l r) → Shows tr e u v (node l r) → getD path j 0 ≡ e → Deep tr ds (rightAt tr e) r → Passed tr ds path from e₀ t₀ k (e - 1) l
-  right : {j k e u v : ℕ} {l r : Tree} → k ≡ suc j → Passed tr ds path from e₀ t₀ j e (node l r) → Shows tr e u v (node l r) → getD path j 0 ≡ e → Deep tr ds (e - 1) l → Passed tr ds path from e₀ t₀ k (rightAt tr e) r
+  left : {j k e u v : ℕ} {l r : Tree} → k ≡ suc j → Passed tr ds path from e₀ t₀ j e (node l r) → TreeAt tr e u v (node l r) → getD path j 0 ≡ e → Deep tr ds (rightEdge tr e) r → Passed tr ds path from e₀ t₀ k (e - 1) l
+  right : {j k e u v : ℕ} {l r : Tree} → k ≡ suc j → Passed tr ds path from e₀ t₀ j e (node l r) → TreeAt tr e u v (node l r) → getD path j 0 ≡ e → Deep tr ds (e - 1) l → Passed tr ds path from e₀ t₀ k (rightEdge tr e) r
 
 -- the piece reached has its numbers
 pub record Rising (tr ds path : List ℕ) (from e₀ : ℕ) (t₀ : Tree) (k : ℕ) : Type 0 where

@@ -7,11 +7,11 @@ ghost use lib.ListN.{length, getD};
 ghost use Rattle.polygon.specs.Polygon.{Triangulated};
 ghost use Rattle.polygon.specs.Tree.{Tree, treeOf};
 ghost use Rattle.keys.specs.Keys.{edgesOf};
-ghost use Rattle.tree.specs.Shows.{rightAt, Shows, Shown};
+ghost use Rattle.tree.specs.Table.{rightEdge, TreeAt, SomeTreeAt};
 ghost use Rattle.levels.specs.Numbered.{join, sixAt, withSix, Leaves, Deep, Grows, Rising, Filled};
 use tree::LAST;
 use tree::PLACES;
-use tree::Piece;
+use tree::Root;
 use tree::Two;
 use tree::build;
 use tree::open;
@@ -95,10 +95,10 @@ fn store(depths: &mut [u16; NUMBERS], e: usize, s: Six)
 
 // Stores the numbers of the piece at an edge from those of its two parts.
 fn join_at(tree: &[u32; PLACES], depths: &mut [u16; NUMBERS], e: usize)
-    requires places { ⌜ (1 ≤ e) × (e < 2045) × (rightAt (now tree) e < 2045) ⌝ }
-    requires fits { ⌜ max (sixAt (now depths) (e - 1) .«part_a») (sixAt (now depths) (rightAt (now tree) e) .«fan_b») < 1024 ⌝ }
+    requires places { ⌜ (1 ≤ e) × (e < 2045) × (rightEdge (now tree) e < 2045) ⌝ }
+    requires fits { ⌜ max (sixAt (now depths) (e - 1) .«part_a») (sixAt (now depths) (rightEdge (now tree) e) .«fan_b») < 1024 ⌝ }
     ensures { λ _. ⌜ now (depths .exit) ≡ withSix (now (depths .entry)) e
-        (join (sixAt (now (depths .entry)) (e - 1)) (sixAt (now (depths .entry)) (rightAt (now (tree .entry)) e))) ⌝ }
+        (join (sixAt (now (depths .entry)) (e - 1)) (sixAt (now (depths .entry)) (rightEdge (now (tree .entry)) e))) ⌝ }
 {
     let c = (tree[e - 1] % 1024) as usize;
     let r = tree[LAST + c] as usize;
@@ -147,14 +147,14 @@ pub fn levels(
     depths: &mut [u16; NUMBERS],
     path: &mut [u16; CORNERS],
     from: usize,
-    p: Piece,
+    p: Root,
 )
-    requires shown { ⌜ Shown (now tree) p ⌝ }
+    requires shown { ⌜ SomeTreeAt (now tree) p ⌝ }
     requires room { ⌜ (from + (p .v - p .u) ≤ 1024) × (length (now depths) ≡ 12270) × (length (now path) ≡ 1024) ⌝ }
     requires sides { ⌜ Leaves (now tree) (now depths) ⌝ }
     ensures room { λ _. ⌜ (length (now (depths .exit)) ≡ 12270) × (length (now (path .exit)) ≡ 1024) ⌝ }
     ensures grows { λ _. ⌜ Grows (now (tree .entry)) (now (depths .entry)) (now (depths .exit)) ⌝ }
-    ensures deep { λ _. ⌜ ((t : Tree) → Shows (now (tree .entry)) (p .e) (p .u) (p .v) t → Deep (now (tree .entry)) (now (depths .exit)) (p .e) t) ⌝ }
+    ensures deep { λ _. ⌜ ((t : Tree) → TreeAt (now (tree .entry)) (p .e) (p .u) (p .v) t → Deep (now (tree .entry)) (now (depths .exit)) (p .e) t) ⌝ }
     ensures kept { λ _. ⌜ ((j : ℕ) → j < from → getD (now (path .exit)) j 0 ≡ getD (now (path .entry)) j 0) ⌝ }
 {
     let mut x = p;
@@ -173,7 +173,7 @@ pub fn levels(
 }
 
 // Fills the two tables of a part from the keys of its diagonals, and gives the whole part.
-pub fn fill(keys: &[u32], n: usize, tree: &mut [u32; PLACES], depths: &mut [u16; NUMBERS]) -> Piece
+pub fn fill(keys: &[u32], n: usize, tree: &mut [u32; PLACES], depths: &mut [u16; NUMBERS]) -> Root
     requires part { ⌜ Triangulated n (edgesOf (now keys)) × (n ≤ 1024) ⌝ }
     requires room { ⌜ (length (now tree) ≡ 3072) × (length (now depths) ≡ 12270) ⌝ }
     requires fresh { ⌜ ((i : ℕ) → getD (now tree) i 0 ≡ 0) × ((i : ℕ) → getD (now depths) i 0 ≡ 0) ⌝ }

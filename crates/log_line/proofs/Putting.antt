@@ -7,7 +7,6 @@ use native.Mathlib.Omega.{arith}
 use lib.ListN.{length, take, getD, set, length-append}
 use lib.Seq.{sets, length-sets, take-suc, length-take-le}
 use Rattle.lists.proofs.Stores.{sets-append}
-use Rattle.log_line.specs.Line.{decimal, partWord, cornersWord, levelsWord, umbrellasWord, stemsWord, rowsWord, columnsWord, refusedWord, numberWord, Facts, line, refusedLine}
 use Rattle.log_line.specs.Put.{Put}
 
 pub put-then : {xs ys o₀ o₁ o₂ : List ℕ} {a b c : ℕ} → Put xs o₀ a o₁ b → Put ys o₁ b o₂ c → Put (xs ++ ys) o₀ a o₂ c
@@ -25,15 +24,3 @@ pub word-next : (word out : List ℕ) (at i : ℕ) → i < length word → set (
 word-next word out at i h =
     let n : length (take i word) ≡ i = length-take-le i word (omega arith) in
     rw (add-one i, take-suc word i 0 h, sets-append (take i word) (getD word i 0 ∷ []) out at, n)
-
--- the words and numbers of a line, grouped as the code writes them, are the line
-pub line-put : (f : Facts) {o₀ o₁ : List ℕ} {a b : ℕ}
-    → Put (partWord ++ (numberWord (f .number) ++ ((cornersWord ++ decimal (f .corners)) ++ ((levelsWord ++ decimal (f .levels))
-    ++ ((umbrellasWord ++ decimal (f .umbrellas)) ++ ((stemsWord ++ decimal (f .stems)) ++ ((rowsWord ++ decimal (f .rows)) ++ ((columnsWord ++ decimal (f .columns)) ++ (10 ∷ []))))))))) o₀ a o₁ b
-    → Put (line f) o₀ a o₁ b
-unfolding line
-line-put f p = p
-
-pub refused-put : (k : ℕ) {o₀ o₁ : List ℕ} {a b : ℕ} → Put ((refusedWord ++ decimal k) ++ (10 ∷ [])) o₀ a o₁ b → Put (refusedLine k) o₀ a o₁ b
-unfolding refusedLine
-refused-put k p = p

@@ -6,7 +6,7 @@ use Prim.Native.Nat.{ℕ, zero, suc, _+_, _*_, _-_, _/_, _%_, _^_, _<_, _≤_}
 use native.Mathlib.Decide.{decLt}
 use native.Mathlib.Omega.{arith}
 use lib.ListN.{drop}
-use Rattle.lists.specs.Lists.{All, all-nil, all-cons}
+use Rattle.lists.specs.Lists.{All, all-cons, all-nil}
 use Rattle.lists.proofs.Lists.{all-append}
 use Rattle.log_line.specs.Line.{digits, decimal, numberWord, Facts, line}
 use Rattle.log_line.proofs.Digits.{digits-one, digits-last}
@@ -68,7 +68,7 @@ module _ (a b : ℕ) (h : a < 2 ^ 64) (k : b < 2 ^ 64) where
       (decimal-same (r .0), r .1)
 
 -- the numbers of a line have 64 bits
-pub record Small (f : Facts) : Type 0 where
+pub record SmallFacts (f : Facts) : Type 0 where
   pub corners : f .corners < 2 ^ 64
   pub levels : f .levels < 2 ^ 64
   pub umbrellas : f .umbrellas < 2 ^ 64
@@ -77,13 +77,13 @@ pub record Small (f : Facts) : Type 0 where
   pub columns : f .columns < 2 ^ 64
 
 -- what two lines that begin the same text tell
-pub record Told (f g : Facts) (xs ys : List ℕ) : Type 0 where
+pub record LineTold (f g : Facts) (xs ys : List ℕ) : Type 0 where
   pub corners : f .corners ≡ g .corners
   pub rows : f .rows ≡ g .rows
   pub columns : f .columns ≡ g .columns
   pub rest : xs ≡ ys
 
-pub line-told : (f g : Facts) (xs ys : List ℕ) → Small f → Small g → f .number ≡ none → g .number ≡ none → line f ++ xs ≡ line g ++ ys → Told f g xs ys
+pub line-told : (f g : Facts) (xs ys : List ℕ) → SmallFacts f → SmallFacts g → f .number ≡ none → g .number ≡ none → line f ++ xs ≡ line g ++ ys → LineTold f g xs ys
 unfolding line numberWord
 line-told f g xs ys F G p q e =
     let d = rw (p, q) at e in

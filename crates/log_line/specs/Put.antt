@@ -19,5 +19,5 @@ numberIf true k = some k
 numberIf false k = none
 
 -- what the code's facts stand for
-abbrev pub factsOf : Facts → line.Facts
-factsOf f = record { number = numberIf (f .numbered) (f .number); corners = f .corners; levels = f .levels; umbrellas = f .umbrellas; stems = f .stems; rows = f .rows; columns = f .columns }
+abbrev pub lineFacts : Facts → line.Facts
+lineFacts f = record { number = numberIf (f .numbered) (f .number); corners = f .corners; levels = f .levels; umbrellas = f .umbrellas; stems = f .stems; rows = f .rows; columns = f .columns }

@@ -3,7 +3,7 @@ ghost use mathlib.Core.List.{_++_};
 ghost use Prim.Native.Nat.{_+_, _<_, _≤_};
 ghost use lib.ListN.{length};
 ghost use Rattle.log_line.specs.Line.{digits, decimal, numberWord, line, refusedLine};
-ghost use Rattle.log_line.specs.Put.{Put, numberIf, factsOf};
+ghost use Rattle.log_line.specs.Put.{Put, numberIf, lineFacts};
 
 // What the line tells of a part.
 pub struct Facts {
@@ -69,7 +69,7 @@ fn put_number(out: &mut [u8], at: usize, numbered: bool, number: usize) -> usize
 // Writes the line of a part, and says how long it is.
 pub fn put_line(f: Facts, out: &mut [u8]) -> usize
     requires { ⌜ 256 ≤ length (now out) ⌝ }
-    ensures { λ r. ⌜ Put (line (factsOf f)) (now (out .entry)) 0 (now (out .exit)) r ⌝ }
+    ensures { λ r. ⌜ Put (line (lineFacts f)) (now (out .entry)) 0 (now (out .exit)) r ⌝ }
 {
     let a = put_word(out, 0, b"part ");
     let b = put_number(out, a, f.numbered, f.number);

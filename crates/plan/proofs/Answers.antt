@@ -24,5 +24,5 @@ totals-are t d s x p q = let k = q ∙ counted-best t d in rw (p, k, ← compute
 pub packed-counts : (p : Planned) (l u s : ℕ) → p ≡ Counts l u s → l * 65536 + u * 4294967296 + s * 281474976710656 ≡ packedPlan (plannedOf p)
 packed-counts p l u s e = rw e (omega arith)
 
-pub packed-refused : (p : Planned) (k : ℕ) → p ≡ Refused k → k ≡ packedPlan (plannedOf p)
-packed-refused p k e = rw e (omega arith)
+pub packed-no-plan : (p : Planned) (k : ℕ) → p ≡ Refused k → k ≡ packedPlan (plannedOf p)
+packed-no-plan p k e = rw e (omega arith)

@@ -13,38 +13,38 @@ use Rattle.umbrella.specs.declared.roles.Role.the-variants.{Hung, LeftRim, Righ
 use Rattle.umbrella.specs.declared.roles.Step.{Step}
 use Rattle.umbrella.specs.Roles.{isHung, stemStep, stepAt, stepOf}
 use Rattle.umbrella.proofs.Induction.{stem, by-recursion}
-use Rattle.plan.specs.Counts.{adds, atGate, total, counted}
+use Rattle.plan.specs.Counts.{adds, atGate, weight, counted}
 
 -- x for an umbrella and y for a stem
 module _ (x y : ℕ) where
-  -- the total at a triangle
-  hung-total : (d : ℕ) (l r : Tree) (k : ℕ) → ud (node l r) - 1 ≡ k → total x y Hung d (node l r) ≡ total x y LeftRim k l + total x y RightRim k r + x
-  unfolding total stepAt
+  -- the weight at a triangle
+  hung-total : (d : ℕ) (l r : Tree) (k : ℕ) → ud (node l r) - 1 ≡ k → weight x y Hung d (node l r) ≡ weight x y LeftRim k l + weight x y RightRim k r + x
+  unfolding weight stepAt
   hung-total d l r k e = rw e
 
-  own-total : (p : Role) (d : ℕ) (l r : Tree) (s : Step) → isHung p ≡ false → stepOf p d l r ≡ s → total x y p d (node l r) ≡ total x y (s .left) d l + total x y (s .right) d r + adds p x (atGate y (s .crossed))
-  unfolding total
+  own-total : (p : Role) (d : ℕ) (l r : Tree) (s : Step) → isHung p ≡ false → stepOf p d l r ≡ s → weight x y p d (node l r) ≡ weight x y (s .left) d l + weight x y (s .right) d r + adds p x (atGate y (s .crossed))
+  unfolding weight
   own-total Hung d l r s h e = absurd (true≢false h)
   own-total LeftRim d l r s h e = rw e
   own-total RightRim d l r s h e = rw e
   own-total FromLeft d l r s h e = rw e
   own-total FromRight d l r s h e = rw e
 
-  stem-total : (k : Bool) (d : ℕ) (l r : Tree) (s : Step) → stepOf (stem k) d l r ≡ s → total x y (stem k) d (node l r) ≡ total x y (s .left) d l + total x y (s .right) d r
+  stem-total : (k : Bool) (d : ℕ) (l r : Tree) (s : Step) → stepOf (stem k) d l r ≡ s → weight x y (stem k) d (node l r) ≡ weight x y (s .left) d l + weight x y (s .right) d r
   stem-total true d l r s e = own-total FromRight d l r s refl e ∙ omega arith
   stem-total false d l r s e = own-total FromLeft d l r s refl e ∙ omega arith
 
   -- a stem is counted at its first gate; the steps of the fold that x and y belong to
   module _ (bare stemmed : ℕ → ℕ) (bare-is : (n : ℕ) → bare n ≡ n + x) (stemmed-is : (n : ℕ) → stemmed n ≡ n + y + x) where
-    hung-is : (t : Tree) (d : ℕ) → total x y Hung d t ≡ fold _+_ bare stemmed (best t)
-    unfolding total fold stemStep
+    hung-is : (t : Tree) (d : ℕ) → weight x y Hung d t ≡ fold _+_ bare stemmed (best t)
+    unfolding weight fold stemStep
     hung-is = by-recursion (record {
-      Hung = λ t p. (d : ℕ) → total x y Hung d t ≡ fold _+_ bare stemmed p;
-      Left = λ d t A. total x y LeftRim d t ≡ foldLeft _+_ bare stemmed A;
-      LeftGated = λ d t G. total x y LeftRim d t ≡ foldLeftGate _+_ bare stemmed G + y;
-      Right = λ d t B. total x y RightRim d t ≡ foldRight _+_ bare stemmed B;
-      RightGated = λ d t G. total x y RightRim d t ≡ foldRightGate _+_ bare stemmed G + y;
-      Entered = λ k d t T. total x y (stem k) d t ≡ foldStem _+_ bare stemmed T;
+      Hung = λ t p. (d : ℕ) → weight x y Hung d t ≡ fold _+_ bare stemmed p;
+      Left = λ d t A. weight x y LeftRim d t ≡ foldLeft _+_ bare stemmed A;
+      LeftGated = λ d t G. weight x y LeftRim d t ≡ foldLeftGate _+_ bare stemmed G + y;
+      Right = λ d t B. weight x y RightRim d t ≡ foldRight _+_ bare stemmed B;
+      RightGated = λ d t G. weight x y RightRim d t ≡ foldRightGate _+_ bare stemmed G + y;
+      Entered = λ k d t T. weight x y (stem k) d t ≡ foldStem _+_ bare stemmed T;
     }) (record {
       empty = λ d. refl;
       bare = λ k l r A B h L R d. hung-total d l r k (omega (arith, h)) ∙ rw (bare-is, L, R);
@@ -66,25 +66,25 @@ module _ (x y : ℕ) where
     })
 
   -- a hung piece with no levels is a side
-  hung-side : (d : ℕ) (t : Tree) → ud t ≤ 0 → total x y Hung d t ≡ 0
-  unfolding total ud
+  hung-side : (d : ℕ) (t : Tree) → ud t ≤ 0 → weight x y Hung d t ≡ 0
+  unfolding weight ud
   hung-side d leaf h = refl
   hung-side d (node l r) h = absurd (omega arith)
 
   -- an umbrella with one level: sides are hung on it and beside its stem, which it has if a piece on its rim is no side
   abbrev OneLevel : Tree → Type 0
   OneLevel leaf = Unit {0}
-  OneLevel (node l r) = (d : ℕ) → ud (node l r) ≡ 1 → ((max (fanA l) (fanB r) ≡ 0) × (total x y Hung d (node l r) ≡ x)) ⊎ ((1 ≤ max (fanA l) (fanB r)) × (total x y Hung d (node l r) ≡ x + y))
+  OneLevel (node l r) = (d : ℕ) → ud (node l r) ≡ 1 → ((max (fanA l) (fanB r) ≡ 0) × (weight x y Hung d (node l r) ≡ x)) ⊎ ((1 ≤ max (fanA l) (fanB r)) × (weight x y Hung d (node l r) ≡ x + y))
 
   one-level : (t : Tree) → OneLevel t
-  unfolding total ud stemStep
+  unfolding weight ud stemStep
   one-level = by-recursion (record {
     Hung = λ t p. OneLevel t;
-    Left = λ d t A. d ≡ 0 → (fanA t ≡ 0) × (total x y LeftRim d t ≡ 0);
-    LeftGated = λ d t G. d ≡ 0 → (1 ≤ fanA t) × (total x y LeftRim d t ≡ y);
-    Right = λ d t B. d ≡ 0 → (fanB t ≡ 0) × (total x y RightRim d t ≡ 0);
-    RightGated = λ d t G. d ≡ 0 → (1 ≤ fanB t) × (total x y RightRim d t ≡ y);
-    Entered = λ k d t T. d ≡ 0 → (1 ≤ ud t) × (total x y (stem k) d t ≡ 0);
+    Left = λ d t A. d ≡ 0 → (fanA t ≡ 0) × (weight x y LeftRim d t ≡ 0);
+    LeftGated = λ d t G. d ≡ 0 → (1 ≤ fanA t) × (weight x y LeftRim d t ≡ y);
+    Right = λ d t B. d ≡ 0 → (fanB t ≡ 0) × (weight x y RightRim d t ≡ 0);
+    RightGated = λ d t G. d ≡ 0 → (1 ≤ fanB t) × (weight x y RightRim d t ≡ y);
+    Entered = λ k d t T. d ≡ 0 → (1 ≤ ud t) × (weight x y (stem k) d t ≡ 0);
   }) (record {
     empty = tt;
     bare = λ k l r A B h L R d e. let (u, m) = L (omega (arith, h)) in let (v, n) = R (omega (arith, h)) in inl (omega (arith, u, v), hung-total d l r k (omega (arith, h)) ∙ rw (m, n) (omega arith));

@@ -2,7 +2,7 @@
 -- Rests on Counted.antt, and on what the crates tree and levels show of their tables.
 use mathlib.Core.Path.{_≡_, refl, _∙_, ap, ap₂}
 use mathlib.Core.Logic.{_⊎_, inl, inr}
-use mathlib.Core.Bool.{Bool, true, false, false≢true}
+use mathlib.Core.Bool.{Bool, true, false}
 use mathlib.Core.List.{List}
 use Prim.Native.Nat.{ℕ, _+_, _-_, _≤_, _<_, min, max}
 use native.Mathlib.Omega.{arith}
@@ -12,17 +12,18 @@ use Rattle.umbrella.specs.declared.roles.Role.{Role}
 use Rattle.umbrella.specs.declared.roles.Role.the-variants.{Hung, LeftRim, RightRim, FromLeft, FromRight}
 use Rattle.umbrella.specs.declared.roles.Step.{Step}
 use Rattle.umbrella.specs.Roles.{isHung, stepAt, stepOf, levelsUnder}
-use Rattle.tree.specs.declared.Piece.{Piece}
+use Rattle.umbrella.proofs.Induction.{only-hung}
+use Rattle.tree.specs.declared.Root.{Root}
 use Rattle.tree.specs.declared.Two.{Two}
-use Rattle.tree.specs.Shows.{apexAt, rightAt, beyond}
-use Rattle.tree.proofs.Pieces.{Parts, opened, closed, corners, ends, one-piece}
+use Rattle.tree.specs.Table.{beyond}
+use Rattle.tree.proofs.Pieces.{closed, corners, ends, one-piece}
 use Rattle.levels.specs.declared.Six.{Six}
-use Rattle.levels.specs.Numbered.{six, sixAt, Deep, deep, Known}
-use Rattle.levels.proofs.Storing.{deep-root}
+use Rattle.levels.specs.Numbered.{six, sixAt, Tabled}
+use Rattle.levels.proofs.Knowing.{TabledParts}
 use Rattle.plan.specs.declared.counts.Tally.{Tally}
 use Rattle.plan.specs.declared.counts.Spot.{Spot}
 use Rattle.plan.specs.declared.counts.Fork.{Fork}
-use Rattle.plan.specs.Counts.{adds, atGate, total, counted, spot, forkOf, lowFork, ToCount, Forked}
+use Rattle.plan.specs.Counts.{adds, atGate, weight, counted, spot, forkOf, lowFork, ToCount, Forked}
 use Rattle.plan.proofs.Counted.{counted-one-level}
 
 no-gate : (k : Bool) → atGate 0 k ≡ 0
@@ -40,50 +41,25 @@ adds-few x y FromLeft k = omega arith
 adds-few x y FromRight k = omega arith
 
 -- so there are fewer umbrellas, and fewer stems, than sides besides the root edge
-few : (x y : ℕ) → x + y ≤ 1 → (t : Tree) (p : Role) (d : ℕ) → total x y p d t < span t
-unfolding total span
+few : (x y : ℕ) → x + y ≤ 1 → (t : Tree) (p : Role) (d : ℕ) → weight x y p d t < span t
+unfolding weight span
 few x y h leaf p d = omega arith
 few x y h (node l r) p d =
     let s = stepOf p d l r in
     let k : ℕ = levelsUnder p d (ud (node l r) - 1) in
     omega (arith, adds-few x y p (s .crossed), few x y h l (s .left) k, few x y h r (s .right) k)
 
-pub only-hung : (p : Role) → isHung p ≡ true → p ≡ Hung
-only-hung Hung h = refl
-only-hung LeftRim h = absurd (false≢true h)
-only-hung RightRim h = absurd (false≢true h)
-only-hung FromLeft h = absurd (false≢true h)
-only-hung FromRight h = absurd (false≢true h)
-
--- what the tables hold of a piece that is no side
-pub record KnownParts (tr ds : List ℕ) (p : Piece) (t : Tree) : Type 0 where
-  pub parts : Parts tr (p .e) (p .u) (p .v) t
-  pub known-l : Known tr ds (p .e - 1) (p .u) (apexAt tr (p .e)) (parts .l)
-  pub known-r : Known tr ds (rightAt tr (p .e)) (apexAt tr (p .e)) (p .v) (parts .r)
-  pub numbers-are : sixAt ds (p .e) ≡ six (node (parts .l) (parts .r))
-  pub not-empty : 1 ≤ sixAt ds (p .e) .ud
-
-pub known-parts : {tr ds : List ℕ} {p : Piece} {t : Tree} → Known tr ds (p .e) (p .u) (p .v) t → p .u + 1 < p .v → KnownParts tr ds p t
-unfolding ud
-known-parts {tr} {ds} {p} {t} K a = go (rw (d .is) at (K .deep))
-  where
-    d : Parts tr (p .e) (p .u) (p .v) t
-    d = opened (K .shows) a
-
-    go : Deep tr ds (p .e) (node (d .l) (d .r)) → KnownParts tr ds p t
-    go (deep h x y) = record { parts = d; known-l = record { shows = d .shows-l; deep = x }; known-r = record { shows = d .shows-r; deep = y }; numbers-are = h; not-empty = omega (arith, ap (λ (s : Six). s .ud) h) }
-
 -- what a triangle adds, as it is worked out
 pub fork-is : (p : Role) (s : Step) (x y : Spot) {m n g : ℕ} → m ≡ adds p 1 0 → g ≡ atGate 1 (s .crossed) → n ≡ adds p 0 g → _≡_ {A = Fork} (record { adds = record { umbrellas = m; stems = n }; small = x; large = y }) (forkOf p s x y)
 fork-is p s x y e f g = rw (e, g, f)
 
 -- a piece beyond a triangle is left to be counted
-to-count : {tr ds : List ℕ} {p : Piece} {t : Tree} (k : ℕ) (r : Role) → Known tr ds (p .e) (p .u) (p .v) t → ToCount tr ds (spot k p r) t
+to-count : {tr ds : List ℕ} {p : Root} {t : Tree} (k : ℕ) (r : Role) → Tabled tr ds (p .e) (p .u) (p .v) t → ToCount tr ds (spot k p r) t
 to-count k r K = record { known = λ h. K; none = λ h. closed (K .shows) h; low = omega (arith, corners (K .shows)) }
 
 -- or nothing is
-pub none-to-count : {tr ds : List ℕ} {x : Spot} {t : Tree} → ToCount tr ds x t → x .piece .v ≤ x .piece .u + 1 → (y z : ℕ) → total y z (x .role) (x .d) t ≡ 0
-unfolding total
+pub none-to-count : {tr ds : List ℕ} {x : Spot} {t : Tree} → ToCount tr ds x t → x .piece .v ≤ x .piece .u + 1 → (y z : ℕ) → weight y z (x .role) (x .d) t ≡ 0
+unfolding weight
 none-to-count L h y z = rw (L .none h)
 
 -- the numbers that the code reads at the triangle of x
@@ -93,7 +69,7 @@ pub record NumbersRead (tr ds : List ℕ) (x : Spot) (b : Two) (l r own : Six) :
   pub right-is : r ≡ sixAt ds (b .right .e)
   pub own-is : own ≡ sixAt ds (x .piece .e)
 
-module _ {tr ds : List ℕ} {x : Spot} {b : Two} {l r own : Six} {t : Tree} (N : NumbersRead tr ds x b l r own) (K : KnownParts tr ds (x .piece) t) where
+module _ {tr ds : List ℕ} {x : Spot} {b : Two} {l r own : Six} {t : Tree} (N : NumbersRead tr ds x b l r own) (K : TabledParts tr ds (x .piece .e) (x .piece .u) (x .piece .v) t) where
   abbrev a : Tree
   a = K .parts .l
 
@@ -101,21 +77,21 @@ module _ {tr ds : List ℕ} {x : Spot} {b : Two} {l r own : Six} {t : Tree} (N :
   c = K .parts .r
 
   l-is : l ≡ six a
-  l-is = N .left-is ∙ (ap (λ (z : Two). sixAt ds (z .left .e)) (N .two-is) ∙ deep-root (K .known-l .deep))
+  l-is = N .left-is ∙ (ap (λ (z : Two). sixAt ds (z .left .e)) (N .two-is) ∙ K .six-l)
 
   r-is : r ≡ six c
-  r-is = N .right-is ∙ (ap (λ (z : Two). sixAt ds (z .right .e)) (N .two-is) ∙ deep-root (K .known-r .deep))
+  r-is = N .right-is ∙ (ap (λ (z : Two). sixAt ds (z .right .e)) (N .two-is) ∙ K .six-r)
 
   own-levels : own .ud ≡ ud (node a c)
-  own-levels = ap (λ (z : Six). z .ud) (N .own-is ∙ K .numbers-are)
+  own-levels = ap (λ (z : Six). z .ud) (N .own-is ∙ K .six-t)
 
   -- the counts are those of a triangle's piece
-  of-node : (y z : ℕ) → total y z (x .role) (x .d) t ≡ total y z (x .role) (x .d) (node a c)
-  of-node y z = ap (total y z (x .role) (x .d)) (K .parts .is)
+  of-node : (y z : ℕ) → weight y z (x .role) (x .d) t ≡ weight y z (x .role) (x .d) (node a c)
+  of-node y z = ap (weight y z (x .role) (x .d)) (K .parts .is)
 
   -- an umbrella with one level is counted at once
   pub fork-low : {w : Fork} → own .ud - 1 ≡ 0 → isHung (x .role) ≡ true → w ≡ lowFork (min (max (l .«fan_a») (r .«fan_b»)) 1) → Forked tr ds x t w
-  unfolding total ud
+  unfolding weight ud
   fork-low z h e =
       let q = counted-one-level a c (x .d) (omega (arith, own-levels)) in
       rw (e, l-is, r-is) (record {
@@ -134,11 +110,11 @@ module _ {tr ds : List ℕ} {x : Spot} {b : Two} {l r own : Six} {t : Tree} (N :
 
   -- else the two pieces beyond are left
   module _ {s : Step} {k : ℕ} (s-is : s ≡ stepAt (x .role) (x .d) (l .ud) (r .ud) (l .handle)) (k-is : k ≡ levelsUnder (x .role) (x .d) (own .ud - 1)) where
-    split : (y z : ℕ) → total y z (x .role) (x .d) t ≡ total y z (s .left) k a + total y z (s .right) k c + adds (x .role) y (atGate z (s .crossed))
-    unfolding total
+    split : (y z : ℕ) → weight y z (x .role) (x .d) t ≡ weight y z (s .left) k a + weight y z (s .right) k c + adds (x .role) y (atGate z (s .crossed))
+    unfolding weight
     split y z = of-node y z ∙ rw (s-is, k-is, l-is, r-is, own-levels)
 
-    umbrellas-split : total 1 0 (x .role) (x .d) t ≡ total 1 0 (s .left) k a + total 1 0 (s .right) k c + adds (x .role) 1 0
+    umbrellas-split : weight 1 0 (x .role) (x .d) t ≡ weight 1 0 (s .left) k a + weight 1 0 (s .right) k c + adds (x .role) 1 0
     umbrellas-split = split 1 0 ∙ rw (no-gate (s .crossed))
 
     pub fork-both : {w : Fork} → (w ≡ forkOf (x .role) s (spot k (b .left) (s .left)) (spot k (b .right) (s .right))) ⊎ (w ≡ forkOf (x .role) s (spot k (b .right) (s .right)) (spot k (b .left) (s .left))) → Forked tr ds x t w
@@ -167,15 +143,15 @@ module _ {tr ds : List ℕ} {x : Spot} {b : Two} {l r own : Six} {t : Tree} (N :
 pub record Counting (tr ds : List ℕ) (x₀ x : Spot) (m n : ℕ) : Type 0 where
   pub t₀ : Tree
   pub t : Tree
-  pub whole : Known tr ds (x₀ .piece .e) (x₀ .piece .u) (x₀ .piece .v) t₀
+  pub whole : Tabled tr ds (x₀ .piece .e) (x₀ .piece .u) (x₀ .piece .v) t₀
   pub left : ToCount tr ds x t
-  pub umbrellas-are : m + total 1 0 (x .role) (x .d) t ≡ total 1 0 (x₀ .role) (x₀ .d) t₀
-  pub stems-are : n + total 0 1 (x .role) (x .d) t ≡ total 0 1 (x₀ .role) (x₀ .d) t₀
-  pub few-umbrellas : total 1 0 (x₀ .role) (x₀ .d) t₀ < 1024
-  pub few-stems : total 0 1 (x₀ .role) (x₀ .d) t₀ < 1024
+  pub umbrellas-are : m + weight 1 0 (x .role) (x .d) t ≡ weight 1 0 (x₀ .role) (x₀ .d) t₀
+  pub stems-are : n + weight 0 1 (x .role) (x .d) t ≡ weight 0 1 (x₀ .role) (x₀ .d) t₀
+  pub few-umbrellas : weight 1 0 (x₀ .role) (x₀ .d) t₀ < 1024
+  pub few-stems : weight 0 1 (x₀ .role) (x₀ .d) t₀ < 1024
   pub narrower : x .piece .v - x .piece .u ≤ x₀ .piece .v - x₀ .piece .u
 
-pub counting-begins : {tr ds : List ℕ} (x : Spot) {t : Tree} → Known tr ds (x .piece .e) (x .piece .u) (x .piece .v) t → Counting tr ds x x 0 0
+pub counting-begins : {tr ds : List ℕ} (x : Spot) {t : Tree} → Tabled tr ds (x .piece .e) (x .piece .u) (x .piece .v) t → Counting tr ds x x 0 0
 counting-begins x {t} K = record {
   t₀ = t;
   t = t;
@@ -190,7 +166,7 @@ counting-begins x {t} K = record {
 
 module _ {tr ds : List ℕ} {x₀ x : Spot} {m n : ℕ} (C : Counting tr ds x₀ x m n) where
   pub counting-on : {w : Fork} (T : Forked tr ds x (C .t) w) {m′ n′ : ℕ}
-      → (m′ ≡ m + w .adds .umbrellas + total 1 0 (w .small .role) (w .small .d) (T .small)) × (n′ ≡ n + w .adds .stems + total 0 1 (w .small .role) (w .small .d) (T .small)) → Counting tr ds x₀ (w .large) m′ n′
+      → (m′ ≡ m + w .adds .umbrellas + weight 1 0 (w .small .role) (w .small .d) (T .small)) × (n′ ≡ n + w .adds .stems + weight 0 1 (w .small .role) (w .small .d) (T .small)) → Counting tr ds x₀ (w .large) m′ n′
   counting-on T p = record {
     t₀ = C .t₀;
     t = T .large;
@@ -204,6 +180,6 @@ module _ {tr ds : List ℕ} {x₀ x : Spot} {m n : ℕ} (C : Counting tr ds x₀
   }
 
   -- at the end nothing is left
-  pub counting-ends : {t : Tree} → Known tr ds (x₀ .piece .e) (x₀ .piece .u) (x₀ .piece .v) t → x .piece .v ≤ x .piece .u + 1 → _≡_ {A = Tally} (record { umbrellas = m; stems = n }) (counted (x₀ .role) (x₀ .d) t)
-  unfolding total
+  pub counting-ends : {t : Tree} → Tabled tr ds (x₀ .piece .e) (x₀ .piece .u) (x₀ .piece .v) t → x .piece .v ≤ x .piece .u + 1 → _≡_ {A = Tally} (record { umbrellas = m; stems = n }) (counted (x₀ .role) (x₀ .d) t)
+  unfolding weight
   counting-ends K h = rw (one-piece (K .shows) (C .whole .shows), ← C .umbrellas-are, ← C .stems-are, C .left .none h) (ap₂ (λ (y z : ℕ). record { umbrellas = y; stems = z }) (omega arith) (omega arith))

@@ -14,10 +14,10 @@ use Rattle.sheet.proofs.Size.{read-counted}
 use Rattle.sheet.proofs.Valid.{read-triangulated}
 use Rattle.umbrella.specs.Best.{planOf}
 use Rattle.umbrella.proofs.Theorems.{umbrellas-bound}
-use Rattle.plan.specs.Answer.{Answer, answer, planned, PlanReadsBack}
+use Rattle.plan.specs.Answer.{PlanAnswer, answer, planned, PlanReadsBack}
 
 -- each of the four numbers is below 65,536
-record Small (a : Answer) : Type 0 where
+record Small (a : PlanAnswer) : Type 0 where
   number-small : a .number < 65536
   levels-small : a .levels < 65536
   umbrellas-small : a .umbrellas < 65536
@@ -39,7 +39,7 @@ planned-small s = go (readSheet s) refl (read-refuses s)
     go r e (by m) = record { number-small = all-mem tests-proper m .1; levels-small = omega arith; umbrellas-small = omega arith; stems-small = omega arith }
     go r e (holds {p}) = held-small s p e
 
-small-back : (a : Answer) → Small a → PlanReadsBack a
+small-back : (a : PlanAnswer) → Small a → PlanReadsBack a
 small-back a S = record { number-back = omega arith; levels-back = omega arith; umbrellas-back = omega arith; stems-back = omega arith; one-number = omega arith }
 
 pub plan-reads-back : (s : List ℕ) → PlanReadsBack (planned s)

@@ -11,8 +11,8 @@ use Rattle.umbrella.specs.declared.roles.Role.{Role}
 use Rattle.umbrella.specs.declared.roles.Role.the-variants.{Hung, LeftRim, RightRim, FromLeft, FromRight}
 use Rattle.umbrella.specs.Roles.{stepOf, levelsUnder}
 use Rattle.umbrella.specs.declared.roles.Step.{Step}
-use Rattle.tree.specs.declared.Piece.{Piece}
-use Rattle.levels.specs.Numbered.{Known}
+use Rattle.tree.specs.declared.Root.{Root}
+use Rattle.levels.specs.Numbered.{Tabled}
 use Rattle.plan.specs.declared.Totals.{Totals}
 use Rattle.plan.specs.declared.counts.Tally.{Tally}
 use Rattle.plan.specs.declared.counts.Spot.{Spot}
@@ -31,22 +31,22 @@ atGate y true = y
 atGate y false = 0
 
 -- x for an umbrella and y for a stem: each hung piece has an umbrella of its own, whose stem enters where a step from its rim is crossed (it has at most one first gate)
-unfoldable pub total : (x y : ℕ) → Role → ℕ → Tree → ℕ
-total x y p d leaf = 0
-total x y p d (node l r) =
+unfoldable pub weight : (x y : ℕ) → Role → ℕ → Tree → ℕ
+weight x y p d leaf = 0
+weight x y p d (node l r) =
     let s = stepOf p d l r in
     let k = levelsUnder p d (ud (node l r) - 1) in
-    total x y (s .left) k l + total x y (s .right) k r + adds p x (atGate y (s .crossed))
+    weight x y (s .left) k l + weight x y (s .right) k r + adds p x (atGate y (s .crossed))
 
 abbrev pub counted : Role → ℕ → Tree → Tally
-counted p d t = record { umbrellas = total 1 0 p d t; stems = total 0 1 p d t }
+counted p d t = record { umbrellas = weight 1 0 p d t; stems = weight 0 1 p d t }
 
 -- the counts of a plan
 abbrev pub totalsOf : {t : Tree} → Plan t → Totals
 totalsOf p = record { levels = levels p; umbrellas = umbrellas p; stems = stems p }
 
 -- a piece beyond a triangle, with k levels under the umbrella
-abbrev pub spot : ℕ → Piece → Role → Spot
+abbrev pub spot : ℕ → Root → Role → Spot
 spot k p r = record { piece = p; role = r; d = k }
 
 -- at a triangle whose piece has the role p: what it adds, and the two pieces beyond
@@ -61,7 +61,7 @@ lowFork n =
 
 -- the tree t is to be counted at x, and nothing where x has no triangle
 pub record ToCount (tr ds : List ℕ) (x : Spot) (t : Tree) : Type 0 where
-  pub known : x .piece .u + 1 < x .piece .v → Known tr ds (x .piece .e) (x .piece .u) (x .piece .v) t
+  pub known : x .piece .u + 1 < x .piece .v → Tabled tr ds (x .piece .e) (x .piece .u) (x .piece .v) t
   pub none : x .piece .v ≤ x .piece .u + 1 → t ≡ leaf
   pub low : x .piece .u < 1024
 
@@ -73,5 +73,5 @@ pub record Forked (tr ds : List ℕ) (x : Spot) (t : Tree) (w : Fork) : Type 0 w
   pub left-large : ToCount tr ds (w .large) large
   pub less-small : w .small .piece .v - w .small .piece .u < x .piece .v - x .piece .u
   pub less-large : w .large .piece .v - w .large .piece .u < x .piece .v - x .piece .u
-  pub umbrellas-are : total 1 0 (x .role) (x .d) t ≡ w .adds .umbrellas + total 1 0 (w .small .role) (w .small .d) small + total 1 0 (w .large .role) (w .large .d) large
-  pub stems-are : total 0 1 (x .role) (x .d) t ≡ w .adds .stems + total 0 1 (w .small .role) (w .small .d) small + total 0 1 (w .large .role) (w .large .d) large
+  pub umbrellas-are : weight 1 0 (x .role) (x .d) t ≡ w .adds .umbrellas + weight 1 0 (w .small .role) (w .small .d) small + weight 1 0 (w .large .role) (w .large .d) large
+  pub stems-are : weight 0 1 (x .role) (x .d) t ≡ w .adds .stems + weight 0 1 (w .small .role) (w .small .d) small + weight 0 1 (w .large .role) (w .large .d) large

@@ -4,12 +4,12 @@ ghost use mathlib.Core.Path.{_≡_};
 ghost use mathlib.Core.Logic.{_⊎_};
 ghost use Prim.Native.Nat.{_+_, _<_, _≤_, max, min};
 ghost use Rattle.polygon.specs.Tree.{Tree};
-ghost use Rattle.levels.specs.Numbered.{Known};
+ghost use Rattle.levels.specs.Numbered.{Tabled};
 ghost use Rattle.plan.specs.Counts.{atGate, adds, counted, spot, forkOf, lowFork, Forked};
 use levels::NUMBERS;
 use levels::numbers;
 use tree::PLACES;
-use tree::Piece;
+use tree::Root;
 use tree::Two;
 use tree::open;
 use umbrella::roles::Role;
@@ -26,7 +26,7 @@ pub struct Tally {
 
 // A piece, its role, and the levels under its umbrella; for a hung piece d is not looked at.
 struct Spot {
-    piece: Piece,
+    piece: Root,
     role: Role,
     d: u16,
 }
@@ -59,7 +59,7 @@ fn adds(role: Role, x: u16, y: u16) -> u16
 }
 
 // The larger of the two pieces beyond a triangle is left for last; k levels are under their umbrella.
-fn by_size(role: Role, k: u16, t: Two, s: Step) -> Fork
+fn larger_last(role: Role, k: u16, t: Two, s: Step) -> Fork
     requires { ⌜ (t .left .u ≤ t .left .v) × (t .right .u ≤ t .right .v) ⌝ }
     ensures { λ r. ⌜ (r ≡ forkOf role s (spot k (t .left) (s .left)) (spot k (t .right) (s .right)))
         ⊎ (r ≡ forkOf role s (spot k (t .right) (s .right)) (spot k (t .left) (s .left))) ⌝ }
@@ -111,7 +111,7 @@ fn one_level(a: u16, b: u16) -> Fork
     ensures { λ r. ⌜ r ≡ lowFork (min (max a b) 1) ⌝ }
 {
     let none = Spot {
-        piece: Piece { e: 0, u: 0, v: 0 },
+        piece: Root { e: 0, u: 0, v: 0 },
         role: Role::Hung,
         d: 0,
     };
@@ -128,9 +128,9 @@ fn one_level(a: u16, b: u16) -> Fork
 
 // Counts at the triangle of a piece that is no side.
 fn triangle(tree: &[u32; PLACES], depths: &[u16; NUMBERS], x: Spot) -> Fork
-    requires known { ⌜ ((t : Tree) × Known (now tree) (now depths) (x .piece .e) (x .piece .u) (x .piece .v) t) ⌝ }
+    requires known { ⌜ ((t : Tree) × Tabled (now tree) (now depths) (x .piece .e) (x .piece .u) (x .piece .v) t) ⌝ }
     requires apart { ⌜ x .piece .u + 1 < x .piece .v ⌝ }
-    ensures { λ r. ⌜ ((t : Tree) → Known (now (tree .entry)) (now (depths .entry)) (x .piece .e) (x .piece .u) (x .piece .v) t
+    ensures { λ r. ⌜ ((t : Tree) → Tabled (now (tree .entry)) (now (depths .entry)) (x .piece .e) (x .piece .u) (x .piece .v) t
         → Forked (now (tree .entry)) (now (depths .entry)) x t r) ⌝ }
 {
     let p = x.piece;
@@ -145,13 +145,13 @@ fn triangle(tree: &[u32; PLACES], depths: &[u16; NUMBERS], x: Spot) -> Fork
         }
     }
     let s = step_at(role, x.d, l.ud, r.ud, l.handle);
-    by_size(role, levels_under(role, x.d, own), t, s)
+    larger_last(role, levels_under(role, x.d, own), t, s)
 }
 
 // Counts in the piece p, by its role with d levels under the umbrella; for a hung piece d is not looked at.
-pub fn count(tree: &[u32; PLACES], depths: &[u16; NUMBERS], p: Piece, role: Role, d: u16) -> Tally
-    requires { ⌜ ((t : Tree) × Known (now tree) (now depths) (p .e) (p .u) (p .v) t) ⌝ }
-    ensures { λ r. ⌜ ((t : Tree) → Known (now (tree .entry)) (now (depths .entry)) (p .e) (p .u) (p .v) t → r ≡ counted role d t) ⌝ }
+pub fn count(tree: &[u32; PLACES], depths: &[u16; NUMBERS], p: Root, role: Role, d: u16) -> Tally
+    requires { ⌜ ((t : Tree) × Tabled (now tree) (now depths) (p .e) (p .u) (p .v) t) ⌝ }
+    ensures { λ r. ⌜ ((t : Tree) → Tabled (now (tree .entry)) (now (depths .entry)) (p .e) (p .u) (p .v) t → r ≡ counted role d t) ⌝ }
 {
     let mut x = Spot { piece: p, role, d };
     let mut umbrellas: u16 = 0;

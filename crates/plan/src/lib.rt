@@ -17,7 +17,7 @@ use sheet::Head;
 use sheet::Read;
 use sheet::reader::read_sheet;
 use tree::PLACES;
-use tree::Piece;
+use tree::Root;
 use umbrella::roles::Role;
 
 pub mod counts;
@@ -36,7 +36,7 @@ pub struct Totals {
 }
 
 // The counts of a part whose tables are filled.
-pub fn counts_of(tree: &[u32; PLACES], depths: &[u16; NUMBERS], p: Piece) -> Totals
+pub fn counts_of(tree: &[u32; PLACES], depths: &[u16; NUMBERS], p: Root) -> Totals
     requires { ⌜ ((n : ℕ) × (t : Tree) × Filled n t (now tree) (now depths) p) ⌝ }
     ensures { λ r. ⌜ ((n : ℕ) (t : Tree) → Filled n t (now (tree .entry)) (now (depths .entry)) p → r ≡ totalsOf (best t)) ⌝ }
 {

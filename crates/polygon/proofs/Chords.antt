@@ -6,8 +6,8 @@ use mathlib.Core.List.{List, [], _∷_, _++_}
 use Prim.Native.Nat.{ℕ, suc, _+_, _≤_, _<_}
 use native.Mathlib.Omega.{arith}
 use lib.ListN.{length, length-append}
-use Rattle.lists.specs.Lists.{Mem, Sub, All, all-nil, all-cons, sorted-nil, sorted-cons}
-use Rattle.lists.proofs.Lists.{not-empty, all-append, all-left, all-right, all-imp, all-both, all-mem, all-self, sorted-append}
+use Rattle.lists.specs.Lists.{All, Mem, Sub, all-cons, all-nil, sorted-cons, sorted-nil}
+use Rattle.lists.proofs.Lists.{all-append, all-both, all-imp, all-left, all-mem, all-right, all-self, not-empty, sorted-append}
 use Rattle.polygon.specs.Polygon.{Edge, _—_, Ascending, NoneCross}
 use Rattle.polygon.specs.Tree.{Tree, leaf, node, span, chordsAt, chordsPast, chords, inner}
 

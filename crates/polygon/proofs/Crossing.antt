@@ -7,14 +7,14 @@ use Prim.Native.Nat.{ℕ, zero, suc, _+_, _≤_, _<_}
 use native.Mathlib.Decide.{decLt}
 use native.Mathlib.Omega.{arith}
 use lib.ListN.{length}
-use Rattle.lists.specs.Lists.{Mem, All}
+use Rattle.lists.specs.Lists.{All, Mem}
 use Rattle.lists.proofs.Lists.{all-mem, all-of}
 use Rattle.polygon.specs.Polygon.{Edge, _—_, Ascending, Cross, NoneCross, Diagonal, Triangulated, Linked}
 use Rattle.polygon.specs.Tree.{far}
 use Rattle.polygon.proofs.Order.{low-of, high-of}
 use Rattle.polygon.proofs.Far.{Far, far-ok, far-is}
 use Rattle.polygon.proofs.TreeTheorem.{root}
-use Rattle.polygon.proofs.Triangle.{Within, linked-up, links-free}
+use Rattle.polygon.proofs.Triangle.{ApexWithin, linked-up, links-free}
 use Rattle.polygon.proofs.Piece.{apex}
 
 -- the largest corner that c is joined to from below, c + 1 if there is none above it
@@ -75,7 +75,7 @@ module _ (n : ℕ) (ds : List Edge) (P : Triangulated n ds) where
       c : ℕ
       c = far (e .0) (e .1) ds
 
-      w : Within (Linked n ds) (e .0 — e .1) c
+      w : ApexWithin (Linked n ds) (e .0 — e .1) c
       w = apex n ds P _ _ L (omega arith)
 
       top : (x : Edge) → Mem x ds → x .0 ≡ c → Dec (e .1 < x .1) → x .1 ≤ e .1

@@ -7,8 +7,8 @@ use Prim.Native.Nat.{ℕ, suc, _+_, _*_, _≤_, _<_}
 use native.Mathlib.Decide.{decLt}
 use native.Mathlib.Omega.{arith}
 use lib.ListN.{length, length-append}
-use Rattle.lists.specs.Lists.{Mem, head, All, all-nil, all-cons, sorted-nil, sorted-cons}
-use Rattle.lists.proofs.Lists.{all-append, all-left, all-right, all-imp, all-mem, all-self, sorted-append}
+use Rattle.lists.specs.Lists.{All, Mem, all-cons, all-nil, head, sorted-cons, sorted-nil}
+use Rattle.lists.proofs.Lists.{all-append, all-imp, all-left, all-mem, all-right, all-self, sorted-append}
 use Rattle.polygon.specs.Polygon.{Edge, _—_, Ascending, Linked}
 use Rattle.polygon.specs.Tree.{Tree, leaf, node, span, chordsAt, chordsPast, chords, inner}
 use Rattle.polygon.proofs.Order.{edge, low-of, high-of}

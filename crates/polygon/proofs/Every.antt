@@ -7,8 +7,8 @@ use Prim.Native.Nat.{ℕ, zero, suc, _+_, _≤_, _<_}
 use native.Mathlib.Decide.{decLe, decLt}
 use native.Mathlib.Omega.{arith}
 use lib.ListN.{length}
-use Rattle.lists.specs.Lists.{Mem, Sub, All, all-cons, keep}
-use Rattle.lists.proofs.Lists.{all-imp, all-both, all-mem, all-of, keep-all, keep-test, keep-mem, keep-sub, keep-sorted, count3, once, sorted-same}
+use Rattle.lists.specs.Lists.{All, Mem, Sub, all-cons, keep}
+use Rattle.lists.proofs.Lists.{all-both, all-imp, all-mem, all-of, count3, keep-all, keep-mem, keep-sorted, keep-sub, keep-test, once, sorted-same}
 use Rattle.polygon.specs.Polygon.{Edge, _—_, Ascending, NoneCross}
 use Rattle.polygon.specs.Tree.{Tree, leaf, node, span, chordsAt, chordsPast, chords, far}
 use Rattle.polygon.proofs.Order.{edge, one-way, first}

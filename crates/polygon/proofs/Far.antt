@@ -6,8 +6,8 @@ use Prim.Native.Nat.{ℕ, suc, _≤_, _<_, max}
 use native.Mathlib.Decide.{decLe}
 use native.Mathlib.Nat.{max-eq-right}
 use native.Mathlib.Omega.{arith}
-use Rattle.lists.specs.Lists.{Mem, head, All, all-nil, all-cons}
-use Rattle.lists.proofs.Lists.{there, all-imp, all-mem}
+use Rattle.lists.specs.Lists.{All, Mem, all-cons, all-nil, head}
+use Rattle.lists.proofs.Lists.{all-imp, all-mem, there}
 use Rattle.polygon.specs.Polygon.{Edge, _—_}
 use Rattle.polygon.specs.Tree.{near?, farther, far}
 use Rattle.polygon.proofs.Order.{edge}

@@ -7,8 +7,8 @@ use Prim.Native.Nat.{ℕ, suc, _+_, _≤_, _<_}
 use native.Mathlib.Decide.{decLt}
 use native.Mathlib.Omega.{arith}
 use lib.ListN.{length}
-use Rattle.lists.specs.Lists.{Mem, Sub, All, all-nil, all-cons, sorted-nil, sorted-cons, not?, keep}
-use Rattle.lists.proofs.Lists.{here, all-imp, all-mem, all-self, keep-all, keep-test, keep-sub, keep-mem, keep-sorted, count2, once}
+use Rattle.lists.specs.Lists.{All, Mem, Sub, all-cons, all-nil, keep, not?, sorted-cons, sorted-nil}
+use Rattle.lists.proofs.Lists.{all-imp, all-mem, all-self, count2, here, keep-all, keep-mem, keep-sorted, keep-sub, keep-test, once}
 use Rattle.polygon.specs.Polygon.{Edge, _—_, Before, Ascending}
 use Rattle.polygon.specs.Order.{same?, remove, place, insert}
 

@@ -14,7 +14,7 @@ use Rattle.polygon.proofs.Order.{edge}
 use Rattle.polygon.proofs.Far.{Far, far-ok, far-is}
 use Rattle.polygon.proofs.TreeOf.{grow-node, grow-leaf}
 use Rattle.polygon.proofs.TreeTheorem.{root}
-use Rattle.polygon.proofs.Triangle.{Within, triangle, linked-up, links-free}
+use Rattle.polygon.proofs.Triangle.{ApexWithin, triangle, linked-up, links-free}
 
 unfoldable pub piece : List Edge → ℕ → ℕ → Tree
 piece ds u v = grow (v - u) ds u v
@@ -61,7 +61,7 @@ module _ (n : ℕ) (ds : List Edge) (P : Triangulated n ds) where
   edge-of u v (inl (inr k)) h = inl (edge (k .0) (omega (arith, k)))
   edge-of u v (inr m) h = inr m
 
-  apex-far : (u v c : ℕ) → Linked n ds u v → Within (Linked n ds) (u — v) c → far u v ds ≡ c
+  apex-far : (u v c : ℕ) → Linked n ds u v → ApexWithin (Linked n ds) (u — v) c → far u v ds ≡ c
   apex-far u v c L w = far-is u v ds c (record { above = w .above; below = w .below; most = all-of ds (λ e m p q. most e m p q (decLt c (e .1))); hit = hit (w .left) })
     where
       most : (e : Edge) → Mem e ds → e .0 ≡ u → e .1 < v → Dec (c < e .1) → e .1 ≤ c
@@ -74,5 +74,5 @@ module _ (n : ℕ) (ds : List Edge) (P : Triangulated n ds) where
       hit (inr m) = inr m
 
   -- the third corner of the triangle at a joined pair is joined to both
-  pub apex : (u v : ℕ) → Linked n ds u v → suc u < v → Within (Linked n ds) (u — v) (far u v ds)
+  pub apex : (u v : ℕ) → Linked n ds u v → suc u < v → ApexWithin (Linked n ds) (u — v) (far u v ds)
   apex u v L h = let (c, w) = triangle n ds P (u — v) (edge-of u v L h) in rw (apex-far u v c L w) w

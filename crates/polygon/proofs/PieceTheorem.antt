@@ -14,14 +14,14 @@ use Rattle.polygon.proofs.Order.{low-of, high-of}
 use Rattle.polygon.proofs.Chords.{span-pos, chords-in, inner-left, inner-right, inner-chords, inner-sub, node-cases, InPieces}
 use Rattle.polygon.proofs.TreeOf.{grow-ok}
 use Rattle.polygon.proofs.TreeTheorem.{tree-of}
-use Rattle.polygon.proofs.Triangle.{Touch, touch, link, touch-root, linked-up}
+use Rattle.polygon.proofs.Triangle.{JoinedIn, touch, link, touch-root, linked-up}
 use Rattle.polygon.proofs.Piece.{piece}
 
 -- two corners that are joined in the piece `node l r` on the corners from u on: both in l, both in r, or the ends of the root edge
 abbrev pub Where : ℕ → Tree → Tree → ℕ → ℕ → Type 0
-Where u l r p q = ((q ≤ u + span l) × Touch (chords u l) p q) ⊎ (((u + span l ≤ p) × Touch (chords (u + span l) r) p q) ⊎ ((p ≡ u) × (q ≡ u + (span l + span r))))
+Where u l r p q = ((q ≤ u + span l) × JoinedIn (chords u l) p q) ⊎ (((u + span l ≤ p) × JoinedIn (chords (u + span l) r) p q) ⊎ ((p ≡ u) × (q ≡ u + (span l + span r))))
 
-pub touch-cases : (u : ℕ) (l r : Tree) (p q : ℕ) → Touch (chords u (node l r)) p q → Where u l r p q
+pub touch-cases : (u : ℕ) (l r : Tree) (p q : ℕ) → JoinedIn (chords u (node l r)) p q → Where u l r p q
 touch-cases u l r p q (inl e) = go (decLe q (u + span l))
   where
     go : Dec (q ≤ u + span l) → Where u l r p q
@@ -69,7 +69,7 @@ piece-of-piece a (beyond-left b) = beyond-left (piece-of-piece a b)
 piece-of-piece a (beyond-right b) = beyond-right (piece-of-piece a b)
 
 -- two corners of a piece that are joined in the whole are joined in the piece
-pub into-piece : {u x : ℕ} {t s : Tree} → Piece u t x s → (p q : ℕ) → u ≤ p → p < q → q ≤ u + span t → Touch (chords x s) p q → Touch (chords u t) p q
+pub into-piece : {u x : ℕ} {t s : Tree} → Piece u t x s → (p q : ℕ) → u ≤ p → p < q → q ≤ u + span t → JoinedIn (chords x s) p q → JoinedIn (chords u t) p q
 into-piece itself p q h i j k = k
 into-piece (beyond-left {x} {l} {r} a) p q h i j k = elim (touch-cases x l r p q k) [
   | inl w ↦ into-piece a p q h i j (w .1)
@@ -93,7 +93,7 @@ PieceOn p q x s = (t : Tree) × Piece p t x s × (p + span t ≡ q)
 root-piece : (p q x : ℕ) (s : Tree) → p ≡ x → q ≡ x + span s → PieceOn p q x s
 root-piece p q x s h k = rw h (s, itself, sym k)
 
-piece-on : (x : ℕ) (s : Tree) (p q : ℕ) → x ≤ p → p < q → q ≤ x + span s → Touch (chords x s) p q → PieceOn p q x s
+piece-on : (x : ℕ) (s : Tree) (p q : ℕ) → x ≤ p → p < q → q ≤ x + span s → JoinedIn (chords x s) p q → PieceOn p q x s
 unfolding span
 piece-on x leaf p q h i j k = root-piece p q x leaf (omega arith) (omega arith)
 piece-on x (node l r) p q h i j k = elim (touch-cases x l r p q k) [
@@ -113,10 +113,10 @@ module _ (n : ℕ) (ds : List Edge) (P : Triangulated n ds) where
       up = linked-up n ds P u v L
 
   module _ {u : ℕ} {t : Tree} (a : PieceOf n ds u t) where
-    pub joined : (p q : ℕ) → u ≤ p → p < q → q ≤ u + span t → Touch (chords u t) p q ↔ Linked n ds p q
+    pub joined : (p q : ℕ) → u ≤ p → p < q → q ≤ u + span t → JoinedIn (chords u t) p q ↔ Linked n ds p q
     joined p q h i j = (λ k. link n ds P p q (omega (arith, piece-lies a, tree-of n ds P .size)) (out k), λ L. into-piece a p q h i j (touch n ds P p q L))
       where
-        out : Touch (chords u t) p q → Touch (chords 0 (treeOf n ds)) p q
+        out : JoinedIn (chords u t) p q → JoinedIn (chords 0 (treeOf n ds)) p q
         out (inl e) = inl e
         out (inr m) = inr (piece-chords a (p — q) m)
 

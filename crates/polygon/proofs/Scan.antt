@@ -5,8 +5,8 @@ use mathlib.Core.Logic.{_⊎_, inl, inr}
 use mathlib.Core.List.{List, [], _∷_, _++_}
 use Prim.Native.Nat.{ℕ, suc, _≤_, _<_}
 use native.Mathlib.Omega.{arith}
-use Rattle.lists.specs.Lists.{Mem, All, all-nil, all-cons, sorted-cons}
-use Rattle.lists.proofs.Lists.{here, mem-left, mem-right, all-append, all-left, all-imp, all-both, all-mem, sorted-right, sorted-across}
+use Rattle.lists.specs.Lists.{All, Mem, all-cons, all-nil, sorted-cons}
+use Rattle.lists.proofs.Lists.{all-append, all-both, all-imp, all-left, all-mem, here, mem-left, mem-right, sorted-across, sorted-right}
 use Rattle.polygon.specs.Polygon.{Edge, _—_, Before, Ascending, Diagonal}
 use Rattle.polygon.specs.Tree.{near?, farther, far}
 use Rattle.polygon.proofs.Far.{Far, far-ok, far-is}

@@ -5,7 +5,7 @@ use mathlib.Core.Logic.{_↔_}
 use mathlib.Core.List.{List, [], _∷_}
 use Prim.Native.Nat.{suc}
 use lib.ListN.{length}
-use Rattle.lists.specs.Lists.{Sub, All, all-nil, all-cons, sorted-nil, sorted-cons}
+use Rattle.lists.specs.Lists.{All, Sub, all-cons, all-nil, sorted-cons, sorted-nil}
 use Rattle.lists.proofs.Lists.{all-imp, all-mem, all-self, sorted-same}
 use Rattle.polygon.specs.Polygon.{Edge, Before, Ascending}
 use Rattle.polygon.specs.Order.{before?, place, insert, sort, Distinct}

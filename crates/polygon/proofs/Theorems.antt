@@ -6,7 +6,7 @@ use mathlib.Core.Option.{none}
 use Prim.Native.Nat.{ℕ, suc, _+_, _-_, _≤_}
 use native.Mathlib.Omega.{arith}
 use lib.ListN.{length}
-use Rattle.lists.specs.Lists.{Sub, All}
+use Rattle.lists.specs.Lists.{All, Sub}
 use Rattle.polygon.specs.Polygon.{Edge, Ascending, NoneCross, Diagonal, Polygon, Valid, Linked}
 use Rattle.polygon.specs.Tree.{Tree, leaf, span, inner, far, treeOf, itself, PieceOf}
 use Rattle.polygon.proofs.TreeTheorem.{tree-of, tree-unique, tree-triangulates}

@@ -8,7 +8,7 @@ use native.Mathlib.Decide.{decLt}
 use native.Mathlib.Nat.{add-assoc}
 use native.Mathlib.Omega.{arith}
 use Rattle.lists.specs.Lists.{Mem, Sub}
-use Rattle.lists.proofs.Lists.{all-mem, all-of, choose-yes, choose-no}
+use Rattle.lists.proofs.Lists.{all-mem, all-of, choose-no, choose-yes}
 use Rattle.polygon.specs.Polygon.{Edge, _—_, NoneCross}
 use Rattle.polygon.specs.Tree.{Tree, leaf, node, span, inner, far, grow}
 use Rattle.polygon.proofs.Far.{far-is}

@@ -6,8 +6,8 @@ use mathlib.Core.List.{List}
 use Prim.Native.Nat.{ℕ, suc, _+_, _-_, _≤_}
 use native.Mathlib.Omega.{arith}
 use lib.ListN.{length}
-use Rattle.lists.specs.Lists.{Mem, All}
-use Rattle.lists.proofs.Lists.{there, all-imp, all-both, all-mem, all-self, all-of, sorted-same}
+use Rattle.lists.specs.Lists.{All, Mem}
+use Rattle.lists.proofs.Lists.{all-both, all-imp, all-mem, all-of, all-self, sorted-same, there}
 use Rattle.polygon.specs.Polygon.{Edge, _—_, Ascending, NoneCross, Diagonal, Triangulated}
 use Rattle.polygon.specs.Order.{insert}
 use Rattle.polygon.specs.Tree.{Tree, leaf, node, span, chords, inner, treeOf}

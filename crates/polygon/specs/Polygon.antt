@@ -6,7 +6,7 @@ use mathlib.Core.List.{List}
 use mathlib.Core.Option.{Option, none, some}
 use Prim.Native.Nat.{ℕ, suc, _+_, _≤_, _<_, _^_}
 use lib.ListN.{length}
-use Rattle.lists.specs.Lists.{Mem, All, Sorted}
+use Rattle.lists.specs.Lists.{All, Mem, Sorted}
 
 -- an edge by its two corners, lower corner first
 abbrev pub Edge : Type 0

@@ -1,16 +1,18 @@
 -- Demand 1 is proved, by the law of every operation that writes bytes (crate sheet, proofs/Refusals.antt) and the cases of the other three.
 use mathlib.Core.Path.{_≡_, refl}
-use mathlib.Core.Logic.{_⊎_, inl, inr, Dec·and}
+use mathlib.Core.Logic.{_⊎_, inl, inr}
 use mathlib.Core.List.{List, [], _∷_, _++_}
 use Prim.Native.Nat.{ℕ}
-use native.Mathlib.Decide.{decLe, ℕ-discrete}
+use native.Mathlib.Decide.{ℕ-discrete}
 use native.Mathlib.Omega.{arith}
 use lib.ListN.{length}
 use lib.Seq.{take-append-seam, drop-append-seam}
 use Rattle.lists.specs.Lists.{choose, numbers}
-use Rattle.lists.proofs.Lists.{here, mem-left, mem-right, all-mem}
+use Rattle.lists.proofs.Lists.{all-mem, here, mem-left, mem-right}
 use Rattle.lists.proofs.Places.{numbers-mem}
 use Rattle.polygon.specs.Polygon.{Polygon}
+use Rattle.codec.specs.TwoOutputs.{writtenBoth}
+use Rattle.codec.proofs.TwoOutputs.{both-is}
 use Rattle.sheet.specs.Sheet.{Reading, held, readSheet}
 use Rattle.sheet.specs.Refusals.{sheetTests, RefusedBy, by, holds}
 use Rattle.sheet.proofs.Refusals.{read-refuses, tests-proper, ordered-settled}
@@ -21,10 +23,10 @@ use Rattle.edit_list.specs.Script.{faultOf}
 use Rattle.edit_list.specs.Result.{numbered, finished, unchanged, resultOf}
 use Rattle.edit_list.proofs.Tests.{Number, fault-number}
 use Rattle.plan.specs.Answer.{answer, planned}
-use Rattle.chart.specs.Chart.{Bar, Chart, barsOf, chartOf}
+use Rattle.chart.specs.Chart.{barsOf, chartOf}
 use Rattle.chart.specs.Bytes.{bytesOf}
 use Rattle.chart_reader.proofs.Refusals.{chart-settled}
-use Rattle.draw.specs.Answer.{fitBoth, intoBoth, drawnBoth, drawnWithBars}
+use Rattle.draw.specs.Answer.{chartedBoth, drawnWithBars}
 use Rattle.draw.proofs.Refusals.{drawn-settled}
 use Rattle.promises.specs.DemandOne.{PlanAnswers, PlanFinished, PlanRefusal, BothFinished, BothRefusal, BothAnswers, numbersOut, RunFinished, RunRefusal, RunAnswers, DemandOne}
 
@@ -40,29 +42,20 @@ plan-answers s = go (readSheet s) refl (read-refuses s)
     go r e (by m) = inr (record { published = m; proper = all-mem tests-proper m; no-levels = refl; no-umbrellas = refl; no-stems = refl })
     go r e (holds {p}) = inl (p, e, record { zero = refl; counts = refl })
 
--- a chart into a lent output and a lent list: whole, or refused by 8
-both-fit : (ks : List ℕ) (c : Chart) (out : List ℕ) (bars : List Bar) → BothFinished c out bars (intoBoth c out bars) ⊎ BothRefusal (ks ++ (8 ∷ [])) out bars (intoBoth c out bars)
-unfolding intoBoth fitBoth
-both-fit ks c out bars = go (Dec·and (decLe (length (bytesOf c)) (length out)) (decLe (length (barsOf c)) (length bars)))
-  where
-    go : {P : Type 0} (d : Dec P) → BothFinished c out bars (fitBoth d (bytesOf c) (barsOf c) out bars) ⊎ BothRefusal (ks ++ (8 ∷ [])) out bars (fitBoth d (bytesOf c) (barsOf c) out bars)
-    go (yes p) =
-        inl (record {
-          chart = whole-finished (bytesOf c) out;
-          told = refl;
-          result = take-append-seam (barsOf c) _;
-          beyond = drop-append-seam (barsOf c) _;
-        })
-    go (no p) = inr (record { bytes = refusal-refuses out (mem-right ks here) (omega arith, omega arith); nothing = refl; untouched = refl })
-
 both-answers : (s : List ℕ) → BothAnswers (sheetTests ++ (8 ∷ [])) s
-unfolding drawnWithBars drawnBoth
+unfolding drawnWithBars chartedBoth writtenBoth
 both-answers s out bars = go (readSheet s) refl (read-refuses s)
   where
-    go : (r : Reading) → readSheet s ≡ r → RefusedBy sheetTests r
-        → ((p : Polygon) × (readSheet s ≡ held p) × BothFinished (chartOf p) out bars (drawnBoth r out bars)) ⊎ BothRefusal (sheetTests ++ (8 ∷ [])) out bars (drawnBoth r out bars)
+    go : (r : Reading) → readSheet s ≡ r → RefusedBy sheetTests r → let d = writtenBoth (chartedBoth r) out bars in
+        ((p : Polygon) × (readSheet s ≡ held p) × BothFinished (chartOf p) out bars d) ⊎ BothRefusal (sheetTests ++ (8 ∷ [])) out bars d
     go r e (by m) = inr (record { bytes = refusal-refuses out (mem-left (8 ∷ []) m) (all-mem tests-proper m); nothing = refl; untouched = refl })
-    go r e (holds {p}) = elim (both-fit sheetTests (chartOf p) out bars) [ inl F ↦ inl (p, e, F) | inr R ↦ inr R ]
+    go r e (holds {p}) =
+        let bs = bytesOf (chartOf p) in
+        let cs = barsOf (chartOf p) in
+        elim (both-is bs out cs bars) [
+          | inl w ↦ inl (p, e, rw (w .1) (record { chart = whole-finished bs out; told = refl; result = take-append-seam cs _; beyond = drop-append-seam cs _ }))
+          | inr w ↦ inr (rw (w .1) (record { bytes = refusal-refuses out (mem-right sheetTests here) (omega arith, omega arith); nothing = refl; untouched = refl }))
+        ]
 
 run-answers : (first list : List ℕ) → RunAnswers listTests first list
 unfolding resultOf choose finished numbered numbers

@@ -1,10 +1,7 @@
 -- Demand 3 is proved: the list theorem of the crate edit, with the plan's and the chart's theorems on the part that the list leaves.
-use mathlib.Core.Path.{_≡_, refl, ap, sym, _∙_}
-use mathlib.Core.Logic.{Dec·and}
+use mathlib.Core.Path.{_≡_, ap, sym, _∙_}
 use mathlib.Core.List.{List}
 use Prim.Native.Nat.{ℕ, _<_}
-use native.Mathlib.Decide.{decLe}
-use native.Mathlib.Omega.{arith}
 use lib.ListN.{length, take}
 use lib.Seq.{take-append-seam, take-at}
 use Rattle.lists.specs.Lists.{All}
@@ -12,7 +9,9 @@ use Rattle.polygon.specs.Polygon.{Polygon}
 use Rattle.polygon.specs.Tree.{treeOf}
 use Rattle.polygon.proofs.Theorems.{same-diagonals}
 use Rattle.codec.specs.Answer.{Answer, whole, written}
+use Rattle.codec.specs.TwoOutputs.{BothAnswer, wholeBoth}
 use Rattle.codec.proofs.Answers.{written-done, only-short}
+use Rattle.codec.proofs.TwoOutputs.{both-done}
 use Rattle.sheet.specs.Sheet.{held, readSheet}
 use Rattle.edit.specs.Calls.{Call, sheetLeft}
 use Rattle.edit.proofs.List.{list-of-edits}
@@ -23,12 +22,12 @@ use Rattle.chart.specs.Chart.{Bar, Chart, barsOf, chart, chartOf}
 use Rattle.chart.specs.Bytes.{bytesOf}
 use Rattle.chart.proofs.Sizes.{bars-count}
 use Rattle.chart.proofs.Theorems.{chart-is-true, chart-shows, chart-rows, chart-columns, chart-column-named, chart-number-fits}
-use Rattle.draw.specs.Answer.{charted, drawn, Drawing, wholeDrawing, fitBoth, intoBoth, drawnBoth, drawnWithBars}
-use Rattle.draw.proofs.Refusals.{only-short-both}
+use Rattle.draw.specs.Answer.{charted, drawn, chartedBoth, drawnWithBars}
+use Rattle.draw.proofs.Refusals.{only-short-bars}
 use Rattle.promises.specs.DemandThree.{DemandThree, SamePart, SameBytes, SameChart, partLeft}
 
 pub demand-three : (s : List ℕ) (p : Polygon) → All (λ b. b < 256) s → readSheet s ≡ held p → (cs : List Call) → DemandThree s p cs
-unfolding planned answer drawn charted drawnWithBars drawnBoth
+unfolding planned answer drawn charted drawnWithBars chartedBoth
 demand-three s p bytes reads cs =
     let F = list-of-edits s p bytes reads cs in
     let q : Polygon = partLeft p cs in
@@ -45,7 +44,7 @@ demand-three s p bytes reads cs =
       drawing = rw (F .reads);
       only-8 = λ out. rw (F .reads) (only-short (bytesOf (chartOf q)) out);
       drawing-bars = λ out bars. rw (F .reads);
-      only-8-bars = λ out bars. rw (F .reads) (only-short-both (chartOf q) (q .n) (S .corners) out bars);
+      only-8-bars = λ out bars. rw (F .reads) (only-short-bars (chartOf q) (q .n) (S .corners) out bars);
       true = chart-is-true q (F .valid);
       shows = S;
       fits = chart-number-fits q (F .valid);
@@ -54,22 +53,13 @@ demand-three s p bytes reads cs =
       named = chart-column-named q (F .valid);
     }
 
--- a drawing that is not refused is whole
-whole-both : (c : Chart) (out : List ℕ) (bars : List Bar) → intoBoth c out bars .answer .number ≡ 0 → intoBoth c out bars ≡ wholeDrawing (bytesOf c) (barsOf c) out bars
-unfolding intoBoth fitBoth
-whole-both c out bars = go (Dec·and (decLe (length (bytesOf c)) (length out)) (decLe (length (barsOf c)) (length bars)))
-  where
-    go : {P : Type 0} (d : Dec P) → fitBoth d (bytesOf c) (barsOf c) out bars .answer .number ≡ 0 → fitBoth d (bytesOf c) (barsOf c) out bars ≡ wholeDrawing (bytesOf c) (barsOf c) out bars
-    go (yes p) e = refl
-    go (no p) e = absurd (omega arith)
-
 -- two whole answers of the same bytes
 same-bytes : (c d : Chart) (out out' : List ℕ) (a b : Answer) → c ≡ d → a ≡ whole (bytesOf c) out → b ≡ whole (bytesOf d) out' → SameBytes a b
 same-bytes c d out out' a b e x y =
     rw (x, y) (ap (λ (c : Chart). length (bytesOf c)) e, take-append-seam (bytesOf c) _ ∙ (ap bytesOf e ∙ sym (take-append-seam (bytesOf d) _)))
 
 -- the bars of a whole drawing
-whole-bars : (c : Chart) (n : ℕ) (out : List ℕ) (bars : List Bar) (d : Drawing) → c .n ≡ n → d ≡ wholeDrawing (bytesOf c) (barsOf c) out bars → take n (d .bars) ≡ barsOf c
+whole-bars : (c : Chart) (n : ℕ) (out : List ℕ) (bars : List Bar) (d : BothAnswer Bar) → c .n ≡ n → d ≡ wholeBoth (bytesOf c) (barsOf c) out bars → take n (d .second) ≡ barsOf c
 whole-bars c n out bars d h e = rw e (take-at (barsOf c) _ n (bars-count c ∙ h))
 
 -- the chart depends on the corners and the set of diagonals alone
@@ -90,10 +80,10 @@ same-chart s t p q bs bt rs rt cs ds =
           (ap (λ o. written o out) (A .drawing) ∙ written-done _ out (rw (A .drawing) at h))
           (ap (λ o. written o out') (B .drawing) ∙ written-done _ out' (rw (B .drawing) at k));
       equal-bars = λ S out out' bars bars' h k.
-          let a : drawnWithBars (sheetLeft s cs) out bars ≡ wholeDrawing (bytesOf (chartOf x)) (barsOf (chartOf x)) out bars =
-          A .drawing-bars out bars ∙ whole-both (chartOf x) out bars (rw (A .drawing-bars out bars) at h) in
-          let b : drawnWithBars (sheetLeft t ds) out' bars' ≡ wholeDrawing (bytesOf (chartOf y)) (barsOf (chartOf y)) out' bars' =
-          B .drawing-bars out' bars' ∙ whole-both (chartOf y) out' bars' (rw (B .drawing-bars out' bars') at k) in (
+          let a : drawnWithBars (sheetLeft s cs) out bars ≡ wholeBoth (bytesOf (chartOf x)) (barsOf (chartOf x)) out bars =
+          A .drawing-bars out bars ∙ both-done _ out _ bars (rw (A .drawing-bars out bars) at h) in
+          let b : drawnWithBars (sheetLeft t ds) out' bars' ≡ wholeBoth (bytesOf (chartOf y)) (barsOf (chartOf y)) out' bars' =
+          B .drawing-bars out' bars' ∙ both-done _ out' _ bars' (rw (B .drawing-bars out' bars') at k) in (
             same-bytes (chartOf x) (chartOf y) out out' _ _ (same S) (ap (λ d. d .answer) a) (ap (λ d. d .answer) b),
             whole-bars (chartOf x) (x .n) out bars _ (A .shows .corners) a ∙ (ap barsOf (same S) ∙ sym (whole-bars (chartOf y) (y .n) out' bars' _ (B .shows .corners) b)),
           );

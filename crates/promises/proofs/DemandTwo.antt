@@ -17,8 +17,8 @@ use Rattle.chart.specs.Bytes.{bytesOf}
 use Rattle.chart.proofs.Theorems.{chart-is-true, chart-shows}
 use Rattle.chart_reader.specs.Reader.{chartRead}
 use Rattle.chart_reader.proofs.Theorems.{accepts, writes, reads-back}
-use Rattle.draw.specs.Answer.{charted, drawn, drawnBoth, drawnWithBars}
-use Rattle.draw.proofs.Refusals.{only-short-both}
+use Rattle.draw.specs.Answer.{charted, drawn, chartedBoth, drawnWithBars}
+use Rattle.draw.proofs.Refusals.{only-short-bars}
 use Rattle.promises.specs.DemandTwo.{ListsValid, Refused, WhichSheets, OnlyRoom, OurChart, AnyChart, DemandTwo}
 
 which-sheets : (s : List ℕ) → All (λ b. b < 256) s → WhichSheets s
@@ -36,11 +36,11 @@ which-sheets s bytes = record {
     else r e (holds {p}) f = absurd (f (listed p e))
 
 only-room : (s : List ℕ) (p : Polygon) → Valid p → readSheet s ≡ held p → OnlyRoom s p
-unfolding ordered outcome drawn charted drawnWithBars drawnBoth planned answer
+unfolding ordered outcome drawn charted drawnWithBars chartedBoth planned answer
 only-room s p v reads = record {
   order = λ out. rw reads (only-short (normalSheet p) out);
   draw = λ out. rw reads (only-short (bytesOf (chartOf p)) out);
-  draw-bars = λ out bars. rw reads (only-short-both (chartOf p) (p .n) (chart-shows p v .corners) out bars);
+  draw-bars = λ out bars. rw reads (only-short-bars (chartOf p) (p .n) (chart-shows p v .corners) out bars);
   plan = rw reads;
 }
 

@@ -3,7 +3,7 @@ use mathlib.Core.Path.{refl}
 use mathlib.Core.Logic.{Dec·and}
 use mathlib.Core.List.{flatMap}
 use native.Mathlib.Decide.{decLe, decLt, ℕ-discrete}
-use Rattle.lists.specs.Lists.{All, all-nil, all-cons, choose, put, keep, numbers, below, not?, either?, all?, sorted?, mem?}
+use Rattle.lists.specs.Lists.{All, all-cons, all-nil, all?, below, choose, either?, keep, mem?, not?, numbers, put, sorted?}
 use Rattle.polygon.specs.Order.{before?, same?, cross?, none-cross?, diagonal?, distinct?, remove, place, insert, sort, lower-first}
 use Rattle.polygon.specs.Tree.{span, chordsAt, treeOf, grow, far, farther, near?}
 use Rattle.sheet.specs.Sheet.{ask, pairs, partNumber, count?, more, readSheet, pairBytes, numberBytes, numberBit, mapByte, normalSheet, outcome}
@@ -23,6 +23,12 @@ use Rattle.draw.specs.Printed.{printedOf, printed}
 use Rattle.promises.specs.Known.{sheet, barsIn, columnsIn, Holds, cases}
 
 pub known : All Holds cases
-unfolding sheet barsIn columnsIn readSheet ask pairs partNumber count? more pairBytes numberBytes numberBit mapByte normalSheet outcome Dec·and choose put keep numbers below all? diagonal? distinct? sorted? not? mem? same? none-cross? cross? sort insert place before? either? lower-first remove decLe ℕ-discrete decLt side? linked? joined? common enter flipped rule onHeld edited planned answer draw.drawn draw.charted printed printedOf digits decimal numberWord line refusedLine chartOf chart layout treeOf grow far farther near? span chordsAt best umbrella leftAt rightAt stemAt over-node ud fold cols rows edges edgesAt edgesPast barsOf meets? first last stroke barBytes strokeBytes bytesOf flatMap
+unfolding sheet barsIn columnsIn readSheet ask pairs partNumber count? more pairBytes numberBytes numberBit mapByte normalSheet outcome Dec·and choose put keep
+    numbers below all? diagonal? distinct? sorted? not? mem? same? none-cross? cross? sort insert place before? either? lower-first remove decLe ℕ-discrete decLt
+    side? linked? joined? common enter flipped rule onHeld edited planned answer draw.drawn draw.charted printed printedOf digits decimal numberWord line
+    refusedLine chartOf chart layout treeOf grow far farther near? span chordsAt best umbrella leftAt rightAt stemAt over-node ud fold cols rows edges edgesAt
+    edgesPast barsOf meets? first last stroke barBytes strokeBytes bytesOf flatMap
 known =
-    all-cons refl (all-cons refl (all-cons refl (all-cons refl (all-cons refl (all-cons refl (all-cons refl (all-cons refl (all-cons refl (all-cons refl (all-cons refl (all-cons refl (all-cons refl (all-cons refl (all-cons refl (all-cons refl (all-cons refl (all-cons refl (all-cons refl all-nil))))))))))))))))))
+    all-cons refl (all-cons refl (all-cons refl (all-cons refl (all-cons refl (all-cons refl (all-cons refl
+    (all-cons refl (all-cons refl (all-cons refl (all-cons refl (all-cons refl (all-cons refl (all-cons refl
+    (all-cons refl (all-cons refl (all-cons refl (all-cons refl (all-cons refl all-nil))))))))))))))))))

@@ -9,6 +9,7 @@ use lib.ListN.{length, take, drop}
 use Rattle.lists.specs.Lists.{Mem}
 use Rattle.polygon.specs.Polygon.{Polygon}
 use Rattle.codec.specs.Answer.{Outcome, written}
+use Rattle.codec.specs.TwoOutputs.{BothAnswer}
 use Rattle.codec.specs.Numbers.{run16}
 use Rattle.sheet.specs.Sheet.{held, readSheet, ordered}
 use Rattle.codec.specs.Refusals.{Proper, Finished, Refusal, Settled}
@@ -18,22 +19,22 @@ use Rattle.edit_list.specs.Script.{scriptOf}
 use Rattle.edit_list.specs.Desk.{begin, numbersOf}
 use Rattle.edit_list.specs.Result.{Result, finished, resultOf}
 use Rattle.umbrella.specs.Best.{planOf}
-use Rattle.plan.specs.Answer.{Answer, countsOf, planned}
+use Rattle.plan.specs.Answer.{PlanAnswer, countsOf, planned}
 use Rattle.chart.specs.Chart.{Bar, Chart, barsOf, chartOf}
 use Rattle.chart.specs.Bytes.{bytesOf}
 use Rattle.chart_reader.specs.Reader.{chartRead}
-use Rattle.draw.specs.Answer.{Drawing, drawn, drawnWithBars}
+use Rattle.draw.specs.Answer.{drawn, drawnWithBars}
 
 -- an operation that is to do o, whatever output is lent
 abbrev pub Answers : List ℕ → Outcome → Type 0
 Answers ks o = (out : List ℕ) → Settled ks o out (written o out)
 
 -- Plan, which writes nothing
-pub record PlanFinished (p : Polygon) (a : Answer) : Type 0 where
+pub record PlanFinished (p : Polygon) (a : PlanAnswer) : Type 0 where
   pub zero : a .number ≡ 0
   pub counts : a ≡ countsOf (planOf p)
 
-pub record PlanRefusal (ks : List ℕ) (a : Answer) : Type 0 where
+pub record PlanRefusal (ks : List ℕ) (a : PlanAnswer) : Type 0 where
   pub published : Mem (a .number) ks
   pub proper : Proper (a .number)
   pub no-levels : a .levels ≡ 0
@@ -44,16 +45,16 @@ abbrev pub PlanAnswers : List ℕ → List ℕ → Type 0
 PlanAnswers ks s = ((p : Polygon) × (readSheet s ≡ held p) × PlanFinished p (planned s)) ⊎ PlanRefusal ks (planned s)
 
 -- Draw with the bar list, which writes bytes and records
-pub record BothFinished (c : Chart) (out : List ℕ) (bars : List Bar) (d : Drawing) : Type 0 where
+pub record BothFinished (c : Chart) (out : List ℕ) (bars : List Bar) (d : BothAnswer Bar) : Type 0 where
   pub chart : Finished (bytesOf c) out (d .answer)
   pub told : d .count ≡ length (barsOf c)
-  pub result : take (d .count) (d .bars) ≡ barsOf c
-  pub beyond : drop (d .count) (d .bars) ≡ drop (d .count) bars
+  pub result : take (d .count) (d .second) ≡ barsOf c
+  pub beyond : drop (d .count) (d .second) ≡ drop (d .count) bars
 
-pub record BothRefusal (ks out : List ℕ) (bars : List Bar) (d : Drawing) : Type 0 where
+pub record BothRefusal (ks out : List ℕ) (bars : List Bar) (d : BothAnswer Bar) : Type 0 where
   pub bytes : Refusal ks out (d .answer)
   pub nothing : d .count ≡ 0
-  pub untouched : d .bars ≡ bars
+  pub untouched : d .second ≡ bars
 
 abbrev pub BothAnswers : List ℕ → List ℕ → Type 0
 BothAnswers ks s = (out : List ℕ) (bars : List Bar)

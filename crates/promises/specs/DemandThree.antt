@@ -11,7 +11,7 @@ use Rattle.polygon.specs.Polygon.{Edge, Polygon, Valid}
 use Rattle.polygon.specs.Tree.{Tree, treeOf}
 use Rattle.codec.specs.Answer.{write, Answer, written, OnlyShort}
 use Rattle.sheet.specs.Sheet.{held, readSheet}
-use Rattle.edit.specs.Model.{numbers, left, modelSheet}
+use Rattle.edit.specs.Model.{modelNumbers, left, modelSheet}
 use Rattle.edit.specs.Calls.{Call, lent, answers, sheetLeft}
 use Rattle.umbrella.specs.Plan.{Plan, levels, umbrellas, stems}
 use Rattle.umbrella.specs.Best.{planOf}
@@ -37,7 +37,7 @@ chartLeft p cs = chartOf (partLeft p cs)
 -- For a first sheet s that holds the part p, and any list of calls:
 pub record DemandThree (s : List ℕ) (p : Polygon) (cs : List Call) : Type 0 where
   -- "Each edit's number is the plain part's,"
-  pub same-numbers : answers s cs ≡ numbers p (map lent cs)
+  pub same-numbers : answers s cs ≡ modelNumbers p (map lent cs)
   -- "and the sheet left after the list is, byte for byte, the plain part's normal sheet, or the first sheet if no edit was taken."
   pub same-sheet : sheetLeft s cs ≡ modelSheet s p (map lent cs)
   -- That sheet is accepted: what is read from it is the plain part, which is valid.
@@ -87,4 +87,4 @@ pub record SameChart (s t : List ℕ) (p q : Polygon) (cs ds : List Call) : Type
   -- Draw with it
   pub equal-bars : SamePart (partLeft p cs) (partLeft q ds) → (out out' : List ℕ) (bars bars' : List Bar)
       → let a = drawnWithBars (sheetLeft s cs) out bars in let b = drawnWithBars (sheetLeft t ds) out' bars' in
-      a .answer .number ≡ 0 → b .answer .number ≡ 0 → SameBytes (a .answer) (b .answer) × (take (partLeft p cs .n) (a .bars) ≡ take (partLeft q ds .n) (b .bars))
+      a .answer .number ≡ 0 → b .answer .number ≡ 0 → SameBytes (a .answer) (b .answer) × (take (partLeft p cs .n) (a .second) ≡ take (partLeft q ds .n) (b .second))

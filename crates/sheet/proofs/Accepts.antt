@@ -6,8 +6,8 @@ use mathlib.Core.Option.{Option, none, some}
 use Prim.Native.Nat.{ℕ, zero, suc, _+_, _*_, _-_, _<_}
 use native.Mathlib.Omega.{arith}
 use lib.ListN.{length, getD}
-use Rattle.lists.specs.Lists.{Sub, All}
-use Rattle.lists.proofs.Lists.{all-imp, all-of, all-mem}
+use Rattle.lists.specs.Lists.{All, Sub}
+use Rattle.lists.proofs.Lists.{all-imp, all-mem, all-of}
 use Rattle.polygon.specs.Polygon.{Edge, Polygon, Valid}
 use Rattle.polygon.proofs.Sort.{sort-sub, sort-mem, sort-is}
 use Rattle.polygon.proofs.Reading.{same-set}

@@ -6,14 +6,14 @@ use Prim.Native.Nat.{ℕ, _+_, _*_, _-_, _≤_}
 use native.Mathlib.Omega.{arith}
 use lib.ListN.{length, take, drop, length-append, length-drop}
 use lib.Seq.{take-at, length-take-le}
-use Rattle.lists.specs.Lists.{Sub, All, all-nil, all-cons}
+use Rattle.lists.specs.Lists.{All, Sub, all-cons, all-nil}
 use Rattle.lists.proofs.Lists.{all-mem, all-of}
 use Rattle.polygon.specs.Polygon.{Edge, Ascending, NoneCross, Diagonal}
 use Rattle.polygon.specs.Order.{Distinct, sort}
 use Rattle.polygon.proofs.Sort.{sort-all, sort-sub, sort-mem, sort-ascends}
 use Rattle.codec.specs.Numbers.{get16}
 use Rattle.keys.specs.Keys.{edgesOf}
-use Rattle.keys.specs.Sort.{ascends, sortKeys, Within}
+use Rattle.keys.specs.Sort.{ascends, sortKeys, FewBits}
 use Rattle.keys.specs.Tops.{Diagonals}
 use Rattle.keys.proofs.Insert.{length-sort}
 use Rattle.keys.proofs.InOrder.{sort-edges, ascends-edges, edges-ascend}
@@ -21,23 +21,23 @@ use Rattle.sheet.specs.declared.Head.{Head}
 use Rattle.sheet.specs.declared.Read.{Read}
 use Rattle.sheet.specs.declared.Read.the-variants.{Refused, Held}
 use Rattle.sheet.specs.Sheet.{refused, held, readSheet, pairs}
-use Rattle.sheet.specs.Held.{polygonOf, HeadOf, Says, Reads, gives}
+use Rattle.sheet.specs.Held.{polygonOf, HeadOf, HeadSays, Reads, gives}
 use Rattle.sheet.proofs.Asks.{refused-5, refused-6, refused-7, accepted, edgesIn, partIn}
 use Rattle.sheet.proofs.Fields.{length-is}
 use Rattle.sheet.proofs.Valid.{read-triangulated}
 
 -- the two cases of a head
-pub says-refused : (s : List ℕ) (r : Read) (k : ℕ) → Says s r → r ≡ Refused k → readSheet s ≡ refused k
+pub says-refused : (s : List ℕ) (r : Read) (k : ℕ) → HeadSays s r → r ≡ Refused k → readSheet s ≡ refused k
 says-refused s r k h e = rw e at h
 
-pub says-held : (s : List ℕ) (r : Read) (h : Head) → Says s r → r ≡ Held h → HeadOf s h
+pub says-held : (s : List ℕ) (r : Read) (h : Head) → HeadSays s r → r ≡ Held h → HeadOf s h
 says-held s r h S e = rw e at S
 
 none-cross-sub : (xs ys : List Edge) → Sub xs ys → NoneCross ys → NoneCross xs
 none-cross-sub xs ys f N = all-of xs (λ p m. all-of xs (λ q k. all-mem (all-mem N (f p m)) (f q k)))
 
 -- keys of diagonals are small
-pub small-all : (n : ℕ) (ks : List ℕ) → n ≤ 1024 → All (Diagonal n) (edgesOf ks) → Within 20 ks
+pub small-all : (n : ℕ) (ks : List ℕ) → n ≤ 1024 → All (Diagonal n) (edgesOf ks) → FewBits 20 ks
 small-all n [] h a = all-nil
 small-all n (k ∷ ks) h (all-cons d a) = all-cons {x = k} (omega (arith, d .forth, d .corner)) (small-all n ks h a)
 

@@ -10,7 +10,7 @@ use Rattle.sheet.specs.declared.Head.{Head}
 use Rattle.sheet.specs.declared.Read.{Read}
 use Rattle.sheet.specs.declared.Read.the-variants.{Refused, Held}
 use Rattle.sheet.specs.Sheet.{Reading, refused, held}
-use Rattle.sheet.specs.Held.{polygonOf, Small, InHand, Reads, refuses, gives}
+use Rattle.sheet.specs.Held.{polygonOf, SmallKeys, InHand, Reads, refuses, gives}
 
 -- the reading in each case of the code's answer
 abbrev pub readOf : Read → List ℕ → Reading
@@ -39,5 +39,5 @@ module _ {h : Head} {ks : List ℕ} (P : InHand h ks) where
   pub keys-count : length (take (h .n - 3) ks) ≡ h .n - 3
   keys-count = length-take-le (h .n - 3) ks keys-lie
 
-  pub keys-small : Small (take (h .n - 3) ks)
+  pub keys-small : SmallKeys (take (h .n - 3) ks)
   keys-small j i = let d = edges-at (take (h .n - 3) ks) (P .valid .triangulated .diagonals) j i in omega (arith, d .forth, d .corner, P .valid .most)

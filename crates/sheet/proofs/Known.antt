@@ -5,7 +5,7 @@ use mathlib.Core.Logic.{Dec·and}
 use mathlib.Core.Option.{none, some}
 use Prim.Native.Nat.{ℕ}
 use native.Mathlib.Decide.{decLe, decLt, ℕ-discrete}
-use Rattle.lists.specs.Lists.{All, all-nil, all-cons, choose, not?, either?, all?, sorted?}
+use Rattle.lists.specs.Lists.{All, all-cons, all-nil, all?, choose, either?, not?, sorted?}
 use Rattle.polygon.specs.Polygon.{_—_}
 use Rattle.polygon.specs.Order.{before?, same?, cross?, none-cross?, diagonal?, distinct?, place, insert, sort, lower-first}
 use Rattle.sheet.specs.Sheet.{Reading, refused, held, ask, pairs, partNumber, count?, more, readSheet}

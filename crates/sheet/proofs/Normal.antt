@@ -25,7 +25,7 @@ unfolding pairs
 pairs-count s at zero = refl
 pairs-count s at (suc k) = ap suc (pairs-count s (at + 4) k)
 
-lower-first-same : (e : Edge) → e .0 ≤ e .1 → lower-first e ≡ e
+pub lower-first-same : (e : Edge) → e .0 ≤ e .1 → lower-first e ≡ e
 unfolding lower-first
 lower-first-same e h = rw (min-eq-left h, max-eq-right h)
 

@@ -2,23 +2,19 @@
 use mathlib.Core.Path.{_≡_, refl, ap}
 use mathlib.Core.List.{List, [], _∷_, _++_, map-append}
 use Prim.Native.Nat.{ℕ, zero, suc, _+_, _*_, _-_, _≤_, _<_}
-use native.Mathlib.Nat.{min-eq-left, min-eq-right, max-eq-left, max-eq-right}
+use native.Mathlib.Nat.{min-eq-right, max-eq-left}
 use native.Mathlib.Numerals.{add-one}
 use native.Mathlib.Omega.{arith}
 use lib.ListN.{length, take, set, length-set}
 use lib.Seq.{take-suc-set}
-use Rattle.lists.specs.Lists.{Mem, tail, All, all-nil, all-cons}
-use Rattle.lists.proofs.Lists.{here, all-append}
+use Rattle.lists.specs.Lists.{All, Mem, all-cons, all-nil, tail}
+use Rattle.lists.proofs.Lists.{all-append, here}
 use Rattle.polygon.specs.Polygon.{Edge, _—_, Diagonal}
 use Rattle.polygon.specs.Order.{lower-first}
 use Rattle.keys.specs.Keys.{keyOf, edgeOf, edgesOf}
 use Rattle.keys.proofs.InOrder.{edge-of-key}
 use Rattle.sheet.specs.Sheet.{pairs}
 use Rattle.sheet.specs.Held.{pairAt}
-
-pub lower-below : (a b : ℕ) → a < b → lower-first (a, b) ≡ a — b
-unfolding lower-first
-lower-below a b h = let k : a ≤ b = omega arith in rw (min-eq-left k, max-eq-right k)
 
 pub lower-above : (a b : ℕ) → b ≤ a → lower-first (a, b) ≡ b — a
 unfolding lower-first

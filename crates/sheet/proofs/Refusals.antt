@@ -1,13 +1,12 @@
 -- The numbers that refuse a sheet.
-use mathlib.Core.Path.{_≡_}
 use mathlib.Core.List.{List, [], _∷_, _++_}
 use Prim.Native.Nat.{ℕ}
 use native.Mathlib.Omega.{arith}
 use Rattle.lists.specs.Lists.{Mem, All, numbers}
-use Rattle.lists.proofs.Lists.{here, there, all-mem, all-imp}
+use Rattle.lists.proofs.Lists.{here, there, all-imp}
 use Rattle.lists.proofs.Places.{numbers-in}
 use Rattle.codec.specs.Answer.{written}
-use Rattle.sheet.specs.Sheet.{Reading, refused, ask, readSheet, outcome, ordered}
+use Rattle.sheet.specs.Sheet.{Reading, ask, readSheet, outcome, ordered}
 use Rattle.codec.specs.Refusals.{Refuses, number, writes, Proper, Settled}
 use Rattle.codec.proofs.Refusals.{settled}
 use Rattle.sheet.specs.Refusals.{sheetTests, RefusedBy, by, holds}
@@ -39,10 +38,3 @@ tests-proper = all-imp (λ k h. (omega arith, omega arith)) (numbers-in 7 1)
 pub ordered-settled : (s out : List ℕ) → Settled (sheetTests ++ (8 ∷ [])) (ordered s) out (written (ordered s) out)
 unfolding ordered
 ordered-settled s out = settled _ out tests-proper (outcome-refuses (read-refuses s))
-
--- so the number of a refusal is not 0
-pub refused-proper : (s : List ℕ) (k : ℕ) → readSheet s ≡ refused k → Proper k
-refused-proper s k e = go (rw e at (read-refuses s))
-  where
-    go : {j : ℕ} → RefusedBy sheetTests (refused j) → Proper j
-    go (by m) = all-mem tests-proper m

@@ -1,24 +1,25 @@
 -- No sheet is longer than 4,091 bytes.
 use mathlib.Core.Path.{_≡_, refl}
+use mathlib.Core.Logic.{inl, inr}
 use mathlib.Core.List.{List}
 use Prim.Native.Nat.{ℕ, _+_, _-_, _≤_}
-use native.Mathlib.Decide.{decLe}
 use native.Mathlib.Omega.{arith}
 use lib.ListN.{length}
 use Rattle.polygon.specs.Polygon.{Polygon}
 use Rattle.polygon.proofs.Sort.{sort-length}
-use Rattle.codec.specs.Answer.{write, fit, written}
+use Rattle.codec.specs.Answer.{write, written}
+use Rattle.codec.proofs.Answers.{written-is}
 use Rattle.codec.specs.Numbers.{get16}
 use Rattle.sheet.specs.Sheet.{Reading, refused, held, readSheet, normalSheet, outcome, ordered}
 use Rattle.sheet.proofs.Asks.{edgesIn, held-form}
 use Rattle.sheet.proofs.Normal.{normal-length, number-bit, pairs-count}
 
 -- the corners and the diagonals of what a reading holds
-abbrev pub Counted : Reading → Type 0
-Counted (refused k) = Unit {0}
-Counted (held p) = (p .n ≤ 1024) × (length (p .ds) + 3 ≡ p .n)
+abbrev pub CountedPart : Reading → Type 0
+CountedPart (refused k) = Unit {0}
+CountedPart (held p) = (p .n ≤ 1024) × (length (p .ds) + 3 ≡ p .n)
 
-pub read-counted : (s : List ℕ) (p : Polygon) → readSheet s ≡ held p → Counted (held p)
+pub read-counted : (s : List ℕ) (p : Polygon) → readSheet s ≡ held p → CountedPart (held p)
 read-counted s p e =
     let W = held-form s p e in
     let n : length (edgesIn s) ≡ get16 s 1 - 3 = pairs-count s 3 (get16 s 1 - 3) in
@@ -26,14 +27,9 @@ read-counted s p e =
 
 -- what an operation writes for such a part
 pub written-size : (bs out : List ℕ) → written (write bs) out .size ≤ length bs
-unfolding written fit
-written-size bs out = go (decLe (length bs) (length out))
-  where
-    go : (d : Dec (length bs ≤ length out)) → fit d bs out .size ≤ length bs
-    go (yes p) = omega arith
-    go (no p) = omega arith
+written-size bs out = elim (written-is bs out) [ inl w ↦ rw (w .1) (omega arith) | inr w ↦ rw (w .1) (omega arith) ]
 
-pub outcome-size : (r : Reading) (out : List ℕ) → Counted r → written (outcome r) out .size ≤ 4091
+pub outcome-size : (r : Reading) (out : List ℕ) → CountedPart r → written (outcome r) out .size ≤ 4091
 unfolding outcome written
 outcome-size (refused k) out C = omega arith
 outcome-size (held p) out C = omega (arith, written-size (normalSheet p) out, normal-length p (C .1), number-bit (p .number))

@@ -23,7 +23,10 @@ unfolding pairBytes
 pairs-snoc [] e = refl
 pairs-snoc (x ∷ es) e = ap (λ (l : List ℕ). bytes16 (x .0) ++ (bytes16 (x .1) ++ l)) (pairs-snoc es e)
 
--- one more edge
+-- one more edge: in the list, and in an output
+pub edges-more : (ks : List ℕ) (j : ℕ) → j < length ks → edgesOf (take (j + 1) ks) ≡ edgesOf (take j ks) ++ (edgeOf (getD ks j 0) ∷ [])
+edges-more ks j h = rw (add-one j, take-suc ks j 0 h) (map-append edgeOf (take j ks) (getD ks j 0 ∷ []))
+
 pub edges-next : (keys out : List ℕ) (at i : ℕ) → i < length keys
     → sets (sets (sets out at (pairBytes (edgesOf (take i keys)))) (at + i * 4) (bytes16 (getD keys i 0 / 1024))) (at + i * 4 + 2) (bytes16 (getD keys i 0 % 1024))
     ≡ sets out at (pairBytes (edgesOf (take (i + 1) keys)))
@@ -31,7 +34,9 @@ edges-next keys out at i h =
     let es : List Edge = edgesOf (take i keys) in
     let k : ℕ = getD keys i 0 in
     let n : length (pairBytes es) ≡ i * 4 = omega (arith, pairs-length es, length-map (take i keys) edgeOf, length-take-le i keys (omega arith)) in
-    rw (add-one i, take-suc keys i 0 h, map-append edgeOf (take i keys) (k ∷ []), pairs-snoc es (edgeOf k), sets-append (pairBytes es) (bytes16 (k / 1024) ++ bytes16 (k % 1024)) out at, n, sets-append (bytes16 (k / 1024)) (bytes16 (k % 1024)) (sets out at (pairBytes es)) (at + i * 4))
+    let high : List ℕ = bytes16 (k / 1024) in
+    let low : List ℕ = bytes16 (k % 1024) in
+    rw (edges-more keys i h, pairs-snoc es (edgeOf k), sets-append (pairBytes es) (high ++ low) out at, n, sets-append high low (sets out at (pairBytes es)) (at + i * 4))
 
 -- the whole sheet
 pub sheet-written : (p : Polygon) (out : List ℕ) → length (normalSheet p) ≤ length out

@@ -34,8 +34,8 @@ pub data Reads (q : Reading) : Read → List ℕ → Type 0 where
   gives : {h : Head} {ks : List ℕ} → q ≡ held (polygonOf h ks) → InHand h ks → Reads q (Held h) ks
 
 -- the keys are of edges whose corners are below 1,024
-abbrev pub Small : List ℕ → Type 0
-Small ks = (j : ℕ) → j < length ks → getD ks j 0 < 1048576
+abbrev pub SmallKeys : List ℕ → Type 0
+SmallKeys ks = (j : ℕ) → j < length ks → getD ks j 0 < 1048576
 
 -- a head that was read: the sheet refused, or its frame and what the head holds of it
 pub record HeadOf (s : List ℕ) (h : Head) : Type 0 where
@@ -44,9 +44,9 @@ pub record HeadOf (s : List ℕ) (h : Head) : Type 0 where
   pub number : numberOf (h .numbered) (h .number) ≡ partNumber (bit2 (getD s 0 0)) (get32 s (3 + 4 * (get16 s 1 - 3)))
   pub fits : Numbered (numberOf (h .numbered) (h .number))
 
-abbrev pub Says : List ℕ → Read → Type 0
-Says s (Refused k) = readSheet s ≡ refused k
-Says s (Held h) = HeadOf s h
+abbrev pub HeadSays : List ℕ → Read → Type 0
+HeadSays s (Refused k) = readSheet s ≡ refused k
+HeadSays s (Held h) = HeadOf s h
 
 -- the pair at a place of a sheet, with its lower corner first
 abbrev pub pairAt : List ℕ → ℕ → Edge

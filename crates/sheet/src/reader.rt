@@ -7,7 +7,7 @@ ghost use Rattle.lists.specs.Lists.{All};
 ghost use Rattle.polygon.specs.Polygon.{_—_, Diagonal};
 ghost use Rattle.keys.specs.Keys.{edgesOf};
 ghost use Rattle.sheet.specs.Sheet.{readSheet, pairs, bit1, bit2, more};
-ghost use Rattle.sheet.specs.Held.{Reads, Says, KeyIs, pairAt};
+ghost use Rattle.sheet.specs.Held.{Reads, HeadSays, KeyIs, pairAt};
 use crate::Head;
 use crate::Read;
 use codec::get16;
@@ -39,7 +39,7 @@ fn behind(map: u8) -> usize
 
 // The tests up to the sheet's exact length.
 fn read_head(sheet: &[u8]) -> Read
-    ensures { λ r. ⌜ Says (now (sheet .entry)) r ⌝ }
+    ensures { λ r. ⌜ HeadSays (now (sheet .entry)) r ⌝ }
 {
     let size = sheet.len();
     if size == 0 {

@@ -7,7 +7,7 @@ ghost use Rattle.polygon.specs.Polygon.{Numbered};
 ghost use Rattle.codec.specs.Answer.{answered, written, write};
 ghost use Rattle.keys.specs.Keys.{edgesOf};
 ghost use Rattle.sheet.specs.Sheet.{normalSheet, pairBytes, numberBytes, numberBit, more};
-ghost use Rattle.sheet.specs.Held.{polygonOf, numberOf, Small, InHand};
+ghost use Rattle.sheet.specs.Held.{polygonOf, numberOf, SmallKeys, InHand};
 use crate::Head;
 use codec::Written;
 use codec::put16;
@@ -47,7 +47,7 @@ fn put_number(out: &mut [u8], at: usize, numbered: bool, number: usize)
 // Writes the corners of each key's edge.
 fn put_edges(out: &mut [u8], at: usize, keys: &[u32])
     requires { ⌜ at + length (now keys) * 4 ≤ length (now out) ⌝ }
-    requires { ⌜ Small (now keys) ⌝ }
+    requires { ⌜ SmallKeys (now keys) ⌝ }
     ensures { λ _. ⌜ now (out .exit) ≡ sets (now (out .entry)) at (pairBytes (edgesOf (now (keys .entry)))) ⌝ }
 {
     let mut i = 0;

@@ -8,7 +8,7 @@ use lib.ListN.{length, getD, set}
 use lib.Seq.{getD-set-same, getD-set-other}
 use Rattle.polygon.proofs.Order.{low-of}
 use Rattle.keys.specs.Keys.{edgeOf}
-use Rattle.tree.specs.Shows.{edgeAt, Lasts}
+use Rattle.tree.specs.Table.{edgeAt, Lasts}
 
 module _ (tr : List ℕ) (j c : ℕ) (room : length tr ≡ 3072) (inside : j < 2045) (small : c < 1024) (is : c ≡ edgeAt tr j .0) where
   abbrev next : List ℕ

@@ -1,7 +1,6 @@
 pub mod Pieces
-pub mod ShowsTree
+pub mod Table
 pub mod Lasting
-pub mod Placing
-pub mod Sides
+pub mod Outline
 pub mod Listing
 pub mod Whole

@@ -1,2 +1,2 @@
-pub mod Shows
-pub mod Sides
+pub mod Table
+pub mod Outline

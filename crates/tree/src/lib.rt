@@ -1,6 +1,6 @@
-// The tree of a part in one table: all its edges ascending, and for each corner the place of its last edge. A piece is the place of its root edge and its two corners.
+// The tree of a part in one table: all its edges ascending, and for each corner the place of its last edge. A piece is known by its root edge.
 // In that order the edge (u,c) of a triangle (u,c,v) stands just before (u,v), and (c,v) is the last edge of c; so a piece is opened by two reads.
-// specs/Shows.antt says what the table shows; edges.rt lists the edges.
+// specs/Table.antt says which tree stands in the table; edges.rt lists the edges.
 ghost use mathlib.Core.Path.{_≡_};
 ghost use Prim.Native.Nat.{ℕ, _+_, _*_, _-_, _<_, _≤_};
 ghost use lib.ListN.{length, take, getD};
@@ -8,7 +8,7 @@ ghost use Rattle.polygon.specs.Polygon.{Triangulated};
 ghost use Rattle.polygon.specs.Edges.{edges};
 ghost use Rattle.polygon.specs.Tree.{treeOf};
 ghost use Rattle.keys.specs.Keys.{edgesOf};
-ghost use Rattle.tree.specs.Shows.{Shown, beyond, Lasts, Whole};
+ghost use Rattle.tree.specs.Table.{SomeTreeAt, beyond, Lasts, Whole};
 use crate::edges::list_edges;
 use keys::low;
 
@@ -20,8 +20,8 @@ pub const LAST: usize = 2048;
 // How many places the table has.
 pub const PLACES: usize = 3072;
 
-// The piece on the corners u to v, whose root edge stands at e.
-pub struct Piece {
+// A piece by its root edge: the place e of that edge, and its two corners.
+pub struct Root {
     pub e: u16,
     pub u: u16,
     pub v: u16,
@@ -29,25 +29,25 @@ pub struct Piece {
 
 // The pieces beyond the other two edges of a piece's triangle.
 pub struct Two {
-    pub left: Piece,
-    pub right: Piece,
+    pub left: Root,
+    pub right: Root,
 }
 
 // Opens a piece that is no side.
-pub fn open(tree: &[u32; PLACES], p: Piece) -> Two
-    requires shown { ⌜ Shown (now tree) p ⌝ }
+pub fn open(tree: &[u32; PLACES], p: Root) -> Two
+    requires shown { ⌜ SomeTreeAt (now tree) p ⌝ }
     requires apart { ⌜ p .u + 1 < p .v ⌝ }
     ensures { λ r. ⌜ r ≡ beyond (now (tree .entry)) p ⌝ }
 {
     let e = p.e as usize;
     let c = tree[e - 1] % 1024;
     let r = tree[LAST + c as usize];
-    let left = Piece {
+    let left = Root {
         e: p.e - 1,
         u: p.u,
         v: c as u16,
     };
-    let right = Piece {
+    let right = Root {
         e: r as u16,
         u: c as u16,
         v: p.v,
@@ -69,18 +69,19 @@ fn place_lasts(tree: &mut [u32], m: usize)
     }
 }
 
-// Fills the table from the keys of a part's diagonals, and gives the whole part.
-pub fn build(keys: &[u32], n: usize, tree: &mut [u32]) -> Piece
+// Fills a table of zeros from the keys of a part's diagonals, and gives the whole part.
+pub fn build(keys: &[u32], n: usize, tree: &mut [u32]) -> Root
     requires part { ⌜ Triangulated n (edgesOf (now keys)) × (n ≤ 1024) ⌝ }
     requires room { ⌜ length (now tree) ≡ 3072 ⌝ }
+    requires fresh { ⌜ ((i : ℕ) → getD (now tree) i 0 ≡ 0) ⌝ }
     ensures edges { λ _. ⌜ edgesOf (take (2 * n - 3) (now (tree .exit))) ≡ edges 0 (treeOf n (edgesOf (now (keys .entry)))) ⌝ }
-    ensures rest { λ _. ⌜ ((j : ℕ) → 2 * n - 3 ≤ j → j < 2048 → getD (now (tree .exit)) j 0 ≡ getD (now (tree .entry)) j 0) ⌝ }
+    ensures rest { λ _. ⌜ ((j : ℕ) → 2 * n - 3 ≤ j → j < 2048 → getD (now (tree .exit)) j 0 ≡ 0) ⌝ }
     ensures whole { λ r. ⌜ Whole n (treeOf n (edgesOf (now (keys .entry)))) (now (tree .exit)) r ⌝ }
 {
     let m = 2 * n - 3;
     list_edges(keys, n, tree);
     place_lasts(tree, m);
-    Piece {
+    Root {
         e: tree[LAST] as u16,
         u: 0,
         v: (n - 1) as u16,

@@ -5,8 +5,8 @@ use mathlib.Core.Logic.{_⊎_, inl, inr, _↔_, _≢_}
 use mathlib.Core.List.{List, [], _∷_, _++_}
 use Prim.Native.Nat.{ℕ, _+_, _≤_, _<_}
 use native.Mathlib.Omega.{arith}
-use Rattle.lists.specs.Lists.{Mem, head, tail, Sub, All, all-nil, all-cons}
-use Rattle.lists.proofs.Lists.{here, there, not-empty, mem-left, mem-right, all-append, all-imp, all-both, all-mem}
+use Rattle.lists.specs.Lists.{All, Mem, Sub, all-cons, all-nil, head, tail}
+use Rattle.lists.proofs.Lists.{all-append, all-both, all-imp, all-mem, here, mem-left, mem-right, not-empty, there}
 use Rattle.polygon.specs.Polygon.{Edge, _—_, Triangulated}
 use Rattle.polygon.specs.Tree.{Tree, leaf, node, span, chords, inner, Piece, itself, beyond-left, beyond-right, PieceOf}
 use Rattle.polygon.proofs.Order.{low-of, high-of}
@@ -15,7 +15,7 @@ use Rattle.polygon.proofs.PieceTheorem.{piece-lies, piece-chords, piece-of-piec
 use Rattle.umbrella.specs.Plan.{Plan, none, plain, stemLeft, stemRight}
 use Rattle.umbrella.specs.Triangles.{Triangle, Inner, Outer, own}
 use Rattle.umbrella.specs.Border.{Cut, hangs, takes, cutLeft, cutRight, cutLeftGate, cutRightGate, cut, hungIn, hung, Carries, Border}
-use Rattle.umbrella.proofs.Cut.{takenIn, Same, same-own}
+use Rattle.umbrella.proofs.Cut.{takenIn, SameTriangles, same-own}
 
 -- where the triangles of the upper part lie, and where the hung pieces lie
 taken-in : {t : Tree} (c : Cut t) (u v : ℕ) → u + span t ≡ v → All (λ x. (u ≤ x .0) × (x .0 < x .1) × (x .1 < x .2) × (x .2 ≤ v)) (takenIn u v c)
@@ -37,14 +37,14 @@ abbrev foot : ℕ × Tree → Edge
 foot s = s .0 — (s .0 + span (s .1))
 
 -- an edge of the upper part on which a triangle of it stands, or a hung piece
-abbrev Held : {t : Tree} → Cut t → ℕ → ℕ → Edge → Type 0
-Held c u v e = Inner (takenIn u v c) e ⊎ Carries (hungIn u c) e
+abbrev Covered : {t : Tree} → Cut t → ℕ → ℕ → Edge → Type 0
+Covered c u v e = Inner (takenIn u v c) e ⊎ Carries (hungIn u c) e
 
 -- an edge of it that lies under a triangle of it, or is the root edge
 abbrev Under : {t : Tree} → Cut t → ℕ → ℕ → Edge → Type 0
 Under c u v e = Outer (takenIn u v c) e ⊎ (e ≡ u — v)
 
-root-held : {t : Tree} (c : Cut t) (u v : ℕ) → u + span t ≡ v → Held c u v (u — v)
+root-held : {t : Tree} (c : Cut t) (u v : ℕ) → u + span t ≡ v → Covered c u v (u — v)
 unfolding takenIn hungIn
 root-held (hangs {t}) u v h = inr (t, here, h)
 root-held (takes {l} L R) u v h = inl (u + span l, mem-right (takenIn u (u + span l) L) here)
@@ -56,12 +56,12 @@ module _ {l r : Tree} (L : Cut l) (R : Cut r) (u v : ℕ) where
   abbrev T : List Triangle
   T = takenIn u v (takes L R)
 
-  held-left : (e : Edge) → Held L u m e → Held (takes L R) u v e
+  held-left : (e : Edge) → Covered L u m e → Covered (takes L R) u v e
   unfolding takenIn hungIn
   held-left e (inl (x, k)) = inl (x, mem-left _ k)
   held-left e (inr (s, k, j)) = inr (s, mem-left _ k, j)
 
-  held-right : (e : Edge) → Held R m v e → Held (takes L R) u v e
+  held-right : (e : Edge) → Covered R m v e → Covered (takes L R) u v e
   unfolding takenIn hungIn
   held-right e (inl (x, k)) = inl (x, mem-right (takenIn u m L) (there k))
   held-right e (inr (s, k, j)) = inr (s, mem-right (hungIn u L) k, j)
@@ -79,7 +79,7 @@ module _ {l r : Tree} (L : Cut l) (R : Cut r) (u v : ℕ) where
   under-right e (inr q) = subst (λ f. Outer T f) (sym q) (u, inr (mem-right (takenIn u m L) here))
 
 -- both lower edges of each triangle are held
-each-held : {t : Tree} (c : Cut t) (u v : ℕ) → u + span t ≡ v → All (λ x. Held c u v (x .0 — x .1) × Held c u v (x .1 — x .2)) (takenIn u v c)
+each-held : {t : Tree} (c : Cut t) (u v : ℕ) → u + span t ≡ v → All (λ x. Covered c u v (x .0 — x .1) × Covered c u v (x .1 — x .2)) (takenIn u v c)
 unfolding span takenIn
 each-held hangs u v h = all-nil
 each-held (takes {l} {r} L R) u v h =
@@ -154,7 +154,7 @@ module _ {l r : Tree} (L : Cut l) (R : Cut r) (u v : ℕ) (h : u + span (node l 
       (not-root O, inr (O, rw (sym j) (all-mem (never-both (takes L R) u v h) k)))
 
 -- and so that of the umbrella: the same triangles have the same border
-border-same : (xs ys : List Triangle) (root e : Edge) → Same xs ys → Border xs root e → Border ys root e
+border-same : (xs ys : List Triangle) (root e : Edge) → SameTriangles xs ys → Border xs root e → Border ys root e
 border-same xs ys root e (f, g) (ne, b) = (ne, elim b [ inl (i, k) ↦ inl (inner xs ys f i, λ o. k (outer ys xs g o)) | inr (o, k) ↦ inr (outer xs ys f o, λ i. k (inner ys xs g i)) ])
   where
     inner : (xs ys : List Triangle) → Sub xs ys → Inner xs e → Inner ys e
@@ -168,10 +168,10 @@ pub border-hung : {l r : Tree} (p : Plan (node l r)) (u v : ℕ) → u + span (n
 unfolding cut hung
 border-hung {l} {r} p u v h e = go p (same-own p u v)
   where
-    by-cut : (L : Cut l) (R : Cut r) (xs : List Triangle) → Same xs (takenIn u v (takes L R)) → Border xs (u — v) e ↔ Carries (hungIn u (takes L R)) e
+    by-cut : (L : Cut l) (R : Cut r) (xs : List Triangle) → SameTriangles xs (takenIn u v (takes L R)) → Border xs (u — v) e ↔ Carries (hungIn u (takes L R)) e
     by-cut L R xs (f, g) = (λ b. on-border L R u v h e (border-same _ _ _ e (f, g) b), λ c. border-same _ _ _ e (g, f) (of-border L R u v h e c))
 
-    go : (p : Plan (node l r)) → Same (own p u v) (takenIn u v (cut p)) → Border (own p u v) (u — v) e ↔ Carries (hungIn u (cut p)) e
+    go : (p : Plan (node l r)) → SameTriangles (own p u v) (takenIn u v (cut p)) → Border (own p u v) (u — v) e ↔ Carries (hungIn u (cut p)) e
     go (plain A B) s = by-cut _ _ _ s
     go (stemLeft G B) s = by-cut _ _ _ s
     go (stemRight A G) s = by-cut _ _ _ s

@@ -5,7 +5,7 @@ use Prim.Native.Nat.{ℕ, zero, suc, _≤_}
 use native.Mathlib.Decide.{decLe}
 use native.Mathlib.Omega.{arith}
 use Rattle.lists.specs.Lists.{choose}
-use Rattle.lists.proofs.Lists.{choose-yes, choose-no}
+use Rattle.lists.proofs.Lists.{choose-no, choose-yes}
 use Rattle.umbrella.specs.declared.roles.Role.the-variants.{Hung, LeftRim, RightRim, FromLeft, FromRight}
 use Rattle.umbrella.specs.Roles.{leftStep, rightStep, goesLeft}
 

@@ -5,13 +5,13 @@ use mathlib.Core.Logic.{inl, inr, _↔_}
 use mathlib.Core.List.{List}
 use Prim.Native.Nat.{ℕ, _+_, _≤_, _<_}
 use native.Mathlib.Omega.{arith}
-use Rattle.lists.specs.Lists.{Mem, head, All, all-nil, all-cons}
-use Rattle.lists.proofs.Lists.{mem-left, mem-right, there, all-append, all-imp, all-mem}
+use Rattle.lists.specs.Lists.{All, Mem, all-cons, all-nil, head}
+use Rattle.lists.proofs.Lists.{all-append, all-imp, all-mem, mem-left, mem-right, there}
 use Rattle.polygon.specs.Polygon.{Edge, Triangulated}
 use Rattle.polygon.specs.Tree.{Tree, leaf, node, span, chords, treeOf, itself, beyond-left, beyond-right, PieceOf}
 use Rattle.polygon.proofs.Chords.{span-pos, root-in}
 use Rattle.polygon.proofs.TreeTheorem.{tree-of}
-use Rattle.polygon.proofs.Triangle.{Touch, go-left, go-right, touch-left, touch-right, linked-up}
+use Rattle.polygon.proofs.Triangle.{JoinedIn, go-left, go-right, touch-left, touch-right, linked-up}
 use Rattle.polygon.proofs.PieceTheorem.{touch-cases, into-piece, joined}
 use Rattle.umbrella.specs.Triangles.{Triangle, triangles, AllJoined}
 use Rattle.umbrella.proofs.Triangles.{triangles-in}
@@ -26,7 +26,7 @@ three-imp : (J K : ℕ → ℕ → Type 0) → ((p q : ℕ) → J p q → K p q)
 three-imp J K f x w = record { low = f _ _ (w .low); high = f _ _ (w .high); long = f _ _ (w .long) }
 
 -- the corners of each triangle of a piece are joined in it
-each-joined : (u : ℕ) (t : Tree) → All (Three (Touch (chords u t))) (triangles u t)
+each-joined : (u : ℕ) (t : Tree) → All (Three (JoinedIn (chords u t))) (triangles u t)
 unfolding triangles
 each-joined u leaf = all-nil
 each-joined u (node l r) =
@@ -36,14 +36,14 @@ each-joined u (node l r) =
 
 -- a triangle at the root edge has its third corner where the two pieces meet
 module _ (u : ℕ) (l r : Tree) (b : ℕ) (h : u < b) (k : b < u + (span l + span r)) where
-  reaches : Touch (chords u (node l r)) u b → b ≤ u + span l
+  reaches : JoinedIn (chords u (node l r)) u b → b ≤ u + span l
   reaches t = elim (touch-cases u l r u b t) [ inl w ↦ w .0 | inr o ↦ absurd (elim o [ inl w ↦ omega (arith, w .0, span-pos l) | inr w ↦ omega (arith, w .1) ]) ]
 
-  starts : Touch (chords u (node l r)) b (u + (span l + span r)) → u + span l ≤ b
+  starts : JoinedIn (chords u (node l r)) b (u + (span l + span r)) → u + span l ≤ b
   starts t = elim (touch-cases u l r b _ t) [ inl w ↦ absurd (omega (arith, w .0, span-pos r)) | inr o ↦ elim o [ inl w ↦ w .0 | inr w ↦ absurd (omega (arith, w .0)) ] ]
 
 -- three joined corners of a piece are one of its triangles
-joined-each : (u : ℕ) (t : Tree) (a b c : ℕ) → u ≤ a → a < b → b < c → c ≤ u + span t → Three (Touch (chords u t)) (a, b, c) → Mem (a, b, c) (triangles u t)
+joined-each : (u : ℕ) (t : Tree) (a b c : ℕ) → u ≤ a → a < b → b < c → c ≤ u + span t → Three (JoinedIn (chords u t)) (a, b, c) → Mem (a, b, c) (triangles u t)
 unfolding span triangles
 joined-each u leaf a b c h i j k w = absurd (omega arith)
 joined-each u (node l r) a b c h i j k w = elim (touch-cases u l r a c (w .long)) [
@@ -73,7 +73,7 @@ module _ (n : ℕ) (ds : List Edge) (P : Triangulated n ds) where
     pub triangles-joined : (x : Triangle) → Mem x (triangles u t) ↔ ((u ≤ x .0) × (x .2 ≤ u + span t) × AllJoined n ds x)
     triangles-joined x = (λ m. forth (all-mem (triangles-in u t) m) (all-mem (each-joined u t) m), back)
       where
-        forth : (u ≤ x .0) × (x .0 < x .1) × (x .1 < x .2) × (x .2 ≤ u + span t) → Three (Touch (chords u t)) x → (u ≤ x .0) × (x .2 ≤ u + span t) × AllJoined n ds x
+        forth : (u ≤ x .0) × (x .0 < x .1) × (x .1 < x .2) × (x .2 ≤ u + span t) → Three (JoinedIn (chords u t)) x → (u ≤ x .0) × (x .2 ≤ u + span t) × AllJoined n ds x
         forth (h, i, j, k) w =
             let J = joined n ds P s in
             (h, k, (i, j, J _ (x .1) h i (omega arith) .0 (w .low), J (x .1) _ (omega arith) j k .0 (w .high), J (x .0) (x .2) h (omega arith) k .0 (w .long)))

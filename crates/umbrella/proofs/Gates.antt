@@ -9,7 +9,7 @@ use native.Mathlib.Nat.{add-assoc}
 use native.Mathlib.Omega.{arith}
 use lib.ListN.{length, length-append}
 use Rattle.lists.specs.Lists.{Mem}
-use Rattle.lists.proofs.Lists.{here, there, mem-left, mem-right}
+use Rattle.lists.proofs.Lists.{here, mem-left, mem-right, there}
 use Rattle.polygon.specs.Polygon.{Edge, _—_, Triangulated}
 use Rattle.polygon.specs.Tree.{Tree, leaf, node, span, chords, PieceOf}
 use Rattle.polygon.proofs.Chords.{span-pos, inner-left, inner-right, inner-chords, root-of}

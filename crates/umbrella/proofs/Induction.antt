@@ -2,7 +2,7 @@
 -- The choices of Best.antt are decided here, once: each step of the induction is told how the walk goes on (Roles.antt), and that the hung pieces do with the levels under the umbrella.
 -- Rests on Cases.antt, on the inequalities between the six numbers, and on the levels of the plan computed.
 use mathlib.Core.Path.{_≡_, refl}
-use mathlib.Core.Bool.{Bool, true, false, not}
+use mathlib.Core.Bool.{Bool, true, false, not, false≢true}
 use Prim.Native.Nat.{ℕ, suc, _≤_, min, max}
 use native.Mathlib.Decide.{decLe}
 use native.Mathlib.Omega.{arith}
@@ -12,7 +12,7 @@ use Rattle.umbrella.specs.Numbers.{ud, handle, fanA, fanB, partA, partB}
 use Rattle.umbrella.specs.Best.{Over, Node, two, umbrella, leftAt, rightAt, stemAt, under, best, bestLeft, bestRight, gateLeft, gateRight, bestStem}
 use Rattle.umbrella.specs.declared.roles.Role.{Role}
 use Rattle.umbrella.specs.declared.roles.Role.the-variants as role
-use Rattle.umbrella.specs.Roles.{goesLeft, stemStep, stepAt, stepOf}
+use Rattle.umbrella.specs.Roles.{isHung, goesLeft, stemStep, stepAt, stepOf}
 use Rattle.umbrella.proofs.Inequalities.{inequalities}
 use Rattle.umbrella.proofs.Theorems.{computed-has}
 use Rattle.umbrella.proofs.Cases.{left-hung, left-entered, right-hung, right-entered, end-both, end-left, only-right, end-right, only-left, both-left, both-right}
@@ -21,6 +21,13 @@ use Rattle.umbrella.proofs.Cases.{left-hung, left-entered, right-hung, 
 abbrev pub stem : Bool → Role
 stem true = role.FromRight
 stem false = role.FromLeft
+
+pub only-hung : (p : Role) → isHung p ≡ true → p ≡ role.Hung
+only-hung role.Hung h = refl
+only-hung role.LeftRim h = absurd (false≢true h)
+only-hung role.RightRim h = absurd (false≢true h)
+only-hung role.FromLeft h = absurd (false≢true h)
+only-hung role.FromRight h = absurd (false≢true h)
 
 -- the walk goes on from the triangle of the piece node a b, whose role is p, to roles x and y; along a stem, to the left if g
 abbrev Beyond : Role → ℕ → Tree → Tree → Role → Role → Bool → Type 0

@@ -19,8 +19,8 @@ counts p = (levels (planOf p), umbrellas (planOf p), stems (planOf p))
 abbrev pub three : Polygon
 three = record { n = 3; ds = []; number = none }
 
-abbrev pub six : Polygon
-six = record { n = 6; ds = (0 — 2) ∷ (0 — 4) ∷ (2 — 4) ∷ []; number = none }
+abbrev pub hexagon : Polygon
+hexagon = record { n = 6; ds = (0 — 2) ∷ (0 — 4) ∷ (2 — 4) ∷ []; number = none }
 
 abbrev pub seven : Polygon
 seven = record { n = 7; ds = (0 — 5) ∷ (1 — 3) ∷ (1 — 5) ∷ (3 — 5) ∷ []; number = none }
@@ -29,7 +29,7 @@ pub record Known : Type 0 where
   -- "n = 3: 1 level .. levels 1 umbrellas 1 stems 0"
   pub three-counts : counts three ≡ (1, 1, 0)
   -- "n = 6, (0,2) (2,4) (0,4): 1 level, 1 stem"
-  pub six-counts : counts six ≡ (1, 1, 1)
+  pub six-counts : counts hexagon ≡ (1, 1, 1)
   -- "n = 7, (0,5) (1,5) (1,3) (3,5): 2 levels, 2 umbrellas, no stem"
   pub seven-counts : counts seven ≡ (2, 2, 0)
 

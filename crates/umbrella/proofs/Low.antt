@@ -4,7 +4,8 @@ use Prim.Native.Nat.{ℕ, _≤_, max, suc, zero-le, suc-le-suc}
 use native.Mathlib.Nat.{le-refl, le-trans}
 use native.Mathlib.Omega.{arith}
 use Rattle.polygon.specs.Tree.{Tree}
-use Rattle.umbrella.specs.Plan.{Plan, none, plain, stemLeft, stemRight, LeftRim, leftEnd, leftOn, RightRim, rightEnd, rightOn, LeftGate, leftGate, leftPast, RightGate, rightGate, rightPast, Stem, endBoth, endLeft, endRight, goLeft, goRight, fold, foldLeft, foldRight, foldLeftGate, foldRightGate, foldStem, levels}
+use Rattle.umbrella.specs.Plan.{Plan, none, plain, stemLeft, stemRight, LeftRim, leftEnd, leftOn, RightRim, rightEnd, rightOn, LeftGate, leftGate, leftPast, RightGate}
+use Rattle.umbrella.specs.Plan.{rightGate, rightPast, Stem, endBoth, endLeft, endRight, goLeft, goRight, fold, foldLeft, foldRight, foldLeftGate, foldRightGate, foldStem, levels}
 use Rattle.umbrella.specs.Numbers.{ud, handle, fanA, fanB, partA, partB}
 use Rattle.umbrella.proofs.Lattice.{min-left, min-right, max-mono, max-lub}
 use Rattle.umbrella.proofs.Inequalities.{inequalities}

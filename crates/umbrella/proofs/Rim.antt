@@ -7,21 +7,21 @@ use Prim.Native.Nat.{ℕ, _+_, _≤_, _<_}
 use native.Mathlib.Decide.{decLt}
 use native.Mathlib.Nat.{add-assoc}
 use native.Mathlib.Omega.{arith}
-use Rattle.lists.specs.Lists.{Mem, head, tail, All, all-nil, all-cons, Sorted, sorted-nil, sorted-cons}
-use Rattle.lists.proofs.Lists.{there, not-empty, mem-left, mem-right, all-append, all-left, all-imp, all-mem, sorted-append}
+use Rattle.lists.specs.Lists.{All, Mem, Sorted, all-cons, all-nil, head, sorted-cons, sorted-nil, tail}
+use Rattle.lists.proofs.Lists.{all-append, all-imp, all-left, all-mem, mem-left, mem-right, not-empty, sorted-append, there}
 use Rattle.polygon.specs.Polygon.{Edge, Triangulated, Linked}
 use Rattle.polygon.specs.Tree.{Tree, leaf, node, span, chords, PieceOf}
 use Rattle.polygon.proofs.Chords.{span-pos}
-use Rattle.polygon.proofs.Triangle.{Touch, go-left, go-right, touch-left, touch-right, links-free}
+use Rattle.polygon.proofs.Triangle.{JoinedIn, go-left, go-right, touch-left, touch-right, links-free}
 use Rattle.polygon.proofs.PieceTheorem.{touch-cases, left-piece, right-piece, joined, root-joined}
 use Rattle.umbrella.specs.Rim.{rimBelow, rimAbove, rim}
 
 -- the corners of the piece t, on u to v, that are joined to its lower corner, and those that are joined to its higher one
 abbrev Low : ℕ → ℕ → Tree → ℕ → Type 0
-Low u v t x = (u < x) × (x < v) × Touch (chords u t) u x
+Low u v t x = (u < x) × (x < v) × JoinedIn (chords u t) u x
 
 abbrev High : ℕ → ℕ → Tree → ℕ → Type 0
-High u v t x = (u < x) × (x < v) × Touch (chords u t) x v
+High u v t x = (u < x) × (x < v) × JoinedIn (chords u t) x v
 
 -- each corner of the rim is so joined
 below-in : (u v : ℕ) (t : Tree) → u + span t ≡ v → All (Low u v t) (rimBelow u t)
@@ -71,7 +71,7 @@ mem-on c (y ∷ xs) ys (tail m) = tail (mem-on c xs ys m)
 abbrev OnRim : (ℕ → ℕ → Type 0) → ℕ → ℕ → ℕ → Type 0
 OnRim J u v x = (u < x) × (x < v) × (J u x ⊎ J x v)
 
-rim-in : (u : ℕ) (t : Tree) → All (OnRim (Touch (chords u t)) u (u + span t)) (rim u t)
+rim-in : (u : ℕ) (t : Tree) → All (OnRim (JoinedIn (chords u t)) u (u + span t)) (rim u t)
 unfolding span rim rimBelow rimAbove
 rim-in u leaf = all-nil
 rim-in u (node l r) =
@@ -79,7 +79,7 @@ rim-in u (node l r) =
     all-append (all-left (rimBelow u l) _ (all-imp (λ x k. (k .0, k .1, inl (k .2))) (below-in u v (node l r) refl)))
     (all-imp (λ x k. (k .0, k .1, inr (k .2))) (above-in u v (node l r) refl))
 
-rim-mem : (u : ℕ) (t : Tree) (x : ℕ) → OnRim (Touch (chords u t)) u (u + span t) x → Mem x (rim u t)
+rim-mem : (u : ℕ) (t : Tree) (x : ℕ) → OnRim (JoinedIn (chords u t)) u (u + span t) x → Mem x (rim u t)
 unfolding span rim rimBelow rimAbove
 rim-mem u leaf x (h, k, t) = absurd (omega arith)
 rim-mem u (node l r) x (h, k, inl t) = mem-on (u + span l) (rimBelow u l) _ (below-mem u (node l r) x (h, k, t))
@@ -115,11 +115,11 @@ module _ (n : ℕ) (ds : List Edge) (P : Triangulated n ds) where
   pub rim-joined : {u : ℕ} {t : Tree} → PieceOf n ds u t → (x : ℕ) → Mem x (rim u t) ↔ OnRim (Linked n ds) u (u + span t) x
   rim-joined {u} {t} a x = (λ m. forth (all-mem (rim-in u t) m), λ k. rim-mem u t x (back k))
     where
-      forth : OnRim (Touch (chords u t)) u (u + span t) x → OnRim (Linked n ds) u (u + span t) x
+      forth : OnRim (JoinedIn (chords u t)) u (u + span t) x → OnRim (Linked n ds) u (u + span t) x
       forth (h, k, inl j) = (h, k, inl (joined n ds P a u x (omega arith) h (omega arith) .0 j))
       forth (h, k, inr j) = (h, k, inr (joined n ds P a x (u + span t) (omega arith) k (omega arith) .0 j))
 
-      back : OnRim (Linked n ds) u (u + span t) x → OnRim (Touch (chords u t)) u (u + span t) x
+      back : OnRim (Linked n ds) u (u + span t) x → OnRim (JoinedIn (chords u t)) u (u + span t) x
       back (h, k, inl j) = (h, k, inl (joined n ds P a u x (omega arith) h (omega arith) .1 j))
       back (h, k, inr j) = (h, k, inr (joined n ds P a x (u + span t) (omega arith) k (omega arith) .1 j))
 

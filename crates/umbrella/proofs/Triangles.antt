@@ -6,12 +6,13 @@ use mathlib.Core.List.{List, [], _∷_, _++_, flatten}
 use Prim.Native.Nat.{ℕ, suc, _+_, _≤_, _<_}
 use native.Mathlib.Omega.{arith}
 use lib.ListN.{length, length-append}
-use Rattle.lists.specs.Lists.{Mem, All, all-nil, all-cons, Sorted, sorted-nil, sorted-cons, times, occurs}
-use Rattle.lists.proofs.Lists.{here, there, mem-left, mem-right, all-append, all-imp, all-both, all-mem, sorted-append}
-use Rattle.lists.proofs.Occurs.{occurs-append, occurs-flatten, mem-occurs, occurs-mem, occurs-once}
+use Rattle.lists.specs.Lists.{All, Mem, Sorted, all-cons, all-nil, sorted-cons, sorted-nil, occurs, times}
+use Rattle.lists.proofs.Lists.{all-append, all-both, all-imp, all-mem, here, mem-left, mem-right, sorted-append, there}
+use Rattle.lists.proofs.Occurs.{mem-occurs, occurs-append, occurs-flatten, occurs-mem, occurs-once}
 use Rattle.polygon.specs.Tree.{Tree, leaf, node, span}
 use Rattle.polygon.proofs.Chords.{span-pos}
-use Rattle.umbrella.specs.Plan.{Plan, none, plain, stemLeft, stemRight, LeftRim, leftEnd, leftOn, RightRim, rightEnd, rightOn, LeftGate, leftGate, leftPast, RightGate, rightGate, rightPast, Stem, endBoth, endLeft, endRight, goLeft, goRight, fold, foldLeft, foldRight, foldLeftGate, foldRightGate, foldStem, umbrellas}
+use Rattle.umbrella.specs.Plan.{Plan, none, plain, stemLeft, stemRight, LeftRim, leftEnd, leftOn, RightRim, rightEnd, rightOn, LeftGate, leftGate, leftPast, RightGate}
+use Rattle.umbrella.specs.Plan.{rightGate, rightPast, Stem, endBoth, endLeft, endRight, goLeft, goRight, fold, foldLeft, foldRight, foldLeftGate, foldRightGate, foldStem, umbrellas}
 use Rattle.umbrella.specs.Triangles.{Triangle, same-triangle?, triangles, AtRoot, own, ownLeft, ownRight, ownLeftGate, ownRightGate, ownStem, shares, sharesLeft, sharesRight, sharesLeftGate, sharesRightGate, sharesStem, Taken}
 
 -- where the triangles of a piece lie; by their middle corners they ascend

@@ -1,4 +1,4 @@
--- `fill_bars` meets its contract, by a walk of its code: the borrow of the records is opened once, before the loop, and closed once, after it. Each turn calls `bar_at` with a copy of the chart, takes one record out, stores to it
+-- `fill_bars` meets its contract, by a walk of its code: the borrow of the records is opened once, before the loop, and closed once, after it. Each turn calls `corner_bar` with a copy of the chart, takes one record out, stores to it
 -- and puts it back. The invariant, where t turns are left: i + t is n, and the first i records are the chart's bars.
 use mathlib.Core.Path.{_≡_, refl, sym, _∙_, ap, subst}
 use Prim.Native.Nat.{ℕ, zero, suc, _<_, _≤_, _+_, _*_, _^_}
@@ -48,15 +48,17 @@ use denote.Triple.Spec.{Meets, tripleOf}
 use denote.Triple.Table.{entered, cited}
 use denote.Triple.Walked.{says, needs, Stays, stay-none, stay-none-slice, stay-slice, walkOf, goes-none, goes-none-slice, goes-slice, Walks, ends-at, walked, walk-meets}
 use denote.Exit.{yes}
-use Rattle.bar_list.specs.declared.Bar.{Bar}
-use Rattle.bar_list.specs.Bars.{barAt, filled}
+use Rattle.chart.specs.declared.Bar.{Bar}
+use Rattle.chart.specs.Chart as chart
+use Rattle.chart.specs.Decode.{chartIn, recordOf, barOf}
+use Rattle.bar_list.specs.Bars.{filled}
 use Rattle.bar_list.proofs.Filled.{filled-len, filled-more}
-use Rattle.bar_list.proofs.Bar as T
-use Rattle.bar_list.proofs.Bar.Laws as T′
-use Rattle.bar_list.proofs.bar_at as bar-at
-use Rattle.bar_list.proofs.bar_at.Symbol as bar-at-def
-use Rattle.bar_list.proofs.bar_at.Symbol.{name as #bar-list·bar-at}
-use Rattle.bar_list.proofs.bar_at.Met as bar-at-thm
+use Rattle.chart.proofs.Bar as T
+use Rattle.chart.proofs.Bar.Laws as T′
+use Rattle.chart.proofs.corner_bar as corner-bar
+use Rattle.chart.proofs.corner_bar.Symbol as corner-bar-def
+use Rattle.chart.proofs.corner_bar.Symbol.{name as #chart·corner-bar}
+use Rattle.chart.proofs.corner_bar.Met as corner-bar-thm
 use Rattle.bar_list.proofs.fill_bars.Key.{name as #bar-list·fill-bars}
 use Rattle.bar_list.proofs.fill_bars as fill-bars
 use Rattle.bar_list.proofs.fill_bars.Statement as stated
@@ -76,8 +78,8 @@ abbrev stayed : Stays (fill-bars.ended .signature .params) (fill-bars.ended .kep
 stayed = (stay-none-slice (0 ∷ []) tt (plain (λ _. u8)) yes, (stay-none (λ _. usize) yes, (stay-slice (1 ∷ []) tt (plain (λ _. T.the-row)), tt)))
 
 -- the contract that the proof cites
-abbrev BarAt : {M : Type 1} (𝓤 : URA M) (H : Heap 𝓤) (A : Atoms 𝓤) (mem : Memory → SProp 𝓤) (run : Routine → Fun 𝓤) → Contract 𝓤
-BarAt 𝓤 H A mem run = tripleOf 𝓤 H A bar-at.signature (bar-at.spec 𝓤 H A mem run)
+abbrev CornerBar : {M : Type 1} (𝓤 : URA M) (H : Heap 𝓤) (A : Atoms 𝓤) (mem : Memory → SProp 𝓤) (run : Routine → Fun 𝓤) → Contract 𝓤
+CornerBar 𝓤 H A mem run = tripleOf 𝓤 H A corner-bar.signature (corner-bar.spec 𝓤 H A mem run)
 
 -- the locals' types
 abbrev word : Ty
@@ -136,16 +138,16 @@ module _ {M : Type 1} (𝓤 : URA M) (H : Heap 𝓤) (A : Atoms 𝓤) (W : Given
       feqI ! (List Val) (vunit ∷ []) (vunit ∷ []) refl $ move ! (1 ∷ 0 ∷ []) $ done !
 
   -- ---- the call
-  abbrev to-bar : ℕ → BarAt 𝓤 H A mem run .Ghost
+  abbrev to-bar : ℕ → CornerBar 𝓤 H A mem run .Ghost
   to-bar i = (((κ, tt), (q, tt), tt, (c, (i, tt)), (cs ∷ [], (vint w64 i ∷ [], tt))), tt)
 
-  goes : (i : ℕ) → i < n → ent 𝓤 (sep 𝓤 (sep 𝓤 (A .lft κ q) (sem 𝓤 H A ftrue)) (sem 𝓤 H A Own)) (BarAt 𝓤 H A mem run .pre (to-bar i))
+  goes : (i : ℕ) → i < n → ent 𝓤 (sep 𝓤 (sep 𝓤 (A .lft κ q) (sem 𝓤 H A ftrue)) (sem 𝓤 H A Own)) (CornerBar 𝓤 H A mem run .pre (to-bar i))
   goes i small =
       qed W ((‵ (flft κ q) ⊛ ‵ ftrue) ∷ ‵ Own ∷ []) ∵ says ! (omega (arith, small, enough .1)) $ frame ! $
       nothing ! $ owned ! usize (Is usize) (uint-makes 𝓤 H A W w64) i _ (refl, omega (arith, small, n-fits)) $ fjoin ! $ move ! (1 ∷ 0 ∷ []) $ fjoin ! $ done !
 
-  said : (i : ℕ) (r : Bar) → ent 𝓤 (ensured 𝓤 H A bar-at.ended (bar-at.clauses 𝓤 H A mem run) (κ, tt) (c, (i, tt)) tt r) (fact 𝓤 (r ≡ barAt (c .now) i))
-  said i r = exE 𝓤 _ (λ ws. snd∗ 𝓤 (sem 𝓤 H A (lasts bar-at.ended (κ, tt) (c, (i, tt)) ws)) (fact 𝓤 (r ≡ barAt (c .now) i)))
+  said : (i : ℕ) (r : Bar) → ent 𝓤 (ensured 𝓤 H A corner-bar.ended (corner-bar.clauses 𝓤 H A mem run) (κ, tt) (c, (i, tt)) tt r) (fact 𝓤 (barOf r ≡ chartIn (c .now) .bar i))
+  said i r = exE 𝓤 _ (λ ws. snd∗ 𝓤 (sem 𝓤 H A (lasts corner-bar.ended (κ, tt) (c, (i, tt)) ws)) (fact 𝓤 (barOf r ≡ chartIn (c .now) .bar i)))
 
   typed : (r : Bar) (w : Val) → Is T.the-row r (w ∷ []) → Holds (hasTy T′.mir w) × WT w
   typed r w is = LL.lawful T.the-type T′.the-laws 𝓤 H A W .typed r _ is .0
@@ -159,7 +161,7 @@ module _ {M : Type 1} (𝓤 : URA M) (H : Heap 𝓤) (A : Atoms 𝓤) (W : Given
   next-fits : (i : ℕ) → i < n → i + 1 < 2 ^ 64
   next-fits i small = omega (arith, small, n-fits)
 
-  module _ (𝓣 : Tables 𝓤 H) (fm : FmC 𝓤 H (W .laws) (𝓣 .C)) (known : Triple 𝓤 (𝓣 .C #bar-list·bar-at) (BarAt 𝓤 H A mem run)) where
+  module _ (𝓣 : Tables 𝓤 H) (fm : FmC 𝓤 H (W .laws) (𝓣 .C)) (known : Triple 𝓤 (𝓣 .C #chart·corner-bar) (CornerBar 𝓤 H A mem run)) where
     module _ (l₀ l₁ l₂ l₃ l₄ l₅ l₆ l₇ l₈ : ℕ) where
       abbrev En : Env 𝓤 H
       En = (tyUnit, l₀) ∷ (Chart, l₁) ∷ (word, l₂) ∷ (Bars, l₃) ∷ (word, l₄) ∷ (tyBool, l₅) ∷ (T′.mir, l₆) ∷ (word, l₇) ∷ (tyPtr, l₈) ∷ []
@@ -190,13 +192,13 @@ module _ {M : Type 1} (𝓤 : URA M) (H : Heap 𝓤) (A : Atoms 𝓤) (W : Given
           assigns ! (bin ! (load ! (from ! (stop !)) (look ! 1 refl)) (load ! (from ! (stop !)) (look ! 9 refl)) tt) (from ! (stop !)) (init ! 2 refl (tt, tt)) $
           rewrite ! 2 (λ (t : Bool). ‵ (fat fullShare tyBool l₅ 0 (vbool t))) (holds (ltb i n) (lt→ltb i n small)) refl $
           stays ! (load ! (from ! (stop !)) (look ! 2 refl)) $
-          -- the chart is copied, and `bar_at` is called with one copy
+          -- the chart is copied, and `corner_bar` is called with one copy
           move ! (6 ∷ []) $ use1 W (‵ Own ⊛ ‵ Own) (shr-slice-copy 𝓤 H A W (named 0) κ u8 .twice c (cs ∷ [])) $ split ! $
           -- [chart; chart; the row; _4; _5; _6; _7; _8; the token; _1; _2; _3; …]
-          move ! (8 ∷ 0 ∷ []) $ use2 W (raw (BarAt 𝓤 H A mem run .pre (to-bar i))) (goes i small) $
-          calls-at ! fm (BarAt 𝓤 H A mem run) known (to-bar i) (and-then ! (load ! (from ! (stop !)) (look ! 8 refl)) (and-then ! (load ! (from ! (stop !)) (look ! 3 refl)) (no-more !))) (λ w.
-          use1 W (later (some (λ (r : Bar). ((‵ (flft κ q) ⊛ ‵ ftrue) ⊛ ‵ (T.the-row .own r (w ∷ []))) ⊛ raw (ensured 𝓤 H A bar-at.ended (bar-at.clauses 𝓤 H A mem run) (κ, tt) (c, (i, tt)) tt r)))) (id⊢ 𝓤 _) $ await ! tt $ pick ! (λ r.
-          split ! $ move ! (1 ∷ []) $ use1 W (raw (fact 𝓤 (r ≡ barAt (c .now) i))) (said i r) $ heard ! (r ≡ barAt (c .now) i) (λ e. split ! $ move ! (1 ∷ []) $
+          move ! (8 ∷ 0 ∷ []) $ use2 W (raw (CornerBar 𝓤 H A mem run .pre (to-bar i))) (goes i small) $
+          calls-at ! fm (CornerBar 𝓤 H A mem run) known (to-bar i) (and-then ! (load ! (from ! (stop !)) (look ! 8 refl)) (and-then ! (load ! (from ! (stop !)) (look ! 3 refl)) (no-more !))) (λ w.
+          use1 W (later (some (λ (r : Bar). ((‵ (flft κ q) ⊛ ‵ ftrue) ⊛ ‵ (T.the-row .own r (w ∷ []))) ⊛ raw (ensured 𝓤 H A corner-bar.ended (corner-bar.clauses 𝓤 H A mem run) (κ, tt) (c, (i, tt)) tt r)))) (id⊢ 𝓤 _) $ await ! tt $ pick ! (λ r.
+          split ! $ move ! (1 ∷ []) $ use1 W (raw (fact 𝓤 (barOf r ≡ chartIn (c .now) .bar i))) (said i r) $ heard ! (barOf r ≡ chartIn (c .now) .bar i) (λ e. split ! $ move ! (1 ∷ []) $
           peeks ! T.the-row (Is T.the-row) (shows 𝓤 H A T.the-row) r (w ∷ []) (λ is.
           -- [what r owns; the token; chart; the row; _4; _5; _6; _7; _8; _1; _2; _3; room for _0; …]
           land ! (from ! (stop !)) (init ! 6 refl (typed r w is)) $
@@ -207,7 +209,7 @@ module _ {M : Type 1} (𝓤 : URA M) (H : Heap 𝓤) (A : Atoms 𝓤) (W : Given
           -- [bars[i]; what it owns; the others; what r owns; the token; chart; _4; _5; _6; _7; _8; …]
           assigns ! (of-opd ! (load ! (from ! (stop !)) (look ! 8 refl))) (from ! (hop ! (look ! 10 refl) (stop !))) (store-raw ! 0 refl (typed r w is)) $
           move ! (1 ∷ []) $ drop ! $ move ! (0 ∷ 2 ∷ 1 ∷ []) $ elem-put ! T.the-row fullShare (zs i) i r (w ∷ []) b o (within i small) $
-          rewrite ! 0 (λ (l : List Bar). ‵ (row T.the-row fullShare l b o)) (ap (set (zs i) i) e ∙ filled-more (c .now) i ys (omega (arith, small, enough .0))) refl $
+          rewrite ! 0 (λ (l : List Bar). ‵ (row T.the-row fullShare l b o)) (ap (λ (z : chart.Bar). set (zs i) i (recordOf z)) e ∙ filled-more (c .now) i ys (omega (arith, small, enough .0))) refl $
           -- [the row; the token; chart; _4; _5; _6; _7; _8; …]
           assigns-last ! (bin ! (load ! (from ! (stop !)) (look ! 3 refl)) (lit ! tt) (record { fits = next-fits i small })) (from ! (stop !)) (store ! 3 refl (tt, record { fits = next-fits i small })) $
           forget ! 4 refl $ forget ! 5 refl $ forget ! 6 refl $ forget ! 7 refl $ move ! (0 ∷ 3 ∷ 4 ∷ 5 ∷ 6 ∷ 7 ∷ 2 ∷ 1 ∷ []) $ by ! k)))))
@@ -263,14 +265,14 @@ module _ {M : Type 1} (𝓤 : URA M) (H : Heap 𝓤) (A : Atoms 𝓤) (W : Given
         keep ! (0 ∷ 15 ∷ 13 ∷ 11 ∷ 9 ∷ 7 ∷ 6 ∷ 4 ∷ 21 ∷ 19 ∷ 17 ∷ 23 ∷ 1 ∷ 2 ∷ 3 ∷ 24 ∷ 22 ∷ 20 ∷ 18 ∷ 16 ∷ 14 ∷ 12 ∷ 10 ∷ 8 ∷ []) $ by ! (loops l₀ l₁ l₂ l₃ l₄ l₅ l₆ l₇ l₈))))))))))
 
 module _ {M : Type 1} (𝓤 : URA M) (H : Heap 𝓤) (A : Atoms 𝓤) (W : Given 𝓤 H A) (mem : Memory → SProp 𝓤) (run : Routine → Fun 𝓤) where
-  fill-bars-walks : (𝓣 : Tables 𝓤 H) → FmC 𝓤 H (W .laws) (𝓣 .C) → Triple 𝓤 (𝓣 .C #bar-list·bar-at) (BarAt 𝓤 H A mem run) → Walks 𝓤 H A fill-bars.ended stayed (WpFn 𝓤 H (𝓣 .C) (𝓣 .Λ) code.function) (fill-bars.clauses 𝓤 H A mem run)
+  fill-bars-walks : (𝓣 : Tables 𝓤 H) → FmC 𝓤 H (W .laws) (𝓣 .C) → Triple 𝓤 (𝓣 .C #chart·corner-bar) (CornerBar 𝓤 H A mem run) → Walks 𝓤 H A fill-bars.ended stayed (WpFn 𝓤 H (𝓣 .C) (𝓣 .Λ) code.function) (fill-bars.clauses 𝓤 H A mem run)
   fill-bars-walks 𝓣 fm known = walked 𝓤 H A fill-bars.ended stayed (fill-bars.clauses 𝓤 H A mem run) (WpFn 𝓤 H (𝓣 .C) (𝓣 .Λ) code.function)
       (λ κs. (slice-vals, (uint-vals w64, (slice-vals, tt)))) (λ κs. (shr-slice-tells (named 0) (κs .0) u8, (uint-tells w64, (mut-slice-tells (named 1) (κs .1 .0) T.the-row, tt))))
       (λ κs qs bounds a g are. needs 𝓤 ((a .1 .0 ≤ length (a .1 .1 .0 .now)) × (6 + 6 * (a .1 .0) ≤ length (a .0 .now))) _ (λ enough.
       walk 𝓤 H A W mem run (κs .0) (κs .1 .0) bounds (qs .0) (qs .1 .0) (a .0) (a .1 .0) (a .1 .1 .0 .ptr .0) (a .1 .1 .0 .ptr .1) (a .1 .1 .0 .name) (a .1 .1 .0 .now) (are .1 .0 .1) (are .0 .0 .1) (are .1 .1 .0 .0 .1) enough 𝓣 fm known))
 
 fill-bars-meets : {M : Type 1} (𝓤 : URA M) (H : Heap 𝓤) (A : Atoms 𝓤) → Given 𝓤 H A → (mem : Memory → SProp 𝓤) (run : Routine → Fun 𝓤) (𝓣 : Tables 𝓤 H)
-    → Triple 𝓤 (𝓣 .C #bar-list·bar-at) (BarAt 𝓤 H A mem run) → Meets 𝓤 H A fill-bars.signature (WpFn 𝓤 H (𝓣 .C) (𝓣 .Λ) code.function) (fill-bars.spec 𝓤 H A mem run)
+    → Triple 𝓤 (𝓣 .C #chart·corner-bar) (CornerBar 𝓤 H A mem run) → Meets 𝓤 H A fill-bars.signature (WpFn 𝓤 H (𝓣 .C) (𝓣 .Λ) code.function) (fill-bars.spec 𝓤 H A mem run)
 fill-bars-meets 𝓤 H A W mem run 𝓣 known =
     walk-meets 𝓤 H A fill-bars.ended stayed W (goes-none-slice 𝓤 H A W 2 (0 ∷ []) tt (plain (λ _. u8)) yes, (goes-none 𝓤 H A W 2 (λ _. usize) yes (λ κs x f. refl), (goes-slice 𝓤 H A W 2 1 tt (plain (λ _. T.the-row)), tt))) (fill-bars.clauses 𝓤 H A mem run)
     (WpFn 𝓤 H (𝓣 .C) (𝓣 .Λ) code.function) (WpFn-mono 𝓤 H (W .laws) 𝓣 code.function) (fill-bars-walks 𝓤 H A W mem run 𝓣 (fmOf 𝓤 H (W .laws) 𝓣) known)
@@ -281,4 +283,4 @@ fill-bars-spec 𝓤 H 𝓜 𝓖 𝓡 =
     entered 𝓤 H (tripleOf 𝓤 H (𝓖 .A) fill-bars.signature (fill-bars.spec 𝓤 H (𝓖 .A) (𝓜 .mem) (𝓡 .run)))
     (tables 𝓤 H 𝓜 𝓡 code.env .C) (tables 𝓤 H 𝓜 𝓡 code.env .Λ) #bar-list·fill-bars code.function (code.unfolded 𝓤 H 𝓜 𝓡)
     (fill-bars-meets 𝓤 H (𝓖 .A) (givenOf 𝓤 H 𝓜 𝓖) (𝓜 .mem) (𝓡 .run) (tablesOf 𝓤 H 𝓜 (tables 𝓤 H 𝓜 𝓡 code.env))
-    (cited 𝓤 H (BarAt 𝓤 H (𝓖 .A) (𝓜 .mem) (𝓡 .run)) 𝓜 𝓡 code.env #bar-list·bar-at bar-at-def.routine code.calls-bar-list·bar-at (bar-at-thm.met 𝓤 H 𝓜 𝓖 𝓡)))
+    (cited 𝓤 H (CornerBar 𝓤 H (𝓖 .A) (𝓜 .mem) (𝓡 .run)) 𝓜 𝓡 code.env #chart·corner-bar corner-bar-def.routine code.calls-chart·corner-bar (corner-bar-thm.met 𝓤 H 𝓜 𝓖 𝓡)))

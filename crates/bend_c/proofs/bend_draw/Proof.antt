@@ -1,9 +1,7 @@
 -- What the operation answers, in one number.
-use mathlib.Core.Path.{ap, _∙_}
 use borrow.Author.Needs.{needs}
 use native.Mathlib.Omega.{arith}
-use Rattle.codec.specs.Answer.{packed}
-use Rattle.codec.proofs.Answers.{packable, bytes-left}
+use Rattle.codec.proofs.Answers.{packable, packed-left}
 use Rattle.draw.proofs.Size.{drawn-size}
 use Rattle.bend_c.proofs.bend_draw.Statement.{statement}
 use Rattle.bend_c.proofs.bend_draw.Tie as tie
@@ -15,7 +13,7 @@ pack-requires : tie.Need-pack-requires
 pack-requires c κs =
     let at-draw = c .before .before in
     let start = at-draw .before .before .before .before in
-    packable (at-draw .draw .result) (at-draw .draw .last .1 .0) (rw (at-draw .draw .ensures) (omega (arith, drawn-size (start .args .sheet .now) (start .args .out .now))))
+    packable (at-draw .draw .result) (at-draw .draw .last .1 .0) (at-draw .draw .ensures) (omega (arith, drawn-size (start .args .sheet .now) (start .args .out .now)))
 
 same-length : tie.Need-same-length
 same-length c = search needs
@@ -23,7 +21,7 @@ same-length c = search needs
 returns : tie.Need-returns
 returns c =
     let at-draw = c .before .before .before in
-    (c .pack .ensures (at-draw .draw .last .1 .0) ∙ ap packed (at-draw .draw .ensures), bytes-left (at-draw .draw .result) (at-draw .draw .last .1 .0) (at-draw .draw .ensures))
+    packed-left (at-draw .draw .result) (at-draw .draw .last .1 .0) (c .pack .ensures) (at-draw .draw .ensures)
 
 pub bend-draw-spec : {M : Type 1} → statement M
 bend-draw-spec = tie.close (tie.spec draw-requires pack-requires same-length returns)

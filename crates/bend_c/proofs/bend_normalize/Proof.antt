@@ -1,9 +1,7 @@
 -- What the operation answers, in one number.
-use mathlib.Core.Path.{ap, _∙_}
 use borrow.Author.Needs.{needs}
 use native.Mathlib.Omega.{arith}
-use Rattle.codec.specs.Answer.{packed}
-use Rattle.codec.proofs.Answers.{packable, bytes-left}
+use Rattle.codec.proofs.Answers.{packable, packed-left}
 use Rattle.sheet.proofs.Size.{ordered-size}
 use Rattle.bend_c.proofs.bend_normalize.Statement.{statement}
 use Rattle.bend_c.proofs.bend_normalize.Tie as tie
@@ -15,7 +13,7 @@ pack-requires : tie.Need-pack-requires
 pack-requires c κs =
     let at-normalize = c .before .before in
     let start = at-normalize .before .before .before .before in
-    packable (at-normalize .normalize .result) (at-normalize .normalize .last .1 .0) (rw (at-normalize .normalize .ensures) (omega (arith, ordered-size (start .args .sheet .now) (start .args .out .now))))
+    packable (at-normalize .normalize .result) (at-normalize .normalize .last .1 .0) (at-normalize .normalize .ensures) (omega (arith, ordered-size (start .args .sheet .now) (start .args .out .now)))
 
 same-length : tie.Need-same-length
 same-length c = search needs
@@ -23,7 +21,7 @@ same-length c = search needs
 returns : tie.Need-returns
 returns c =
     let at-normalize = c .before .before .before in
-    (c .pack .ensures (at-normalize .normalize .last .1 .0) ∙ ap packed (at-normalize .normalize .ensures), bytes-left (at-normalize .normalize .result) (at-normalize .normalize .last .1 .0) (at-normalize .normalize .ensures))
+    packed-left (at-normalize .normalize .result) (at-normalize .normalize .last .1 .0) (c .pack .ensures) (at-normalize .normalize .ensures)
 
 pub bend-normalize-spec : {M : Type 1} → statement M
 bend-normalize-spec = tie.close (tie.spec normalize-requires pack-requires same-length returns)

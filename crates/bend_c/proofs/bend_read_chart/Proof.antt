@@ -1,9 +1,7 @@
 -- What the operation answers, in one number.
-use mathlib.Core.Path.{ap, _∙_}
 use borrow.Author.Needs.{needs}
 use native.Mathlib.Omega.{arith}
-use Rattle.codec.specs.Answer.{packed}
-use Rattle.codec.proofs.Answers.{packable, bytes-left}
+use Rattle.codec.proofs.Answers.{packable, packed-left}
 use Rattle.chart_reader.proofs.Size.{chart-read-size}
 use Rattle.bend_c.proofs.bend_read_chart.Statement.{statement}
 use Rattle.bend_c.proofs.bend_read_chart.Tie as tie
@@ -15,7 +13,7 @@ pack-requires : tie.Need-pack-requires
 pack-requires c κs =
     let at-read-chart = c .before .before in
     let start = at-read-chart .before .before .before .before in
-    packable (at-read-chart .read-chart .result) (at-read-chart .read-chart .last .1 .0) (rw (at-read-chart .read-chart .ensures) (omega (arith, chart-read-size (start .args .chart .now) (start .args .out .now))))
+    packable (at-read-chart .read-chart .result) (at-read-chart .read-chart .last .1 .0) (at-read-chart .read-chart .ensures) (omega (arith, chart-read-size (start .args .chart .now) (start .args .out .now)))
 
 same-length : tie.Need-same-length
 same-length c = search needs
@@ -23,7 +21,7 @@ same-length c = search needs
 returns : tie.Need-returns
 returns c =
     let at-read-chart = c .before .before .before in
-    (c .pack .ensures (at-read-chart .read-chart .last .1 .0) ∙ ap packed (at-read-chart .read-chart .ensures), bytes-left (at-read-chart .read-chart .result) (at-read-chart .read-chart .last .1 .0) (at-read-chart .read-chart .ensures))
+    packed-left (at-read-chart .read-chart .result) (at-read-chart .read-chart .last .1 .0) (c .pack .ensures) (at-read-chart .read-chart .ensures)
 
 pub bend-read-chart-spec : {M : Type 1} → statement M
 bend-read-chart-spec = tie.close (tie.spec read-chart-requires pack-requires same-length returns)

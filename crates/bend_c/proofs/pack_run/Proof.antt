@@ -1,7 +1,7 @@
 -- By the two cases of an answer, and by the place.
 use borrow.Author.Needs.{needs}
 use native.Mathlib.Omega.{arith}
-use Rattle.edit_list.proofs.Packing.{told-fits, packed-first, packed-buffer, packed-refused}
+use Rattle.edit_list.proofs.Packing.{told-fits, packed-first, packed-buffer, packed-no-run}
 use Rattle.bend_c.proofs.pack_run.Statement.{statement}
 use Rattle.bend_c.proofs.pack_run.Tie as tie
 
@@ -45,7 +45,7 @@ returns-2 c =
     packed-buffer (start .args .r) _ _ (at-r .r .given .1) (c .if1 .left)
 
 returns-3 : tie.Need-returns-3
-returns-3 c = packed-refused (c .before .before .before .args .r) _ (c .before .r2 .given .1)
+returns-3 c = packed-no-run (c .before .before .before .args .r) _ (c .before .r2 .given .1)
 
 pub pack-run-spec : {M : Type 1} → statement M
 pack-run-spec = tie.close (tie.spec enum-known-r returns mul-result mul-result-2 add-result enum-known-r-2 cast-result returns-2 returns-3)

@@ -8,30 +8,12 @@ use Rattle.chart_reader.specs.Reader.{chartRead}
 use Rattle.chart_reader.proofs.read_chart.Statement.{statement}
 use Rattle.chart_reader.proofs.read_chart.Tie as tie
 
-slice-aggregate-read-part : tie.Need-slice-aggregate-read-part
-slice-aggregate-read-part c = search needs
-
-read-part-requires : tie.Need-read-part-requires
-read-part-requires c κs = search needs
-
-enum-known-k : tie.Need-enum-known-k
-enum-known-k c = search needs
-
-enum-known-h : tie.Need-enum-known-h
-enum-known-h c = search needs
-
-slice-aggregate-write-sheet : tie.Need-slice-aggregate-write-sheet
-slice-aggregate-write-sheet c = search needs
-
 write-sheet-requires : tie.Need-write-sheet-requires
 write-sheet-requires c κs = in-hand (c .before .before .before .before .before .before .read-part .ensures) (c .before .before .before .h .given .1)
 
 returns : tie.Need-returns
 unfolding chartRead outcome written
 returns c = read-is (λ (q : Reading). written (outcome q) (c .before .before .before .before .before .before .before .before .args .out .now)) (c .before .before .before .before .read-part .ensures) (c .before .k .given .1)
-
-same-length : tie.Need-same-length
-same-length c = search needs
 
 returns-2 : tie.Need-returns-2
 unfolding chartRead outcome
@@ -41,4 +23,7 @@ returns-2 c =
     c .before .before .write-sheet .ensures ∙ read-is (λ (q : Reading). written (outcome q) (at-read-part .before .before .before .before .args .out .now)) (at-read-part .read-part .ensures) (at-h .h .given .1)
 
 pub read-chart-spec : {M : Type 1} → statement M
-read-chart-spec = tie.close (tie.spec slice-aggregate-read-part read-part-requires enum-known-k enum-known-h slice-aggregate-write-sheet write-sheet-requires returns same-length returns-2)
+read-chart-spec =
+    tie.close
+    (tie.spec (λ c. search needs) (λ c κs. search needs) (λ c. search needs) (λ c. search needs) (λ c. search needs) write-sheet-requires returns (λ c. search needs)
+    returns-2)

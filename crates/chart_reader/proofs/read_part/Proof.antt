@@ -8,7 +8,7 @@ use native.Mathlib.Omega.{arith}
 use lib.ListN.{length, take}
 use lib.Seq.{length-take-le}
 use Rattle.sheet.specs.Held.{refuses}
-use Rattle.chart_reader.specs.Held.{Placed}
+use Rattle.chart_reader.specs.Held.{StrokesFound}
 use Rattle.chart_reader.proofs.Stroked.{bars-room, strokes-room}
 use Rattle.chart_reader.proofs.Verdict.{by-14, by-15, by-16, by-17, read-by}
 use Rattle.chart_reader.proofs.Found.{Edged, edges-found, no-part, part-read}
@@ -25,7 +25,7 @@ count c = c .before .before .frame .result
 abbrev at : tie.Else1 → List ℕ
 at c = take (2 * count c - 3) (c .before .before .frame .last .1 .0)
 
-placed : (c : tie.Else1) → Placed (chart c) (count c) (at c)
+placed : (c : tie.Else1) → StrokesFound (chart c) (count c) (at c)
 placed c = c .before .before .frame .ensures .1 (c .if1 .left)
 
 corners : (c : tie.Else1) → (3 ≤ count c) × (count c ≤ 1024)
@@ -42,12 +42,6 @@ edged c =
 
 edges-size : (c : tie.Else3) → length (take (2 * count (c .before .before .before .before .before .before .before) - 3) (c .before .before .strokes-keep .last .1 .1 .1 .0)) ≡ 2 * count (c .before .before .before .before .before .before .before) - 3
 edges-size c = length-take-le _ (c .before .before .strokes-keep .last .1 .1 .1 .0) (omega (arith, c .before .before .strokes-keep .kept .1 .1 .1 .0, corners (c .before .before .before .before .before .before .before)))
-
-slice-aggregate-frame : tie.Need-slice-aggregate-frame
-slice-aggregate-frame c = search needs
-
-frame-requires : tie.Need-frame-requires
-frame-requires c κs = search needs
 
 returns : tie.Need-returns
 returns c = refuses (read-by (c .before .before .before .before .before .before .args .chart .now) (by-14 (c .before .before .frame .ensures .0 (c .if1 .taken))))
@@ -69,9 +63,6 @@ array-share-prefix-at c = omega (arith, corners (c .before .before), c .before .
 
 slice-aggregate-strokes-keep : tie.Need-slice-aggregate-strokes-keep
 slice-aggregate-strokes-keep c = sym (places (c .before .before .before))
-
-slice-aggregate-strokes-keep-2 : tie.Need-slice-aggregate-strokes-keep-2
-slice-aggregate-strokes-keep-2 c = search needs
 
 strokes-keep-requires : tie.Need-strokes-keep-requires
 strokes-keep-requires c κs = (placed (c .before .before .before .before), omega (arith, places (c .before .before .before .before), corners (c .before .before .before .before)))
@@ -107,16 +98,10 @@ part-requires c κs =
     let start = c .before .before .before .before .before .before .before .before .before .before .before .before .before .before .before .before .before .before in
     (edges-found (edged (c .before .before .before .before .before)), n .1, omega (arith, n, start .pre, edges-size (c .before .before .before .before .before)))
 
-same-length : tie.Need-same-length
-same-length c = search needs
-
 returns-5 : tie.Need-returns-5
 returns-5 c =
     let gaps = c .before .before .before .before .before .before .before .gaps-keep .ensures .0 (not-false _ (c .before .before .before .before .before .before .if4 .left)) in
     no-part (edged (c .before .before .before .before .before .before .before .before .before)) gaps (c .before .before .before .part .ensures .1 (not-true _ (c .if5 .taken)))
-
-same-length-2 : tie.Need-same-length-2
-same-length-2 c = search needs
 
 returns-6 : tie.Need-returns-6
 returns-6 c =
@@ -126,4 +111,8 @@ returns-6 c =
     part-read (edged (c .before .before .before .before .before .before .before .before .before)) gaps (at-part .part .last .1 .1 .0) (at-part .part .ensures .0 (not-false _ (c .if5 .left))) (omega (arith, at-part .part .kept .1 .1 .0, start .pre))
 
 pub read-part-spec : {M : Type 1} → statement M
-read-part-spec = tie.close (tie.spec slice-aggregate-frame frame-requires returns bars-keep-requires returns-2 mul-m sub-m array-share-prefix-at slice-aggregate-strokes-keep slice-aggregate-strokes-keep-2 strokes-keep-requires returns-3 array-share-prefix-at-2 slice-aggregate-gaps-keep gaps-keep-requires returns-4 array-share-prefix-edges slice-aggregate-part part-requires same-length returns-5 same-length-2 returns-6)
+read-part-spec =
+    tie.close
+    (tie.spec (λ c. search needs) (λ c κs. search needs) returns bars-keep-requires returns-2 mul-m sub-m array-share-prefix-at slice-aggregate-strokes-keep
+    (λ c. search needs) strokes-keep-requires returns-3 array-share-prefix-at-2 slice-aggregate-gaps-keep gaps-keep-requires returns-4 array-share-prefix-edges
+    slice-aggregate-part part-requires (λ c. search needs) returns-5 (λ c. search needs) returns-6)

@@ -4,33 +4,12 @@ use mathlib.Core.Path.{sym}
 use native.Mathlib.Omega.{arith}
 use Rattle.sheet.specs.Sheet.{Reading}
 use Rattle.sheet.proofs.Hand.{read-is, in-hand}
+use Rattle.chart.specs.Decode.{chartIn}
 use Rattle.log_line.proofs.Size.{refused-size}
-use Rattle.chart_reader.specs.Decode.{chartIn}
 use Rattle.chart_text.specs.Text.{describedAs, described}
 use Rattle.chart_text.proofs.Described.{read-formed}
 use Rattle.chart_text.proofs.describe.Statement.{statement}
 use Rattle.chart_text.proofs.describe.Tie as tie
-
-slice-aggregate-read-part : tie.Need-slice-aggregate-read-part
-slice-aggregate-read-part c = search needs
-
-read-part-requires : tie.Need-read-part-requires
-read-part-requires c κs = search needs
-
-enum-known-k : tie.Need-enum-known-k
-enum-known-k c = search needs
-
-cast-put-refused : tie.Need-cast-put-refused
-cast-put-refused c = search needs
-
-put-refused-requires : tie.Need-put-refused-requires
-put-refused-requires c κs = search needs
-
-enum-known-h : tie.Need-enum-known-h
-enum-known-h c = search needs
-
-slice-aggregate-describe-part : tie.Need-slice-aggregate-describe-part
-slice-aggregate-describe-part c = search needs
 
 describe-part-requires : tie.Need-describe-part-requires
 describe-part-requires c κs =
@@ -54,4 +33,7 @@ returns-2 c =
     (rw (← said) (c .describe-part .ensures .0), c .describe-part .ensures .1)
 
 pub describe-spec : {M : Type 1} → statement M
-describe-spec = tie.close (tie.spec slice-aggregate-read-part read-part-requires enum-known-k cast-put-refused put-refused-requires enum-known-h slice-aggregate-describe-part describe-part-requires returns returns-2)
+describe-spec =
+    tie.close
+    (tie.spec (λ c. search needs) (λ c κs. search needs) (λ c. search needs) (λ c. search needs) (λ c κs. search needs) (λ c. search needs) (λ c. search needs)
+    describe-part-requires returns returns-2)

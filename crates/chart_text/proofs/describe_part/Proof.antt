@@ -5,11 +5,11 @@ use Prim.Native.Nat.{_*_, _-_, _≤_}
 use native.Mathlib.Omega.{arith}
 use lib.ListN.{length, take}
 use lib.Seq.{length-take-le}
+use Rattle.chart.specs.Decode.{chartIn}
 use Rattle.log_line.proofs.Putting.{put-then}
 use Rattle.log_line.proofs.Size.{line-size}
 use Rattle.sheet.specs.Held.{polygonOf}
-use Rattle.chart_reader.specs.Decode.{chartIn}
-use Rattle.chart_reader.specs.Held.{Placed}
+use Rattle.chart_reader.specs.Held.{StrokesFound}
 use Rattle.chart_reader.proofs.Stroked.{bars-room}
 use Rattle.chart_text.specs.Text.{chartFacts, describedAs}
 use Rattle.chart_text.proofs.describe_part.Statement.{statement}
@@ -17,7 +17,7 @@ use Rattle.chart_text.proofs.describe_part.Tie as tie
 
 -- the places of the strokes are found again
 placed : (c : tie.After-at2)
-    → Placed (c .before .before .before .before .before .before .args .chart .now) (c .before .frame .result) (take (2 * c .before .frame .result - 3) (c .before .frame .last .1 .0))
+    → StrokesFound (c .before .before .before .before .before .before .args .chart .now) (c .before .frame .result) (take (2 * c .before .frame .result - 3) (c .before .frame .last .1 .0))
 placed c =
     let start = c .before .before .before .before .before .before in
     c .before .frame .ensures .1 (λ z. c .before .frame .ensures .0 z (start .pre .1 .0 .0))
@@ -33,20 +33,11 @@ head-size c =
     let start = c .before .before .before .before .before .before .before .before in
     (omega (arith, c .put-head .ensures .end, line-size (chartFacts (chartIn (start .args .chart .now)) (polygonOf (start .args .h) (start .args .keys .now)))), c .put-head .kept .1 .1 .1 .0)
 
-slice-aggregate-frame : tie.Need-slice-aggregate-frame
-slice-aggregate-frame c = search needs
-
-frame-requires : tie.Need-frame-requires
-frame-requires c κs = search needs
-
 mul-m : tie.Need-mul-m
 mul-m c = omega (arith, placed c .count, placed c .formed .most)
 
 sub-m : tie.Need-sub-m
 sub-m c = omega (arith, placed c .count, placed c .formed .least)
-
-put-head-requires : tie.Need-put-head-requires
-put-head-requires c κs = search needs
 
 put-corners-requires : tie.Need-put-corners-requires
 put-corners-requires c κs =
@@ -84,9 +75,6 @@ put-strokes-requires c κs =
       omega (arith, at-put-corners .put-corners .ensures .1, at-put-corners .put-corners .kept .0, head, start .pre .1 .1, places-size at-at2, P .count, P .formed .least, P .formed .most),
     )
 
-same-length : tie.Need-same-length
-same-length c = search needs
-
 returns : tie.Need-returns
 unfolding describedAs
 returns c =
@@ -101,4 +89,7 @@ returns c =
     )
 
 pub describe-part-spec : {M : Type 1} → statement M
-describe-part-spec = tie.close (tie.spec slice-aggregate-frame frame-requires mul-m sub-m put-head-requires put-corners-requires array-share-prefix-at slice-aggregate-put-strokes put-strokes-requires same-length returns)
+describe-part-spec =
+    tie.close
+    (tie.spec (λ c. search needs) (λ c κs. search needs) mul-m sub-m (λ c κs. search needs) put-corners-requires array-share-prefix-at slice-aggregate-put-strokes
+    put-strokes-requires (λ c. search needs) returns)

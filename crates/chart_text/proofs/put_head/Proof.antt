@@ -2,27 +2,12 @@
 use mathlib.Core.Path.{_≡_, ap}
 use borrow.Author.Needs.{needs}
 use Rattle.sheet.specs.Held.{polygonOf}
+use Rattle.chart.specs.Decode.{chartIn}
 use Rattle.log_line.specs.Line.{line}
 use Rattle.draw.specs.Told.{told}
-use Rattle.chart_reader.specs.Decode.{chartIn}
 use Rattle.chart_text.specs.Text.{chartFacts}
 use Rattle.chart_text.proofs.put_head.Statement.{statement}
 use Rattle.chart_text.proofs.put_head.Tie as tie
-
-get16-requires : tie.Need-get16-requires
-get16-requires c κs = search needs
-
-get16-requires-2 : tie.Need-get16-requires-2
-get16-requires-2 c κs = search needs
-
-plan-part-requires : tie.Need-plan-part-requires
-plan-part-requires c κs = search needs
-
-counts-line-requires : tie.Need-counts-line-requires
-counts-line-requires c κs = search needs
-
-same-length : tie.Need-same-length
-same-length c = search needs
 
 returns : tie.Need-returns
 returns c =
@@ -34,4 +19,4 @@ returns c =
     rw (ap line e) at (c .before .before .counts-line .ensures)
 
 pub put-head-spec : {M : Type 1} → statement M
-put-head-spec = tie.close (tie.spec get16-requires get16-requires-2 plan-part-requires counts-line-requires same-length returns)
+put-head-spec = tie.close (tie.spec (λ c κs. search needs) (λ c κs. search needs) (λ c κs. search needs) (λ c κs. search needs) (λ c. search needs) returns)

@@ -1,9 +1,9 @@
 -- The answer of `draw_for` with room for any part, by `without-bars` of Answers.antt.
 use borrow.Author.Needs.{needs}
 use mathlib.Core.Path.{ap}
-use Rattle.draw.specs.declared.Drawn.{Drawn}
+use Rattle.codec.specs.TwoOutputs.{answeredBoth}
+use Rattle.codec.specs.declared.BothWritten.{BothWritten}
 use Rattle.draw.specs.Answer.{drawnWithBars}
-use Rattle.draw.specs.WithBars.{drawing}
 use Rattle.draw.proofs.Answers.{without-bars}
 use Rattle.draw.proofs.draw.Statement.{statement}
 use Rattle.draw.proofs.draw.Tie as tie
@@ -25,7 +25,7 @@ unfolding drawnWithBars
 returns c =
     let at-draw-for = c .before .before .before .before .before in
     let start = at-draw-for .before .before .before .before in
-    without-bars (start .args .sheet .now) (start .args .out .now) (at-draw-for .draw-for .last .1 .0) (at-draw-for .draw-for .result) (at-draw-for .draw-for .ensures .0) _ (λ bars. ap (λ (d : Drawn). drawing d (at-draw-for .draw-for .last .1 .0) bars .answer) (c .before .k .given .1))
+    without-bars (start .args .sheet .now) (start .args .out .now) (at-draw-for .draw-for .last .1 .0) (at-draw-for .draw-for .result) (at-draw-for .draw-for .ensures .0) _ (λ bars. ap (λ (d : BothWritten). answeredBoth d (at-draw-for .draw-for .last .1 .0) bars .answer) (c .before .k .given .1))
 
 same-length-2 : tie.Need-same-length-2
 same-length-2 c = search needs
@@ -35,7 +35,7 @@ unfolding drawnWithBars
 returns-2 c =
     let at-draw-for = c .before .before .before .before .before in
     let start = at-draw-for .before .before .before .before in
-    without-bars (start .args .sheet .now) (start .args .out .now) (at-draw-for .draw-for .last .1 .0) (at-draw-for .draw-for .result) (at-draw-for .draw-for .ensures .0) _ (λ bars. ap (λ (d : Drawn). drawing d (at-draw-for .draw-for .last .1 .0) bars .answer) (c .before .size .given .1))
+    without-bars (start .args .sheet .now) (start .args .out .now) (at-draw-for .draw-for .last .1 .0) (at-draw-for .draw-for .result) (at-draw-for .draw-for .ensures .0) _ (λ bars. ap (λ (d : BothWritten). answeredBoth d (at-draw-for .draw-for .last .1 .0) bars .answer) (c .before .size .given .1))
 
 pub draw-spec : {M : Type 1} → statement M
 draw-spec = tie.close (tie.spec draw-for-requires enum-known-k enum-known-size same-length returns same-length-2 returns-2)

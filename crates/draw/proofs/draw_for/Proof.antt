@@ -4,16 +4,17 @@ use mathlib.Core.Path.{_≡_, ap, sym, _∙_}
 use mathlib.Core.List.{List, map}
 use Rattle.polygon.specs.Polygon.{Polygon}
 use Rattle.codec.specs.Answer.{answered, written, write}
+use Rattle.codec.specs.TwoOutputs.{writtenBoth}
 use Rattle.codec.specs.declared.Written.{Written}
 use Rattle.sheet.specs.Sheet.{Reading, held}
 use Rattle.sheet.specs.Held.{polygonOf, InHand}
 use Rattle.sheet.proofs.Hand.{read-is, in-hand}
 use Rattle.chart.specs.Chart.{chartOf}
 use Rattle.chart.specs.Bytes.{bytesOf}
-use Rattle.bar_list.specs.declared.Bar.{Bar}
-use Rattle.bar_list.specs.OfChart.{barOf}
-use Rattle.draw.specs.Answer.{drawnBoth, drawnWithBars}
+use Rattle.draw.specs.Answer.{chartedBoth, drawnWithBars}
 use Rattle.draw.proofs.Answers.{for-few, for-none, for-chart, chart-fits}
+use Rattle.chart.specs.declared.Bar.{Bar}
+use Rattle.chart.specs.Decode.{barOf}
 use Rattle.draw.proofs.draw_for.Statement.{statement}
 use Rattle.draw.proofs.draw_for.Tie as tie
 
@@ -28,9 +29,9 @@ abbrev held-part : tie.After-h → Polygon
 held-part c = polygonOf (c .h .given .0 .0) (c .before .before .before .read-sheet .last .1 .0)
 
 -- what is drawn of it is drawn of the sheet
-whole : (c : tie.After-h) (bars : List Bar) → drawnBoth (held (held-part c)) (start c .args .out .now) (map barOf bars) ≡ drawnWithBars (start c .args .sheet .now) (start c .args .out .now) (map barOf bars)
+whole : (c : tie.After-h) (bars : List Bar) → writtenBoth (chartedBoth (held (held-part c))) (start c .args .out .now) (map barOf bars) ≡ drawnWithBars (start c .args .sheet .now) (start c .args .out .now) (map barOf bars)
 unfolding drawnWithBars
-whole c bars = read-is (λ (q : Reading). drawnBoth q (start c .args .out .now) (map barOf bars)) (c .before .before .before .read-sheet .ensures) (c .h .given .1)
+whole c bars = read-is (λ (q : Reading). writtenBoth (chartedBoth q) (start c .args .out .now) (map barOf bars)) (c .before .before .before .read-sheet .ensures) (c .h .given .1)
 
 slice-aggregate-read-sheet : tie.Need-slice-aggregate-read-sheet
 slice-aggregate-read-sheet c = search needs
@@ -66,8 +67,8 @@ enum-known-size : tie.Need-enum-known-size
 enum-known-size c = search needs
 
 returns-2 : tie.Need-returns-2
-unfolding drawnWithBars drawnBoth
-returns-2 c = (λ bars l. read-is (λ (q : Reading). drawnBoth q (c .before .before .before .before .before .before .before .before .args .out .now) (map barOf bars)) (c .before .before .before .before .read-sheet .ensures) (c .before .k .given .1), tt)
+unfolding drawnWithBars chartedBoth writtenBoth
+returns-2 c = (λ bars l. read-is (λ (q : Reading). writtenBoth (chartedBoth q) (c .before .before .before .before .before .before .before .before .args .out .now) (map barOf bars)) (c .before .before .before .before .read-sheet .ensures) (c .before .k .given .1), tt)
 
 same-length : tie.Need-same-length
 same-length c = search needs

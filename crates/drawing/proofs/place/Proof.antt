@@ -10,14 +10,8 @@ use borrow.Author.Needs.{needs}
 use Rattle.drawing.proofs.place.Statement.{statement}
 use Rattle.drawing.proofs.place.Tie as tie
 
-element-write-rows : tie.Need-element-write-rows
-element-write-rows c = search needs
-
 sub-rows : tie.Need-sub-rows
 sub-rows c = omega (arith, sized (c .pre .0 .1))
-
-mul-rows : tie.Need-mul-rows
-mul-rows c = search needs
 
 element-write-rows-2 : tie.Need-element-write-rows-2
 element-write-rows-2 c = omega (arith, sized (c .pre .0 .1), length-set (c .args .rows .now) 0 0, c .pre .1 .1)
@@ -40,20 +34,8 @@ draw-piece-requires c κs =
       ),
     )
 
-cast-numbers : tie.Need-cast-numbers
-cast-numbers c = search needs
-
 numbers-requires : tie.Need-numbers-requires
 numbers-requires c κs = omega (arith, inside (c .before .before .before .before .pre .0 .1 .whole .shows))
-
-cast-ud : tie.Need-cast-ud
-cast-ud c = search needs
-
-mul-t15 : tie.Need-mul-t15
-mul-t15 c = search needs
-
-add-t14 : tie.Need-add-t14
-add-t14 c = search needs
 
 returns : tie.Need-returns
 returns c t F =
@@ -62,4 +44,6 @@ returns c t F =
     part-placed F (start .args .columns .now) (start .args .rows .now) (start .pre .1 .0) (start .pre .1 .1) W (ap (λ (x : Six). x .ud) (c .before .numbers .ensures ∙ deep-root (F .deep)))
 
 pub place-spec : {M : Type 1} → statement M
-place-spec = tie.close (tie.spec element-write-rows sub-rows mul-rows element-write-rows-2 draw-piece-requires cast-numbers numbers-requires cast-ud mul-t15 add-t14 returns)
+place-spec =
+    tie.close (tie.spec (λ c. search needs) sub-rows (λ c. search needs) element-write-rows-2 draw-piece-requires (λ c. search needs) numbers-requires (λ c. search needs) (λ c. search needs)
+    (λ c. search needs) returns)

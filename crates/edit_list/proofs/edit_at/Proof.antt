@@ -2,7 +2,7 @@
 use mathlib.Core.Path.{sym}
 use borrow.Author.Needs.{needs}
 use Rattle.codec.specs.Numbers.{get32}
-use Rattle.edit_list.specs.Script.{editOf, editAt}
+use Rattle.edit_list.specs.Script.{editBy, editAt}
 use Rattle.edit_list.proofs.Desks.{edit-else}
 use Rattle.edit_list.proofs.edit_at.Statement.{statement}
 use Rattle.edit_list.proofs.edit_at.Tie as tie
@@ -20,11 +20,11 @@ get32-requires : tie.Need-get32-requires
 get32-requires c κs = search needs
 
 returns : tie.Need-returns
-unfolding editAt editOf
+unfolding editAt editBy
 returns c = rw (c .if1 .taken, c .before .get32 .ensures .0)
 
 returns-2 : tie.Need-returns-2
-unfolding editAt editOf
+unfolding editAt editBy
 returns-2 c = rw (c .if2 .taken, c .before .before .get32 .ensures .0)
 
 add-get32-2 : tie.Need-add-get32-2

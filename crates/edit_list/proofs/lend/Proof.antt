@@ -90,4 +90,7 @@ returns-3 c =
     (at-if2 .if2 .left) (at-edit3 .edit3 .ensures)
 
 pub lend-spec : {M : Type 1} → statement M
-lend-spec = tie.close (tie.spec slice-relend-prefix-edit slice-aggregate-edit edit-requires same-length returns slice-reshare-prefix-edit slice-aggregate-edit-2 slice-relend-prefix-edit-2 slice-aggregate-edit-3 edit-requires-2 same-length-2 same-length-3 returns-2 slice-reshare-prefix-edit-2 slice-aggregate-edit-4 slice-relend-prefix-edit-3 slice-aggregate-edit-5 edit-requires-3 same-length-4 same-length-5 returns-3)
+lend-spec =
+    tie.close (tie.spec slice-relend-prefix-edit slice-aggregate-edit edit-requires same-length returns slice-reshare-prefix-edit slice-aggregate-edit-2
+    slice-relend-prefix-edit-2 slice-aggregate-edit-3 edit-requires-2 same-length-2 same-length-3 returns-2 slice-reshare-prefix-edit-2 slice-aggregate-edit-4
+    slice-relend-prefix-edit-3 slice-aggregate-edit-5 edit-requires-3 same-length-4 same-length-5 returns-3)

@@ -8,7 +8,7 @@ use lib.ListN.{length}
 use Rattle.lists.proofs.Places.{all-at}
 use Rattle.edit_list.specs.Script.{Kinds, faultOf}
 use Rattle.edit_list.specs.Result.{unchanged, resultOf}
-use Rattle.edit_list.proofs.Tests.{fault-length, fault-kind, fault-short, fault-room, fault-none}
+use Rattle.edit_list.proofs.Tests.{fault-kind, fault-length, fault-none, fault-room, fault-short}
 use Rattle.edit_list.proofs.Following.{ran-model}
 use Rattle.edit_list.proofs.Running.{result-refused, result-done}
 use Rattle.edit_list.proofs.run.Statement.{statement}

@@ -104,4 +104,7 @@ levels-returns t c =
     ((c .ascend .ensures .0, D .path-room), (grows-on (D .grows) (c .ascend .ensures .1 .0), (λ x s. rw (one-piece s (D .whole)) (c .ascend .ensures .1 .1 _ _ (ended t (c .before .before .before))), D .kept)))
 
 pub +levels-spec : {M : Type 1} → statement M
-+levels-spec = close μ-levels λ t. levels-lts.spec (levels-Cs t) (levels-at t) levels.Post levels-Inv-loop levels-μ-loop (levels-loop-holds t) (levels-add-if1 t) (levels-mul-path t) (levels-element-write-path t) (levels-add-k t) (levels-open-requires t) (levels-by-size-requires t) (levels-add-if2 t) (levels-levels-requires t) (levels-loop-less t) (levels-loop-again t) (levels-ascend-requires t) (levels-returns t)
++levels-spec =
+    close μ-levels λ t. levels-lts.spec (levels-Cs t) (levels-at t) levels.Post levels-Inv-loop levels-μ-loop (levels-loop-holds t) (levels-add-if1 t)
+    (levels-mul-path t) (levels-element-write-path t) (levels-add-k t) (levels-open-requires t) (levels-by-size-requires t) (levels-add-if2 t)
+    (levels-levels-requires t) (levels-loop-less t) (levels-loop-again t) (levels-ascend-requires t) (levels-returns t)

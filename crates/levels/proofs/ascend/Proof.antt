@@ -23,15 +23,6 @@ turned : (c : tie.In-loop Inv-loop μ-loop) → let start = c .before .before in
     Turn (start .args .tree .now) (c .before .loop .depths) (start .args .path .now) (start .args .from) (start .pre .1 .0) (start .pre .1 .1) (c .before .loop .k - 1)
 turned c = let start = c .before .before in turn (c .before .loop .k - 1) (c .before .loop .k) (omega arith) (omega arith) (c .before .loop .inv .3 (start .pre .1 .0) (start .pre .1 .1) (start .pre .1 .2))
 
-sub-k : tie.Need-sub-k Inv-loop μ-loop
-sub-k c = omega arith
-
-mul-join-at : tie.Need-mul-join-at Inv-loop μ-loop
-mul-join-at c = omega arith
-
-element-copy-out-join-at : tie.Need-element-copy-out-join-at Inv-loop μ-loop
-element-copy-out-join-at c = omega arith
-
 cast-join-at : tie.Need-cast-join-at Inv-loop μ-loop
 cast-join-at c = let T = turned (c .before .before) in omega (arith, T .at, turn-places T (c .before .before .before .loop .inv .1))
 
@@ -40,9 +31,6 @@ join-at-requires c κs =
     let at-loop = c .before .before .before in
     let T = turned (c .before .before) in
     rw (T .at) (turn-places T (at-loop .loop .inv .1), turn-fits T (at-loop .loop .inv .1))
-
-loop-less : tie.Need-loop-less Inv-loop μ-loop
-loop-less c = omega arith
 
 loop-again : tie.Need-loop-again Inv-loop μ-loop
 loop-again c =
@@ -61,4 +49,4 @@ returns : tie.Need-returns Inv-loop μ-loop
 returns c = (c .before .loop .inv .1, (c .before .loop .inv .2, λ e t R. back-at-start (c .before .loop .k) (omega arith) (c .before .loop .inv .3 e t R)))
 
 pub ascend-spec : {M : Type 1} → statement M
-ascend-spec = tie.close (tie.spec Inv-loop μ-loop loop-holds sub-k mul-join-at element-copy-out-join-at cast-join-at join-at-requires loop-less loop-again returns)
+ascend-spec = tie.close (tie.spec Inv-loop μ-loop loop-holds (λ c. omega arith) (λ c. omega arith) (λ c. omega arith) cast-join-at join-at-requires (λ c. omega arith) loop-again returns)

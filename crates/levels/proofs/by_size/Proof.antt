@@ -5,12 +5,6 @@ use borrow.Author.Needs.{needs}
 use Rattle.levels.proofs.by_size.Statement.{statement}
 use Rattle.levels.proofs.by_size.Tie as tie
 
-sub-if1 : tie.Need-sub-if1
-sub-if1 c = search needs
-
-sub-if1-2 : tie.Need-sub-if1-2
-sub-if1-2 c = search needs
-
 returns : tie.Need-returns
 returns c = inr refl
 
@@ -18,4 +12,4 @@ returns-2 : tie.Need-returns-2
 returns-2 c = inl refl
 
 pub by-size-spec : {M : Type 1} → statement M
-by-size-spec = tie.close (tie.spec sub-if1 sub-if1-2 returns returns-2)
+by-size-spec = tie.close (tie.spec (λ c. search needs) (λ c. search needs) returns returns-2)

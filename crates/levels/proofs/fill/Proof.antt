@@ -6,9 +6,6 @@ use Rattle.levels.proofs.Storing.{fresh-leaves}
 use Rattle.levels.proofs.fill.Statement.{statement}
 use Rattle.levels.proofs.fill.Tie as tie
 
-build-requires : tie.Need-build-requires
-build-requires c κs = search needs
-
 levels-requires : tie.Need-levels-requires
 levels-requires c κs =
     let start = c .before .before .before .before .before .before in
@@ -19,7 +16,7 @@ returns : tie.Need-returns
 returns c =
     let b = c .before .before .before .before .build .ensures in
     let start = c .before .before .before .before .before .before .before in
-    record { kept = c .before .before .before .before .build .kept .1 .1 .0 ∙ start .pre .1 .0 .0; listed = b .0; rest = λ j h k. b .1 .0 j h k ∙ start .pre .1 .1 .0 j; whole = b .1 .1; deep = c .levels .ensures .1 .1 .0 _ (b .1 .1 .shows) }
+    record { kept = c .before .before .before .before .build .kept .1 .1 .0 ∙ start .pre .1 .0 .0; listed = b .0; rest = b .1 .0; whole = b .1 .1; deep = c .levels .ensures .1 .1 .0 _ (b .1 .1 .shows) }
 
 pub fill-spec : {M : Type 1} → statement M
-fill-spec = tie.close (tie.spec build-requires levels-requires returns)
+fill-spec = tie.close (tie.spec (λ c κs. search needs) levels-requires returns)

@@ -79,4 +79,8 @@ put-digits-returns-2 t c =
     }
 
 pub +put-digits-spec : {M : Type 1} → statement M
-+put-digits-spec = close μ-put-digits λ t. put-digits-lts.spec (put-digits-Cs t) (put-digits-at t) put-digits.Post (put-digits-add-out t) (put-digits-cast-out t) (put-digits-slice-write-out t) (put-digits-add-result t) (put-digits-same-length t) (put-digits-returns t) (put-digits-put-digits-requires t) (put-digits-add-out-2 t) (put-digits-cast-out-2 t) (put-digits-slice-write-out-2 t) (put-digits-add-result-2 t) (put-digits-same-length-2 t) (put-digits-returns-2 t)
++put-digits-spec =
+    close μ-put-digits λ t. put-digits-lts.spec (put-digits-Cs t) (put-digits-at t) put-digits.Post (put-digits-add-out t) (put-digits-cast-out t)
+    (put-digits-slice-write-out t) (put-digits-add-result t) (put-digits-same-length t) (put-digits-returns t) (put-digits-put-digits-requires t)
+    (put-digits-add-out-2 t) (put-digits-cast-out-2 t) (put-digits-slice-write-out-2 t) (put-digits-add-result-2 t) (put-digits-same-length-2 t)
+    (put-digits-returns-2 t)

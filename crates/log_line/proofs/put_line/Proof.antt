@@ -4,8 +4,8 @@ use Prim.Native.Nat.{ℕ, _≤_}
 use borrow.Author.Needs.{needs}
 use native.Mathlib.Omega.{arith}
 use lib.ListN.{length}
-use Rattle.log_line.specs.Put.{factsOf}
-use Rattle.log_line.proofs.Putting.{put-length, put-then, line-put}
+use Rattle.log_line.specs.Line.{line}
+use Rattle.log_line.proofs.Putting.{put-length, put-then}
 use Rattle.log_line.proofs.put_line.Statement.{statement}
 use Rattle.log_line.proofs.put_line.Tie as tie
 
@@ -89,6 +89,7 @@ put-word-requires-2 : tie.Need-put-word-requires-2
 put-word-requires-2 c κs = omega (arith, put-field6-end (c .before .before .before .before))
 
 returns : tie.Need-returns
+unfolding line
 returns c =
     let at-put-field6 = c .before .before .before .before .before .before .before in
     let at-put-field5 = at-put-field6 .before .before .before .before .before in
@@ -98,13 +99,14 @@ returns c =
     let at-put-field = at-put-field2 .before .before .before .before .before in
     let at-put-number = at-put-field .before .before .before .before .before in
     let at-put-word = at-put-number .before .before .before .before in
-    let start = at-put-word .before .before .before .before in
-    line-put (factsOf (start .args .f))
-    (put-then (at-put-word .put-word .ensures) (put-then (at-put-number .put-number .ensures .0) (put-then (at-put-field .put-field .ensures .0) (put-then (at-put-field2 .put-field2 .ensures .0)
-    (put-then (at-put-field3 .put-field3 .ensures .0) (put-then (at-put-field4 .put-field4 .ensures .0) (put-then (at-put-field5 .put-field5 .ensures .0) (put-then (at-put-field6 .put-field6 .ensures .0) (c .before .before .put-word2 .ensures)))))))))
+    put-then (at-put-word .put-word .ensures) (put-then (at-put-number .put-number .ensures .0) (put-then (at-put-field .put-field .ensures .0) (put-then (at-put-field2 .put-field2 .ensures .0)
+    (put-then (at-put-field3 .put-field3 .ensures .0) (put-then (at-put-field4 .put-field4 .ensures .0) (put-then (at-put-field5 .put-field5 .ensures .0) (put-then (at-put-field6 .put-field6 .ensures .0) (c .before .before .put-word2 .ensures))))))))
 
 same-length : tie.Need-same-length
 same-length c = put-length (returns c)
 
 pub put-line-spec : {M : Type 1} → statement M
-put-line-spec = tie.close (tie.spec slice-aggregate-put-word put-word-requires put-number-requires slice-aggregate-put-field put-field-requires slice-aggregate-put-field-2 put-field-requires-2 slice-aggregate-put-field-3 put-field-requires-3 slice-aggregate-put-field-4 put-field-requires-4 slice-aggregate-put-field-5 put-field-requires-5 slice-aggregate-put-field-6 put-field-requires-6 slice-aggregate-put-word-2 put-word-requires-2 same-length returns)
+put-line-spec =
+    tie.close (tie.spec slice-aggregate-put-word put-word-requires put-number-requires slice-aggregate-put-field put-field-requires slice-aggregate-put-field-2
+    put-field-requires-2 slice-aggregate-put-field-3 put-field-requires-3 slice-aggregate-put-field-4 put-field-requires-4 slice-aggregate-put-field-5
+    put-field-requires-5 slice-aggregate-put-field-6 put-field-requires-6 slice-aggregate-put-word-2 put-word-requires-2 same-length returns)

@@ -1,7 +1,8 @@
 -- The word, the number, the line's end.
 use borrow.Author.Needs.{needs}
 use native.Mathlib.Omega.{arith}
-use Rattle.log_line.proofs.Putting.{put-then, refused-put}
+use Rattle.log_line.specs.Line.{refusedLine}
+use Rattle.log_line.proofs.Putting.{put-then}
 use Rattle.log_line.proofs.put_refused.Statement.{statement}
 use Rattle.log_line.proofs.put_refused.Tie as tie
 
@@ -21,7 +22,8 @@ same-length : tie.Need-same-length
 same-length c = search needs
 
 returns : tie.Need-returns
-returns c = refused-put (c .before .before .before .before .before .before .before .before .before .before .before .args .number) (put-then (c .before .before .before .before .before .before .before .put-field .ensures .0) (c .before .before .put-word .ensures))
+unfolding refusedLine
+returns c = put-then (c .before .before .before .before .before .before .before .put-field .ensures .0) (c .before .before .put-word .ensures)
 
 pub put-refused-spec : {M : Type 1} → statement M
 put-refused-spec = tie.close (tie.spec slice-aggregate-put-field put-field-requires slice-aggregate-put-word put-word-requires same-length returns)

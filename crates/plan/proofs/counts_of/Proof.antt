@@ -8,9 +8,6 @@ use Rattle.plan.proofs.Answers.{totals-are}
 use Rattle.plan.proofs.counts_of.Statement.{statement}
 use Rattle.plan.proofs.counts_of.Tie as tie
 
-cast-numbers : tie.Need-cast-numbers
-cast-numbers c = search needs
-
 numbers-requires : tie.Need-numbers-requires
 numbers-requires c κs = omega (arith, inside (c .before .pre .2 .whole .shows))
 
@@ -21,4 +18,4 @@ returns : tie.Need-returns
 returns c n t F = totals-are t 0 (c .before .numbers .result) (c .count .result) (c .before .numbers .ensures ∙ deep-root (F .deep)) (c .count .ensures _ (record { shows = F .whole .shows; deep = F .deep }))
 
 pub counts-of-spec : {M : Type 1} → statement M
-counts-of-spec = tie.close (tie.spec cast-numbers numbers-requires count-requires returns)
+counts-of-spec = tie.close (tie.spec (λ c. search needs) numbers-requires count-requires returns)

@@ -8,9 +8,6 @@ use Rattle.lists.proofs.Places.{blank}
 use Rattle.plan.proofs.plan_part.Statement.{statement}
 use Rattle.plan.proofs.plan_part.Tie as tie
 
-sub-m : tie.Need-sub-m
-sub-m c = search needs
-
 slice-aggregate-fill : tie.Need-slice-aggregate-fill
 slice-aggregate-fill c = sym (keys-count (c .before .before .before .pre))
 
@@ -19,11 +16,8 @@ fill-requires c κs =
     let P = c .before .before .before .before .before .pre .valid in
     ((P .triangulated, P .most), ((length-replicate {A = ℕ} 3072 0, length-replicate {A = ℕ} 12270 0), (blank 3072, blank 12270)))
 
-counts-of-requires : tie.Need-counts-of-requires
-counts-of-requires c κs = search needs
-
 returns : tie.Need-returns
 returns c = c .counts-of .ensures _ _ (c .before .before .before .fill .ensures)
 
 pub plan-part-spec : {M : Type 1} → statement M
-plan-part-spec = tie.close (tie.spec sub-m slice-aggregate-fill fill-requires counts-of-requires returns)
+plan-part-spec = tie.close (tie.spec (λ c. search needs) slice-aggregate-fill fill-requires (λ c κs. search needs) returns)

@@ -6,7 +6,7 @@ use borrow.Author.Needs.{needs}
 use native.Mathlib.Omega.{arith}
 use lib.ListN.{length, take, getD, length-set}
 use lib.Seq.{take-set-le, getD-take}
-use Rattle.tree.specs.Shows.{Lasts}
+use Rattle.tree.specs.Table.{Lasts}
 use Rattle.tree.proofs.Lasting.{lasts-next}
 use Rattle.tree.proofs.place_lasts.Statement.{statement}
 use Rattle.tree.proofs.place_lasts.Tie as tie
@@ -20,15 +20,6 @@ abbrev μ-loop : tie.MeasureT-loop
 loop-holds : tie.Need-loop-holds Inv-loop μ-loop
 loop-holds c = (omega arith, c .before .pre .1, refl, λ i h. absurd (omega arith))
 
-mul-low : tie.Need-mul-low Inv-loop μ-loop
-mul-low c = omega arith
-
-slice-read-low : tie.Need-slice-read-low Inv-loop μ-loop
-slice-read-low c = omega arith
-
-low-requires : tie.Need-low-requires Inv-loop μ-loop
-low-requires c κs = search needs
-
 -- the key read is below 1,048,576
 small : (c : tie.After-low Inv-loop μ-loop) → getD (c .before .before .before .loop .tree) (c .before .before .before .loop .j) 0 < 1048576
 small c =
@@ -38,9 +29,6 @@ small c =
     let e : getD (at-loop .loop .tree) j 0 ≡ getD (start .args .tree .now) j 0 = sym (getD-take 2048 (at-loop .loop .tree) j 0 (omega arith)) ∙ (ap (λ (l : List ℕ). getD l j 0) (at-loop .loop .inv .2) ∙ getD-take 2048 (start .args .tree .now) j 0 (omega arith)) in
     omega (arith, e, start .pre .2 j (omega arith))
 
-cast-tree : tie.Need-cast-tree Inv-loop μ-loop
-cast-tree c = omega arith
-
 add-tree : tie.Need-add-tree Inv-loop μ-loop
 add-tree c = omega (arith, small c, c .low .ensures)
 
@@ -49,12 +37,6 @@ mul-tree c = omega (arith, small c, c .low .ensures)
 
 slice-write-tree : tie.Need-slice-write-tree Inv-loop μ-loop
 slice-write-tree c = omega (arith, small c, c .low .ensures)
-
-add-j : tie.Need-add-j Inv-loop μ-loop
-add-j c = omega arith
-
-loop-less : tie.Need-loop-less Inv-loop μ-loop
-loop-less c = omega arith
 
 loop-again : tie.Need-loop-again Inv-loop μ-loop
 loop-again c =
@@ -75,4 +57,6 @@ returns c =
     (c .before .loop .inv .2, rw (← e) (c .before .loop .inv .3))
 
 pub place-lasts-spec : {M : Type 1} → statement M
-place-lasts-spec = tie.close (tie.spec Inv-loop μ-loop loop-holds mul-low slice-read-low low-requires cast-tree add-tree mul-tree slice-write-tree add-j loop-less loop-again same-length returns)
+place-lasts-spec =
+    tie.close (tie.spec Inv-loop μ-loop loop-holds (λ c. omega arith) (λ c. omega arith) (λ c κs. search needs) (λ c. omega arith) add-tree mul-tree slice-write-tree (λ c. omega arith)
+    (λ c. omega arith) loop-again same-length returns)

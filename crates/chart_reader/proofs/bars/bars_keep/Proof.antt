@@ -5,14 +5,8 @@ use borrow.Author.Tests.{not-true, not-false}
 use Rattle.chart_reader.proofs.bars.bars_keep.Statement.{statement}
 use Rattle.chart_reader.proofs.bars.bars_keep.Tie as tie
 
-all-lie-requires : tie.Need-all-lie-requires
-all-lie-requires c κs = search needs
-
 returns : tie.Need-returns
 returns c = (λ h. absurd (false≢true h), λ h R. (rw (c .before .before .before .pre .count) at (c .before .all-lie .ensures .1 (not-true _ (c .if1 .taken)))) (R .0))
-
-all-apart-requires : tie.Need-all-apart-requires
-all-apart-requires c κs = search needs
 
 returns-2 : tie.Need-returns-2
 returns-2 c =
@@ -20,4 +14,4 @@ returns-2 c =
     (λ h. ((rw (start .pre .count) at (c .before .before .all-lie .ensures .0 (not-false _ (c .before .if1 .left)))), (rw (start .pre .count) at (c .all-apart .ensures .0 h))), λ h R. (rw (start .pre .count) at (c .all-apart .ensures .1 h)) (R .1))
 
 pub bars-keep-spec : {M : Type 1} → statement M
-bars-keep-spec = tie.close (tie.spec all-lie-requires returns all-apart-requires returns-2)
+bars-keep-spec = tie.close (tie.spec (λ c κs. search needs) returns (λ c κs. search needs) returns-2)

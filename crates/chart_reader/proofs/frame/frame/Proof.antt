@@ -10,29 +10,11 @@ use Rattle.chart_reader.proofs.frame.frame.Tie as tie
 returns : tie.Need-returns
 returns c = (λ h F. omega (arith, F .head), λ f. absurd (f refl))
 
-get16-requires : tie.Need-get16-requires
-get16-requires c κs = search needs
-
 returns-2 : tie.Need-returns-2
 returns-2 c = (λ h F. omega (arith, F .least, c .before .get16 .ensures .0), λ f. absurd (f refl))
 
 returns-3 : tie.Need-returns-3
 returns-3 c = (λ h F. omega (arith, F .most, c .before .before .get16 .ensures .0), λ f. absurd (f refl))
-
-mul-m : tie.Need-mul-m
-mul-m c = search needs
-
-sub-m : tie.Need-sub-m
-sub-m c = search needs
-
-mul-stroke-places : tie.Need-mul-stroke-places
-mul-stroke-places c = search needs
-
-add-stroke-places : tie.Need-add-stroke-places
-add-stroke-places c = search needs
-
-slice-relend-prefix-stroke-places : tie.Need-slice-relend-prefix-stroke-places
-slice-relend-prefix-stroke-places c = search needs
 
 slice-aggregate-stroke-places : tie.Need-slice-aggregate-stroke-places
 slice-aggregate-stroke-places c =
@@ -44,9 +26,6 @@ stroke-places-requires c κs =
     let start = c .before .before .before .before .before .before .before in
     omega (arith, room-is (start .args .chart .now) (c .before .before .before .get16 .result) (c .before .before .before .get16 .ensures .0) (start .args .at .now) (start .pre) (c .before .before .if2 .left) (c .before .if3 .left))
 
-same-length : tie.Need-same-length
-same-length c = search needs
-
 returns-4 : tie.Need-returns-4
 returns-4 c =
     let at-stroke-places = c .before .before .before in
@@ -55,9 +34,6 @@ returns-4 c =
     let at-get16 = at-if2 .before in
     let start = at-get16 .before .before .before .before in
     (λ h F. not-formed (start .args .chart .now) (at-get16 .get16 .result) (at-get16 .get16 .ensures .0) (start .args .at .now) (start .pre) (at-if2 .if2 .left) (at-if3 .if3 .left) (at-stroke-places .stroke-places .ensures .1 (not-true _ (c .if4 .taken))) F, λ f. absurd (f refl))
-
-same-length-2 : tie.Need-same-length-2
-same-length-2 c = search needs
 
 returns-5 : tie.Need-returns-5
 returns-5 c =
@@ -73,4 +49,7 @@ returns-5 c =
     )
 
 pub frame-spec : {M : Type 1} → statement M
-frame-spec = tie.close (tie.spec returns get16-requires returns-2 returns-3 mul-m sub-m mul-stroke-places add-stroke-places slice-relend-prefix-stroke-places slice-aggregate-stroke-places stroke-places-requires same-length returns-4 same-length-2 returns-5)
+frame-spec =
+    tie.close
+    (tie.spec returns (λ c κs. search needs) returns-2 returns-3 (λ c. search needs) (λ c. search needs) (λ c. search needs) (λ c. search needs) (λ c. search needs)
+    slice-aggregate-stroke-places stroke-places-requires (λ c. search needs) returns-4 (λ c. search needs) returns-5)

@@ -1,13 +1,14 @@
 -- The loop's invariant: the strokes before i are clear.
 use mathlib.Core.Bool.{true≢false, false≢true}
+use mathlib.Core.Path.{sym, subst}
 use Prim.Native.Nat.{ℕ, _≤_, _<_, _-_}
 use borrow.Author.Count.{below-more}
 use borrow.Author.Tests.{not-true, not-false}
 use native.Mathlib.Omega.{arith}
 use lib.ListN.{length, getD}
-use Rattle.chart_reader.specs.Decode.{strokeAt, chartIn}
+use Rattle.chart.specs.Decode.{strokeAt, chartIn}
 use Rattle.chart_reader.specs.Held.{Clear}
-use Rattle.chart_reader.proofs.Stroked.{strokes-all, strokes-at, bars-room, stroke-in}
+use Rattle.chart_reader.proofs.Stroked.{strokes-all, strokes-at, bars-room, place-room, stroke-in}
 use Rattle.chart_reader.proofs.gaps.all_clear.Statement.{statement}
 use Rattle.chart_reader.proofs.gaps.all_clear.Tie as tie
 
@@ -20,40 +21,41 @@ abbrev μ-loop : tie.MeasureT-loop
 loop-holds : tie.Need-loop-holds Inv-loop μ-loop
 loop-holds c = (omega arith, λ k h. absurd (omega arith))
 
-mul-clear : tie.Need-mul-clear Inv-loop μ-loop
-mul-clear c = omega arith
-
-shared-slice-read-clear : tie.Need-shared-slice-read-clear Inv-loop μ-loop
-shared-slice-read-clear c = omega arith
+stroke-at-requires : tie.Need-stroke-at-requires Inv-loop μ-loop
+stroke-at-requires c κs = place-room _ _ _ (c .before .before .before .before .before .before .pre .0) (c .before .before .loop .i) (c .before .loop-test .taken)
 
 clear-requires : tie.Need-clear-requires Inv-loop μ-loop
 clear-requires c κs =
-    let start = c .before .before .before .before .before .before in (
-      stroke-in (start .args .chart .now) (start .args .n) (start .args .at .now) (start .pre .0) (c .before .before .loop .i) (c .before .loop-test .taken) (start .pre .1),
-      bars-room (start .args .chart .now) (start .args .n) (start .args .at .now) (start .pre .0),
-      start .pre .2,
-    )
+    let at-loop-test = c .before .before in
+    let at-loop = at-loop-test .before in
+    let start = at-loop .before .before .before .before in
+    (stroke-in _ _ _ (start .pre .0) (at-loop .loop .i) (at-loop-test .loop-test .taken) (c .stroke-at .ensures) (start .pre .1), bars-room _ _ _ (start .pre .0), start .pre .2)
 
 returns : tie.Need-returns Inv-loop μ-loop
 returns c =
-    let at-loop-test = c .before .before .before in
+    let at-clear = c .before in
+    let at-stroke-at = at-clear .before in
+    let at-loop-test = at-stroke-at .before .before in
     let at-loop = at-loop-test .before in
     let start = at-loop .before .before .before .before in
-    (λ h. absurd (false≢true h), λ h a. c .before .clear .ensures .1 (not-true _ (c .if1 .taken)) (strokes-at (start .args .chart .now) (start .args .n) (start .args .at .now) (start .pre .0) a (at-loop .loop .i) (at-loop-test .loop-test .taken)))
-
-add-i : tie.Need-add-i Inv-loop μ-loop
-add-i c = omega arith
-
-loop-less : tie.Need-loop-less Inv-loop μ-loop
-loop-less c = omega arith
+    let s = start .args .chart .now in
+    let at = start .args .at .now in
+    (λ h. absurd (false≢true h), λ h a. at-clear .clear .ensures .1 (not-true _ (c .if1 .taken)) (subst (Clear (chartIn s) (start .args .gaps .now) (start .args .g)) (sym (at-stroke-at .stroke-at .ensures)) (strokes-at s (start .args .n) at (start .pre .0) a (at-loop .loop .i) (at-loop-test .loop-test .taken))))
 
 loop-again : tie.Need-loop-again Inv-loop μ-loop
-loop-again c = (omega arith, below-more _ _ (c .before .before .before .before .loop .inv .1) (c .before .clear .ensures .0 (not-false _ (c .if1 .left))))
+loop-again c =
+    let at-clear = c .before in
+    let at-stroke-at = at-clear .before in
+    let at-loop = at-stroke-at .before .before .before in
+    let start = at-loop .before .before .before .before in
+    let s = start .args .chart .now in
+    (omega arith, below-more _ _ (at-loop .loop .inv .1) (subst (Clear (chartIn s) (start .args .gaps .now) (start .args .g)) (at-stroke-at .stroke-at .ensures) (at-clear .clear .ensures .0 (not-false _ (c .if1 .left)))))
 
 returns-2 : tie.Need-returns-2 Inv-loop μ-loop
-returns-2 c =
-    let start = c .before .before .before .before .before in
-    (λ h. strokes-all (start .args .chart .now) (start .args .n) (start .args .at .now) (start .pre .0) (λ k i. c .before .loop .inv .1 k (omega arith)), λ h. absurd (true≢false h))
+returns-2 c = (λ h. strokes-all _ _ _ (c .before .before .before .before .before .pre .0) (λ k i. c .before .loop .inv .1 k (omega arith)), λ h. absurd (true≢false h))
 
 pub all-clear-spec : {M : Type 1} → statement M
-all-clear-spec = tie.close (tie.spec Inv-loop μ-loop loop-holds mul-clear shared-slice-read-clear clear-requires returns add-i loop-less loop-again returns-2)
+all-clear-spec =
+    tie.close
+    (tie.spec Inv-loop μ-loop loop-holds (λ c. omega arith) (λ c. omega arith) stroke-at-requires clear-requires returns (λ c. omega arith) (λ c. omega arith) loop-again
+    returns-2)

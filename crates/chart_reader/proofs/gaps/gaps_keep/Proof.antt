@@ -1,22 +1,16 @@
 -- The gaps are written, and each upright is held against them.
 use borrow.Author.Needs.{needs}
 use native.Mathlib.Omega.{arith}
-use Rattle.chart_reader.specs.Decode.{chartIn}
+use Rattle.chart.specs.Decode.{chartIn}
 use Rattle.chart_reader.proofs.Stroked.{strokes-room}
 use Rattle.chart_reader.proofs.Passing.{gapped, clear-rule, rule-clear}
 use Rattle.chart_reader.proofs.gaps.gaps_keep.Statement.{statement}
 use Rattle.chart_reader.proofs.gaps.gaps_keep.Tie as tie
 
-slice-aggregate-put-gaps : tie.Need-slice-aggregate-put-gaps
-slice-aggregate-put-gaps c = search needs
-
 put-gaps-requires : tie.Need-put-gaps-requires
 put-gaps-requires c κs =
     let start = c .before .before .before in
     (start .pre .0, start .pre .2 .0, omega (arith, strokes-room (start .args .chart .now) (start .args .n) (start .args .at .now) (start .pre .0), start .pre .0 .count, start .pre .0 .formed .most))
-
-slice-aggregate-all-clear : tie.Need-slice-aggregate-all-clear
-slice-aggregate-all-clear c = search needs
 
 all-clear-requires : tie.Need-all-clear-requires
 all-clear-requires c κs =
@@ -37,4 +31,4 @@ returns c =
     )
 
 pub gaps-keep-spec : {M : Type 1} → statement M
-gaps-keep-spec = tie.close (tie.spec slice-aggregate-put-gaps put-gaps-requires slice-aggregate-all-clear all-clear-requires returns)
+gaps-keep-spec = tie.close (tie.spec (λ c. search needs) put-gaps-requires (λ c. search needs) all-clear-requires returns)

@@ -16,29 +16,11 @@ abbrev μ-loop : tie.MeasureT-loop
 loop-holds : tie.Need-loop-holds Inv-loop μ-loop
 loop-holds c = choosing-none _ _ _
 
-mul-k : tie.Need-mul-k Inv-loop μ-loop
-mul-k c = omega arith
-
-shared-slice-read-k : tie.Need-shared-slice-read-k Inv-loop μ-loop
-shared-slice-read-k c = omega arith
-
-is-diagonal-requires : tie.Need-is-diagonal-requires Inv-loop μ-loop
-is-diagonal-requires c κs = omega arith
-
-mul-keys : tie.Need-mul-keys Inv-loop μ-loop
-mul-keys c = omega arith
-
 slice-write-keys : tie.Need-slice-write-keys Inv-loop μ-loop
 slice-write-keys c = omega (arith, c .before .before .before .before .loop .inv .low, c .before .before .before .before .loop .inv .size, c .before .before .before .before .before .before .before .pre .0)
 
 add-m : tie.Need-add-m Inv-loop μ-loop
 add-m c = omega (arith, c .before .before .before .before .loop .inv .low)
-
-add-i : tie.Need-add-i Inv-loop μ-loop
-add-i c = omega arith
-
-loop-less : tie.Need-loop-less Inv-loop μ-loop
-loop-less c = omega arith
 
 loop-again : tie.Need-loop-again Inv-loop μ-loop
 loop-again c =
@@ -59,4 +41,7 @@ returns c =
     (omega (arith, c .before .loop .inv .low, c .before .loop .inv .upto), chosen-all (start .args .n) (start .args .edges .now) (length (start .args .keys .now)) (c .before .loop .keys) (c .before .loop .m) (c .before .loop .i) (c .before .loop .inv) (c .loop-test .left))
 
 pub diagonals-spec : {M : Type 1} → statement M
-diagonals-spec = tie.close (tie.spec Inv-loop μ-loop loop-holds mul-k shared-slice-read-k is-diagonal-requires mul-keys slice-write-keys add-m add-i loop-less loop-again same-length returns)
+diagonals-spec =
+    tie.close
+    (tie.spec Inv-loop μ-loop loop-holds (λ c. omega arith) (λ c. omega arith) (λ c κs. omega arith) (λ c. omega arith) slice-write-keys add-m (λ c. omega arith)
+    (λ c. omega arith) loop-again same-length returns)

@@ -6,23 +6,8 @@ use native.Mathlib.Omega.{arith}
 use Rattle.chart_reader.proofs.part.is_diagonal.Statement.{statement}
 use Rattle.chart_reader.proofs.part.is_diagonal.Tie as tie
 
-low-requires : tie.Need-low-requires
-low-requires c κs = search needs
-
-high-requires : tie.Need-high-requires
-high-requires c κs = search needs
-
-add-if1 : tie.Need-add-if1
-add-if1 c = search needs
-
 returns : tie.Need-returns
 returns c = (λ h. absurd (false≢true h), λ h d. omega (arith, d, c .before .before .low .ensures, c .before .high .ensures))
-
-add-if2 : tie.Need-add-if2
-add-if2 c = search needs
-
-add-if2-2 : tie.Need-add-if2-2
-add-if2-2 c = search needs
 
 returns-2 : tie.Need-returns-2
 returns-2 c = (λ h. absurd (false≢true h), λ h d. omega (arith, d, c .before .before .before .low .ensures, c .before .before .high .ensures))
@@ -33,4 +18,4 @@ returns-3 c =
     (λ h. omega (arith, at-high .before .low .ensures, at-high .high .ensures, ltb-true (at-high .high .result) (at-high .before .before .args .n) h), λ h d. omega (arith, d, at-high .high .ensures, ltb-false (at-high .high .result) (at-high .before .before .args .n) h))
 
 pub is-diagonal-spec : {M : Type 1} → statement M
-is-diagonal-spec = tie.close (tie.spec low-requires high-requires add-if1 returns add-if2 add-if2-2 returns-2 returns-3)
+is-diagonal-spec = tie.close (tie.spec (λ c κs. search needs) (λ c κs. search needs) (λ c. search needs) returns (λ c. search needs) (λ c. search needs) returns-2 returns-3)

@@ -18,9 +18,6 @@ diagonals-requires c κs = (c .before .before .before .pre .2, c .before .before
 add-if1 : tie.Need-add-if1
 add-if1 c = omega (arith, c .before .before .diagonals .ensures .0)
 
-same-length : tie.Need-same-length
-same-length c = search needs
-
 -- the diagonals lie in the table
 kept : (c : tie.After-diagonals) → c .diagonals .result ≤ length (c .diagonals .last .1 .1 .0)
 kept c = omega (arith, c .diagonals .ensures .0, c .diagonals .kept .1 .1 .0, c .before .before .before .before .pre .2)
@@ -47,9 +44,6 @@ crosses-requires c κs =
       (start .pre .1, omega (arith, c .before .if1 .left, length-take-le (at-diagonals .diagonals .result) (at-diagonals .diagonals .last .1 .1 .0) (kept at-diagonals))),
     )
 
-same-length-2 : tie.Need-same-length-2
-same-length-2 c = search needs
-
 returns-2 : tie.Need-returns-2
 returns-2 c =
     let at-if1 = c .before .before in
@@ -62,4 +56,6 @@ returns-2 c =
     )
 
 pub part-spec : {M : Type 1} → statement M
-part-spec = tie.close (tie.spec diagonals-requires add-if1 same-length returns slice-reshare-prefix-crosses slice-aggregate-crosses crosses-requires same-length-2 returns-2)
+part-spec =
+    tie.close
+    (tie.spec diagonals-requires add-if1 (λ c. search needs) returns slice-reshare-prefix-crosses slice-aggregate-crosses crosses-requires (λ c. search needs) returns-2)

@@ -6,30 +6,6 @@ use Rattle.chart_reader.proofs.Meeting.{fills-same}
 use Rattle.chart_reader.proofs.question.between.Statement.{statement}
 use Rattle.chart_reader.proofs.question.between.Tie as tie
 
-add-t7 : tie.Need-add-t7
-add-t7 c = search needs
-
-add-t8 : tie.Need-add-t8
-add-t8 c = search needs
-
-add-t9 : tie.Need-add-t9
-add-t9 c = search needs
-
-add-t10 : tie.Need-add-t10
-add-t10 c = search needs
-
-add-t15 : tie.Need-add-t15
-add-t15 c = search needs
-
-add-t16 : tie.Need-add-t16
-add-t16 c = search needs
-
-add-t17 : tie.Need-add-t17
-add-t17 c = search needs
-
-add-t18 : tie.Need-add-t18
-add-t18 c = search needs
-
 returns : tie.Need-returns
 returns c = fills-same _ (row-fills (c .before .before .before .before .before .before .before .before .args .p, c .before .before .before .before .before .before .before .before .args .q) (c .before .before .before .before .before .if1 .taken)) (omega arith)
 
@@ -50,4 +26,7 @@ returns-5 : tie.Need-returns-5
 returns-5 c = nowhere-fills (c .before .before .before .before .before .before .args .p, c .before .before .before .before .before .before .args .q) (c .before .before .before .if1 .left) (c .if3 .left)
 
 pub between-spec : {M : Type 1} → statement M
-between-spec = tie.close (tie.spec add-t7 add-t8 add-t9 add-t10 add-t15 add-t16 add-t17 add-t18 returns returns-2 returns-3 returns-4 returns-5)
+between-spec =
+    tie.close
+    (tie.spec (λ c. search needs) (λ c. search needs) (λ c. search needs) (λ c. search needs) (λ c. search needs) (λ c. search needs) (λ c. search needs) (λ c. search needs)
+    returns returns-2 returns-3 returns-4 returns-5)

@@ -1,6 +1,7 @@
 -- Each test that fails rules a common cell out; if none fails, there is one.
 use mathlib.Core.Bool.{false≢true}
 use borrow.Author.Tests.{ltb-true, ltb-false}
+use borrow.Author.Needs.{needs}
 use native.Mathlib.Omega.{arith}
 use Rattle.chart_reader.proofs.Meeting.{meet}
 use Rattle.chart_reader.proofs.question.meets.Statement.{statement}
@@ -23,8 +24,8 @@ returns-5 c = (λ h. absurd (false≢true h), λ h x. omega (arith, x .1, x .2))
 
 returns-6 : tie.Need-returns-6
 returns-6 c =
-    let start = c .before .before .before .before .before .before .before .before .before .before in
-    (λ h. meet (start .args .a) _ _ _ (omega arith) (omega arith) (omega arith) (omega arith) (omega arith) (ltb-true _ _ h), λ h x. omega (arith, x .1, x .2, ltb-false (start .args .a .left) (start .args .a .right) h))
+    let a = c .before .before .before .before .before .before .before .before .before .before .before .before .before .args .a in
+    (λ h. meet a _ _ _ (omega arith) (omega arith) (omega arith) (omega arith) (omega arith) (ltb-true _ _ h), λ h x. omega (arith, x .1, x .2, ltb-false (a .left) (a .right) h))
 
 pub meets-spec : {M : Type 1} → statement M
-meets-spec = tie.close (tie.spec returns returns-2 returns-3 returns-4 returns-5 returns-6)
+meets-spec = tie.close (tie.spec (λ c. search needs) (λ c. search needs) (λ c. search needs) returns returns-2 returns-3 returns-4 returns-5 returns-6)

@@ -1,68 +1,31 @@
--- By the map byte; the laws are in Stroked.antt.
-use mathlib.Core.Path.{_∙_}
+-- By whether the stroke is upright; the laws are in Stroked.antt.
 use borrow.Author.Needs.{needs}
 use native.Mathlib.Omega.{arith}
-use Rattle.chart_reader.proofs.Stroked.{upright-ends, level-ends}
+use Rattle.chart.specs.Decode.{chartIn}
+use Rattle.chart_reader.proofs.Stroked.{level-ends, upright-ends, ends-are}
 use Rattle.chart_reader.proofs.strokes.stroke_ends.Statement.{statement}
 use Rattle.chart_reader.proofs.strokes.stroke_ends.Tie as tie
 
-two-bars-requires : tie.Need-two-bars-requires
-two-bars-requires c κs = search needs
-
-shared-slice-read-if1 : tie.Need-shared-slice-read-if1
-shared-slice-read-if1 c = search needs
-
-add-get16 : tie.Need-add-get16
-add-get16 c = search needs
-
-get16-requires : tie.Need-get16-requires
-get16-requires c κs = search needs
-
-add-get16-2 : tie.Need-add-get16-2
-add-get16-2 c = search needs
-
-get16-requires-2 : tie.Need-get16-requires-2
-get16-requires-2 c κs = search needs
-
-lower-requires : tie.Need-lower-requires
-lower-requires c κs = search needs
-
-add-get16-3 : tie.Need-add-get16-3
-add-get16-3 c = search needs
-
-get16-requires-3 : tie.Need-get16-requires-3
-get16-requires-3 c κs = search needs
-
-add-get16-4 : tie.Need-add-get16-4
-add-get16-4 c = search needs
-
-get16-requires-4 : tie.Need-get16-requires-4
-get16-requires-4 c κs = search needs
-
-higher-requires : tie.Need-higher-requires
-higher-requires c κs = search needs
-
 returns : tie.Need-returns
 returns c =
-    let at-lower = c .before .before .before .before .before in
-    let at-get16 = at-lower .before .before .before in
-    let at-if1 = at-get16 .before .before in
-    let l = at-lower .lower .ensures in
-    let r = c .higher .ensures in
-    level-ends (at-if1 .before .before .two-bars .ensures) (at-if1 .if1 .taken) _ _
-    (l ∙ rw (at-get16 .get16 .ensures .0, at-lower .before .get162 .ensures .0)) (r ∙ rw (c .before .before .before .get163 .ensures .0, c .before .get164 .ensures .0))
-    (omega (arith, l, at-get16 .get16 .ensures .1)) (omega (arith, r, c .before .before .before .get163 .ensures .1, c .before .get164 .ensures .1))
-
-add-get16-5 : tie.Need-add-get16-5
-add-get16-5 c = search needs
-
-get16-requires-5 : tie.Need-get16-requires-5
-get16-requires-5 c κs = search needs
+    let C = chartIn (c .before .before .before .before .before .before .before .before .before .args .chart .now) in
+    let s = c .before .before .before .before .before .before .before .before .before .args .s in
+    let ea = c .before .before .before .before .before .before .corner-bar .ensures in
+    let eb = c .before .before .before .before .corner-bar2 .ensures in
+    let e = c .cells .ensures in
+    ends-are (e .0) (e .1) (upright-ends C s ea eb (c .before .before .before .if1 .taken)) (omega arith) (omega arith)
 
 returns-2 : tie.Need-returns-2
 returns-2 c =
-    let at-two-bars = c .before .before .before in
-    upright-ends (at-two-bars .two-bars .ensures) (at-two-bars .before .before .pre .0 .bit) (c .before .if1 .left) (c .get165 .result) (c .get165 .ensures .0) (c .get165 .ensures .1)
+    let C = chartIn (c .before .before .before .before .before .before .before .before .before .before .before .before .before .args .chart .now) in
+    let s = c .before .before .before .before .before .before .before .before .before .before .before .before .before .args .s in
+    let ea = c .before .before .before .before .before .before .before .before .before .before .corner-bar .ensures in
+    let eb = c .before .before .before .before .before .before .before .before .corner-bar2 .ensures in
+    let e = c .cells2 .ensures in
+    ends-are (e .0) (e .1) (rw (c .before .before .before .before .least .ensures, c .before .greater .ensures) (level-ends C s ea eb (c .before .before .before .before .before .before .before .if1 .left))) (omega arith) (omega arith)
 
 pub stroke-ends-spec : {M : Type 1} → statement M
-stroke-ends-spec = tie.close (tie.spec two-bars-requires shared-slice-read-if1 add-get16 get16-requires add-get16-2 get16-requires-2 lower-requires add-get16-3 get16-requires-3 add-get16-4 get16-requires-4 higher-requires returns add-get16-5 get16-requires-5 returns-2)
+stroke-ends-spec =
+    tie.close
+    (tie.spec (λ c. search needs) (λ c κs. search needs) (λ c. search needs) (λ c κs. search needs) (λ c. search needs) (λ c. search needs) (λ c κs. search needs) returns
+    (λ c. search needs) (λ c. search needs) (λ c κs. search needs) (λ c. search needs) (λ c. search needs) (λ c κs. search needs) (λ c κs. search needs) returns-2)

@@ -10,12 +10,6 @@ use Rattle.chart_reader.proofs.Keyed.{keys-ascend, keys-not}
 use Rattle.chart_reader.proofs.strokes.strokes_keep.Statement.{statement}
 use Rattle.chart_reader.proofs.strokes.strokes_keep.Tie as tie
 
-edge-keys-requires : tie.Need-edge-keys-requires
-edge-keys-requires c κs = search needs
-
-same-length : tie.Need-same-length
-same-length c = search needs
-
 returns : tie.Need-returns
 returns c = (λ h. absurd (false≢true h), λ h R. c .before .before .before .edge-keys .ensures .1 (not-true _ (c .if1 .taken)) (R .0))
 
@@ -24,12 +18,6 @@ slice-reshare-prefix-ascends c = omega (arith, c .before .before .before .edge-k
 
 slice-aggregate-ascends : tie.Need-slice-aggregate-ascends
 slice-aggregate-ascends c = sym (length-take-le (length (c .before .before .before .before .before .before .before .before .before .args .at .now)) (c .before .before .before .before .edge-keys .last .1 .1 .1 .0) (omega (arith, c .before .before .before .before .edge-keys .kept .1 .1 .1 .0)))
-
-ascends-requires : tie.Need-ascends-requires
-ascends-requires c κs = search needs
-
-same-length-2 : tie.Need-same-length-2
-same-length-2 c = search needs
 
 returns-2 : tie.Need-returns-2
 returns-2 c =
@@ -43,9 +31,6 @@ returns-2 c =
 all-fit-requires : tie.Need-all-fit-requires
 all-fit-requires c κs = (c .before .before .before .before .before .before .before .before .before .before .before .pre .0, (c .before .before .before .before .before .before .edge-keys .ensures .0 (not-false _ (c .before .before .before .if1 .left))) .0)
 
-same-length-3 : tie.Need-same-length-3
-same-length-3 c = search needs
-
 returns-3 : tie.Need-returns-3
 returns-3 c =
     let at-ascends = c .before .before in
@@ -58,4 +43,7 @@ returns-3 c =
     )
 
 pub strokes-keep-spec : {M : Type 1} → statement M
-strokes-keep-spec = tie.close (tie.spec edge-keys-requires same-length returns slice-reshare-prefix-ascends slice-aggregate-ascends ascends-requires same-length-2 returns-2 all-fit-requires same-length-3 returns-3)
+strokes-keep-spec =
+    tie.close
+    (tie.spec (λ c κs. search needs) (λ c. search needs) returns slice-reshare-prefix-ascends slice-aggregate-ascends (λ c κs. search needs) (λ c. search needs) returns-2
+    all-fit-requires (λ c. search needs) returns-3)

@@ -10,11 +10,5 @@ slice-aggregate-describe c =
     let start = c .before .before in
     sym (length-take-le (start .args .end) (start .args .lent .now) (start .pre))
 
-describe-requires : tie.Need-describe-requires
-describe-requires c κs = search needs
-
-returns : tie.Need-returns
-returns c = search needs
-
 pub describe-first-spec : {M : Type 1} → statement M
-describe-first-spec = tie.close (tie.spec slice-aggregate-describe describe-requires returns)
+describe-first-spec = tie.close (tie.spec slice-aggregate-describe (λ c κs. search needs) (λ c. search needs))

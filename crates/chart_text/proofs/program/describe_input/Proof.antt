@@ -11,12 +11,6 @@ use Rattle.chart_text.proofs.Inputs.{begins-text}
 use Rattle.chart_text.proofs.program.describe_input.Statement.{statement}
 use Rattle.chart_text.proofs.program.describe_input.Tie as tie
 
-least-requires : tie.Need-least-requires
-least-requires c κs = search needs
-
-describe-first-requires : tie.Need-describe-first-requires
-describe-first-requires c κs = search needs
-
 returns : tie.Need-returns
 returns c =
     let at-least = c .before .before in
@@ -27,4 +21,4 @@ returns c =
     (λ input b. rw (said input b) at (c .describe-first .ensures .0), c .describe-first .ensures .1)
 
 pub describe-input-spec : {M : Type 1} → statement M
-describe-input-spec = tie.close (tie.spec least-requires describe-first-requires returns)
+describe-input-spec = tie.close (tie.spec (λ c κs. search needs) (λ c κs. search needs) returns)

@@ -17,12 +17,6 @@ keys-size c =
     let start = at-stroke-keys .before .before .before .before .before .before in
     length-take-le (length (start .args .at .now)) (at-stroke-keys .stroke-keys .last .1 .1 .1 .0) (omega (arith, at-stroke-keys .stroke-keys .kept .1 .1 .1 .0, start .pre .1))
 
-stroke-keys-requires : tie.Need-stroke-keys-requires
-stroke-keys-requires c κs = search needs
-
-slice-relend-prefix-sort : tie.Need-slice-relend-prefix-sort
-slice-relend-prefix-sort c = search needs
-
 slice-aggregate-sort : tie.Need-slice-aggregate-sort
 slice-aggregate-sort c = sym (keys-size (c .before))
 
@@ -35,12 +29,6 @@ sort-requires c κs =
     let ks = at-stroke-keys .stroke-keys .last .1 .1 .1 .0 in
     (omega (arith, keys-size at-slice-known3, start .pre .1), all-at 0 (take m ks) (λ j h. let k : j < m = omega (arith, keys-size at-slice-known3) in rw (getD-take m ks j 0 k) (omega (arith, at-slice-known3 .slice-known3 .given j))))
 
-same-length : tie.Need-same-length
-same-length c = search needs
-
-same-length-2 : tie.Need-same-length-2
-same-length-2 c = search needs
-
 returns : tie.Need-returns
 returns c =
     let at-sort = c .before .before .before .before in
@@ -51,4 +39,4 @@ returns c =
     take-at (sorted .last .0) _ (length (start .args .at .now)) (sorted .kept .0 ∙ keys-size at-slice-known3) ∙ sorted .ensures ∙ ap sortKeys (at-stroke-keys .stroke-keys .ensures)
 
 pub order-spec : {M : Type 1} → statement M
-order-spec = tie.close (tie.spec stroke-keys-requires slice-relend-prefix-sort slice-aggregate-sort sort-requires same-length same-length-2 returns)
+order-spec = tie.close (tie.spec (λ c κs. search needs) (λ c. search needs) slice-aggregate-sort sort-requires (λ c. search needs) (λ c. search needs) returns)

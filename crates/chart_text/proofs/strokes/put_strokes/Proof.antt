@@ -16,12 +16,6 @@ keys-size c =
     let at = start .args .at .now in
     length-take-le (length at) (at-order .order .last .1 .1 .1 .0) (omega (arith, at-order .order .kept .1 .1 .1 .0, few-strokes (start .args .chart .now) (start .args .n) at (start .pre .0 .0)))
 
-slice-aggregate-order : tie.Need-slice-aggregate-order
-slice-aggregate-order c = search needs
-
-slice-aggregate-order-2 : tie.Need-slice-aggregate-order-2
-slice-aggregate-order-2 c = search needs
-
 order-requires : tie.Need-order-requires
 order-requires c κs =
     let start = c .before .before .before .before .before in
@@ -50,9 +44,6 @@ put-lines-requires c κs =
     let ks = take (length at) (at-order .order .last .1 .1 .1 .0) in
     (start .pre .0, (ordered-number s n at P ks (at-order .order .ensures), omega (arith, keys-size at-spare2, start .pre .1)))
 
-same-length : tie.Need-same-length
-same-length c = search needs
-
 returns : tie.Need-returns
 returns c =
     let at-put-lines = c .before .before in
@@ -67,4 +58,6 @@ returns c =
     (rw (ordered-lines s n at P ks (at-order .order .ensures)) at (at-put-lines .put-lines .ensures .0), omega (arith, at-put-lines .put-lines .ensures .1, keys-size at-spare2))
 
 pub put-strokes-spec : {M : Type 1} → statement M
-put-strokes-spec = tie.close (tie.spec slice-aggregate-order slice-aggregate-order-2 order-requires array-share-prefix-keys slice-aggregate-put-lines put-lines-requires same-length returns)
+put-strokes-spec =
+    tie.close
+    (tie.spec (λ c. search needs) (λ c. search needs) order-requires array-share-prefix-keys slice-aggregate-put-lines put-lines-requires (λ c. search needs) returns)

@@ -1,52 +1,27 @@
 -- By the cells that the stroke runs between.
+use borrow.Author.Tests.{not-true, not-false}
 use borrow.Author.Needs.{needs}
+use Rattle.chart.specs.Decode.{chartIn}
 use Rattle.chart_text.proofs.Words.{level-stands, upright-stands}
 use Rattle.chart_text.proofs.strokes.stroke_key.Statement.{statement}
 use Rattle.chart_text.proofs.strokes.stroke_key.Tie as tie
 
-stroke-ends-requires : tie.Need-stroke-ends-requires
-stroke-ends-requires c κs = search needs
-
-shared-slice-read-if1 : tie.Need-shared-slice-read-if1
-shared-slice-read-if1 c = search needs
-
-mul-result : tie.Need-mul-result
-mul-result c = search needs
-
-add-result : tie.Need-add-result
-add-result c = search needs
-
-mul-result-2 : tie.Need-mul-result-2
-mul-result-2 c = search needs
-
-add-result-2 : tie.Need-add-result-2
-add-result-2 c = search needs
-
-cast-result : tie.Need-cast-result
-cast-result c = search needs
-
 returns : tie.Need-returns
 returns c =
-    let at-stroke-ends = c .before .before .before .before in
-    rw (level-stands (at-stroke-ends .stroke-ends .ensures) (c .before .if1 .taken))
-
-mul-result-3 : tie.Need-mul-result-3
-mul-result-3 c = search needs
-
-mul-result-4 : tie.Need-mul-result-4
-mul-result-4 c = search needs
-
-add-result-3 : tie.Need-add-result-3
-add-result-3 c = search needs
-
-cast-result-2 : tie.Need-cast-result-2
-cast-result-2 c = search needs
+    let at-if1 = c .before in
+    let at-stroke-ends = at-if1 .before .before .before in
+    let start = at-stroke-ends .before .before in
+    rw (level-stands (chartIn (start .args .chart .now)) (start .args .s) (at-stroke-ends .stroke-ends .ensures) (not-true _ (at-if1 .if1 .taken)))
 
 returns-2 : tie.Need-returns-2
 returns-2 c =
-    let at-stroke-ends = c .before .before .before .before in
+    let at-if1 = c .before in
+    let at-stroke-ends = at-if1 .before .before .before in
     let start = at-stroke-ends .before .before in
-    rw (upright-stands (at-stroke-ends .stroke-ends .ensures) (start .pre .0 .bit) (c .before .if1 .left))
+    rw (upright-stands (chartIn (start .args .chart .now)) (start .args .s) (at-stroke-ends .stroke-ends .ensures) (not-false _ (at-if1 .if1 .left)))
 
 pub stroke-key-spec : {M : Type 1} → statement M
-stroke-key-spec = tie.close (tie.spec stroke-ends-requires shared-slice-read-if1 mul-result add-result mul-result-2 add-result-2 cast-result returns mul-result-3 mul-result-4 add-result-3 cast-result-2 returns-2)
+stroke-key-spec =
+    tie.close
+    (tie.spec (λ c κs. search needs) (λ c. search needs) (λ c. search needs) (λ c. search needs) (λ c. search needs) (λ c. search needs) returns (λ c. search needs)
+    (λ c. search needs) (λ c. search needs) (λ c. search needs) returns-2)

@@ -7,14 +7,14 @@ use Rattle.keys.proofs.high.Reads as high-reads
 use Rattle.keys.proofs.low.Reads as low-reads
 use Rattle.chart_writer.specs.Tables.{Upright}
 use Rattle.chart_writer.proofs.Extents.{Lefts, lefts-begin, lefts-next}
-use Rattle.chart_writer.proofs.Placing.{Placed, placed-begin, placed-next}
+use Rattle.chart_writer.proofs.Placing.{ColumnsPlaced, placed-begin, placed-next}
 use Rattle.chart_writer.proofs.bars.lefts.Statement.{statement}
 use Rattle.chart_writer.proofs.bars.lefts.Tie as tie
 use Rattle.chart_writer.proofs.bars.lefts.Reads as reads
 use Rattle.chart_writer.proofs.bars.lefts.Lts as lts
 
 abbrev Inv-loop : tie.InvT-loop
-Inv-loop tree columns left₀ stands₀ j₀ left stands j = (j ≤ length columns) × (length left ≡ 1024) × (length stands ≡ 2045) × Lefts tree columns left j × Placed columns stands j
+Inv-loop tree columns left₀ stands₀ j₀ left stands j = (j ≤ length columns) × (length left ≡ 1024) × (length stands ≡ 2045) × Lefts tree columns left j × ColumnsPlaced columns stands j
 
 abbrev μ-loop : tie.MeasureT-loop
 μ-loop tree columns left₀ stands₀ j₀ left stands j = j

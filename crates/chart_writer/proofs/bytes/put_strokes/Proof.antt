@@ -5,7 +5,7 @@ use native.Mathlib.Numerals.{add-one}
 use native.Mathlib.Omega.{arith}
 use lib.ListN.{length}
 use Rattle.chart.specs.Bytes.{strokeBytes}
-use Rattle.chart_writer.specs.Tables.{strokeAt, strokeRun}
+use Rattle.chart_writer.specs.Tables.{tableStroke, strokeRun}
 use Rattle.chart_writer.proofs.Runs.{run-room, run-size, strokes-none, stroke-room, Over, over-begin, over-next, over-end}
 use Rattle.chart_writer.proofs.bytes.put_strokes.Statement.{statement}
 use Rattle.chart_writer.proofs.bytes.put_strokes.Tie as tie
@@ -58,7 +58,7 @@ loop-again c =
     let i : ℕ = at-loop .loop .i in (
       omega arith,
       at-put .put-stroke .kept .0 ∙ at-loop .loop .inv .1,
-      rw (add-one i) (omega (arith, at-put .put-stroke .ensures .1, at-loop .loop .inv .2, run-size strokeBytes (strokeAt tree stands) i)),
+      rw (add-one i) (omega (arith, at-put .put-stroke .ensures .1, at-loop .loop .inv .2, run-size strokeBytes (tableStroke tree stands) i)),
       rw (at-put .put-stroke .ensures .0, at-loop .loop .inv .2) (over-next tree stands (start .args .out .now) (at-loop .loop .out) (start .args .from) i (at-loop .loop .inv .3)),
     )
 
@@ -79,7 +79,7 @@ put-last-requires c κs =
     let at-loop = c .before .before .before .before in
     let start = at-loop .before .before .before .before in
     let e : at-loop .loop .i ≡ start .args .m - 1 = omega arith in
-    (omega (arith, rw e at (at-loop .loop .inv .2), run-room strokeBytes (strokeAt (start .args .tree .now) (start .args .stands .now)) (start .args .m - 1) (start .args .m) (omega arith), start .pre .1 .1), start .pre .0 (start .args .m - 1) (omega arith))
+    (omega (arith, rw e at (at-loop .loop .inv .2), run-room strokeBytes (tableStroke (start .args .tree .now) (start .args .stands .now)) (start .args .m - 1) (start .args .m) (omega arith), start .pre .1 .1), start .pre .0 (start .args .m - 1) (omega arith))
 
 same-length : tie.Need-same-length Inv-loop μ-loop
 same-length c = c .before .before .put-last .kept .0 ∙ c .before .before .before .before .before .before .before .loop .inv .1

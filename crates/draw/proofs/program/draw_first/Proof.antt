@@ -6,7 +6,7 @@ use lib.Seq.{length-take-le}
 use Rattle.sheet.specs.Sheet.{Reading}
 use Rattle.sheet.proofs.Hand.{read-is, in-hand}
 use Rattle.log_line.proofs.Size.{refused-size}
-use Rattle.draw.specs.Program.{outputOf, output}
+use Rattle.draw.specs.Program.{Output, outputOf, output}
 use Rattle.draw.proofs.Inputs.{refusal-shown}
 use Rattle.draw.proofs.program.draw_first.Statement.{statement}
 use Rattle.draw.proofs.program.draw_first.Tie as tie
@@ -63,8 +63,10 @@ returns-2 : tie.Need-returns-2
 unfolding output
 returns-2 c =
     let start = c .before .before .before .before .before .before .before .before .before .before .before .before .before .before .before .before .before .before in
+    let at-h = c .before .before .before .before .before .before .before .before .before in
     let (done, within) = c .before .before .before .before .show-part .ensures in
-    (done ∙ read-is (λ (q : Reading). outputOf q (start .args .chart .now) (start .args .text .now)) (c .before .before .before .before .before .before .before .before .before .before .before .before .read-sheet .ensures) (c .before .before .before .before .before .before .before .before .before .h .given .1), within)
+    let out : Reading → Output = λ q. outputOf q (start .args .chart .now) (start .args .text .now) in
+    (done ∙ read-is out (at-h .before .before .before .read-sheet .ensures) (at-h .h .given .1), within)
 
 pub draw-first-spec : {M : Type 1} → statement M
 draw-first-spec =

@@ -3,9 +3,6 @@ use native.Mathlib.Omega.{arith}
 use Rattle.drawing.proofs.lines.row_at.Statement.{statement}
 use Rattle.drawing.proofs.lines.row_at.Tie as tie
 
-add-result : tie.Need-add-result
-add-result c = omega arith
-
 returns : tie.Need-returns
 returns c = rw (c .before .if1 .taken)
 
@@ -16,4 +13,4 @@ returns-3 : tie.Need-returns-3
 returns-3 c = rw (c .before .before .if1 .left) (omega arith)
 
 pub row-at-spec : {M : Type 1} → statement M
-row-at-spec = tie.close (tie.spec add-result returns returns-2 returns-3)
+row-at-spec = tie.close (tie.spec (λ c. omega arith) returns returns-2 returns-3)

@@ -7,13 +7,13 @@ use lib.ListN.{set, length-set}
 use Rattle.polygon.specs.Tree.{Tree}
 use Rattle.umbrella.specs.Numbers.{ud}
 use Rattle.umbrella.proofs.Wide.{nine}
+use Rattle.umbrella.proofs.Induction.{only-hung}
 use Rattle.tree.proofs.Pieces.{opened, corners, ends, inside, one-piece}
 use Rattle.levels.specs.declared.Six.{Six}
-use Rattle.levels.specs.Numbered.{Known}
+use Rattle.levels.specs.Numbered.{Tabled}
 use Rattle.levels.proofs.Storing.{deep-root}
-use Rattle.levels.proofs.Knowing.{known-parts}
+use Rattle.levels.proofs.Knowing.{tabled-parts}
 use Rattle.drawing.specs.Walk.{differ}
-use Rattle.drawing.proofs.Orders.{only-hung}
 use Rattle.drawing.proofs.Following.{Along, along-begins, along-ends, walked-turned, walked-kept, Onward, onward-is}
 use Rattle.drawing.proofs.Rims.{hung-empty, RimPair, rim-pair}
 use borrow.Fn.Kinds.{In}
@@ -76,10 +76,26 @@ abbrev draw-piece-Cs : ℕ → draw-piece-lts.Claims
 draw-piece-Cs t = (open-reads.Asked, open-reads.Learnt, numbers-reads.Asked, numbers-reads.Learnt, far-line-reads.Asked, far-line-reads.Learnt, near-line-reads.Asked, near-line-reads.Learnt, rims-of-reads.Asked, rims-of-reads.Learnt, draw-stem-below t, draw-stem.Post)
 
 abbrev draw-stem-Cs : ℕ → draw-stem-lts.Claims
-draw-stem-Cs t = (from-right-reads.Asked, from-right-reads.Learnt, open-reads.Asked, open-reads.Learnt, numbers-reads.Asked, numbers-reads.Learnt, step-at-reads.Asked, step-at-reads.Learnt, go-on-reads.Asked, go-on-reads.Learnt, beside-line-reads.Asked, beside-line-reads.Learnt, draw-beside-below t, draw-beside.Post, differ-reads.Asked, differ-reads.Learnt, turn-reads.Asked, turn-reads.Learnt)
-
-draw-beside-is-hung-requires : (t : ℕ) → draw-beside-lts.Need-is-hung-requires (draw-beside-Cs t) (draw-beside-at t) draw-beside.Post
-draw-beside-is-hung-requires t c κs = search needs
+draw-stem-Cs t = (
+  from-right-reads.Asked,
+  from-right-reads.Learnt,
+  open-reads.Asked,
+  open-reads.Learnt,
+  numbers-reads.Asked,
+  numbers-reads.Learnt,
+  step-at-reads.Asked,
+  step-at-reads.Learnt,
+  go-on-reads.Asked,
+  go-on-reads.Learnt,
+  beside-line-reads.Asked,
+  beside-line-reads.Learnt,
+  draw-beside-below t,
+  draw-beside.Post,
+  differ-reads.Asked,
+  differ-reads.Learnt,
+  turn-reads.Asked,
+  turn-reads.Learnt,
+)
 
 draw-beside-draw-piece-requires : (t : ℕ) → draw-beside-lts.Need-draw-piece-requires (draw-beside-Cs t) (draw-beside-at t) draw-beside.Post
 draw-beside-draw-piece-requires t c κs =
@@ -102,20 +118,28 @@ tall : (t : ℕ) (c : draw-piece-lts.After-numbers (draw-piece-Cs t) (draw-piece
 tall t c = ap (λ (x : Six). x .ud) (c .numbers .ensures ∙ deep-root (c .before .before .before .before .before .before .pre .1 .0 .1 .deep))
 
 high : (t : ℕ) (c : draw-piece-lts.Else1 (draw-piece-Cs t) (draw-piece-at t) draw-piece.Post) → 1 ≤ ud (c .before .before .before .pre .1 .0 .0)
-high t c = let K = known-parts (c .before .before .before .pre .1 .0 .1) (c .if1 .left) in rw (K .parts .is) (K .tall)
+high t c = let K = tabled-parts (c .before .before .before .pre .1 .0 .1) (c .if1 .left) in rw (K .parts .is) (K .tall)
 
 third : (t : ℕ) (c : draw-piece-lts.After-open (draw-piece-Cs t) (draw-piece-at t) draw-piece.Post) → c .«open» .result .left .v < 1024
 third t c = let d = opened (c .before .before .before .before .pre .1 .0 .1 .shows) (c .before .if1 .left) in rw (c .«open» .ensures) (omega (arith, d))
 
--- the two rims
-pair : (t : ℕ) (c : draw-piece-lts.After-rims-of (draw-piece-Cs t) (draw-piece-at t) draw-piece.Post) (x : Tree) → let start = c .before .before .before .before .before .before .before .before .before .before .before .before in
-    Known (start .args .tree .now) (start .args .depths .now) (start .args .p .e) (start .args .p .u) (start .args .p .v) x
-    → RimPair (start .args .tree .now) (start .args .depths .now) (start .args .p) (start .args .w) x (start .args .at) (start .args .columns .now) (start .args .rows .now)
-    (set (start .args .rows .now) (c .before .before .before .before .before .before .before .before .«open» .result .left .v) (c .before .before .before .before .far-line .result .base)) (c .before .before .before .before .before .before .numbers .result .ud) (c .before .before .before .before .far-line .result) (c .before .before .before .near-line .result) (c .rims-of .result)
+-- the two rims; where the piece is opened and its lines are found
+abbrev opens : (t : ℕ) → draw-piece-lts.After-rims-of (draw-piece-Cs t) (draw-piece-at t) draw-piece.Post → draw-piece-lts.After-open (draw-piece-Cs t) (draw-piece-at t) draw-piece.Post
+opens t c = c .before .before .before .before .before .before .before .before
+
+abbrev lines : (t : ℕ) → draw-piece-lts.After-rims-of (draw-piece-Cs t) (draw-piece-at t) draw-piece.Post → draw-piece-lts.After-near-line (draw-piece-Cs t) (draw-piece-at t) draw-piece.Post
+lines t c = c .before .before .before
+
+pair : (t : ℕ) (c : draw-piece-lts.After-rims-of (draw-piece-Cs t) (draw-piece-at t) draw-piece.Post) (x : Tree) → let args = opens t c .before .before .before .before .args in let far = lines t c .before .far-line .result in
+    Tabled (args .tree .now) (args .depths .now) (args .p .e) (args .p .u) (args .p .v) x
+    → RimPair (args .tree .now) (args .depths .now) (args .p) (args .w) x (args .at) (args .columns .now) (args .rows .now) (set (args .rows .now) (opens t c .«open» .result .left .v) (far .base))
+    (lines t c .before .before .before .numbers .result .ud) far (lines t c .near-line .result) (c .rims-of .result)
 pair t c x k =
-    let start = c .before .before .before .before .before .before .before .before .before .before .before .before in
-    rim-pair k (c .before .before .before .before .before .before .before .before .before .if1 .left) (start .pre .1 .1 .0) (start .pre .1 .1 .1) (ap (λ (y : Six). y .ud) (c .before .before .before .before .before .before .numbers .ensures ∙ deep-root (k .deep))) (c .before .before .before .before .before .before .before .before .«open» .result) (c .rims-of .result) _ _
-    (c .before .before .before .before .before .before .before .before .«open» .ensures) (c .rims-of .ensures) (c .before .before .before .before .far-line .ensures) (c .before .before .before .near-line .ensures)
+    let at-open = opens t c in
+    let room = at-open .before .before .before .before .pre .1 .1 in
+    let near = lines t c in
+    let levels = ap (λ (y : Six). y .ud) (near .before .before .before .numbers .ensures ∙ deep-root (k .deep)) in
+    rim-pair k (at-open .before .if1 .left) (room .0) (room .1) levels (at-open .«open» .result) (c .rims-of .result) _ _ (at-open .«open» .ensures) (c .rims-of .ensures) (near .before .far-line .ensures) (near .near-line .ensures)
 
 draw-piece-add-if1 : (t : ℕ) → draw-piece-lts.Need-add-if1 (draw-piece-Cs t) (draw-piece-at t) draw-piece.Post
 draw-piece-add-if1 t c = omega (arith, corners (c .before .pre .1 .0 .1 .shows))
@@ -125,9 +149,6 @@ draw-piece-returns t c = λ x k. hung-empty (c .before .before .before .args .at
 
 draw-piece-open-requires : (t : ℕ) → draw-piece-lts.Need-open-requires (draw-piece-Cs t) (draw-piece-at t) draw-piece.Post
 draw-piece-open-requires t c κs = (record { tree = _; shows = c .before .before .before .pre .1 .0 .1 .shows }, c .if1 .left)
-
-draw-piece-cast-numbers : (t : ℕ) → draw-piece-lts.Need-cast-numbers (draw-piece-Cs t) (draw-piece-at t) draw-piece.Post
-draw-piece-cast-numbers t c = search needs
 
 draw-piece-numbers-requires : (t : ℕ) → draw-piece-lts.Need-numbers-requires (draw-piece-Cs t) (draw-piece-at t) draw-piece.Post
 draw-piece-numbers-requires t c κs = omega (arith, inside (c .before .before .before .before .before .pre .1 .0 .1 .shows))
@@ -141,17 +162,11 @@ draw-piece-far-line-requires t c κs =
 draw-piece-near-line-requires : (t : ℕ) → draw-piece-lts.Need-near-line-requires (draw-piece-Cs t) (draw-piece-at t) draw-piece.Post
 draw-piece-near-line-requires t c κs = let R = c .before .before .before .before .before .before .before .before .pre .1 .1 .0 in omega (arith, R .far-small)
 
-draw-piece-cast-rows : (t : ℕ) → draw-piece-lts.Need-cast-rows (draw-piece-Cs t) (draw-piece-at t) draw-piece.Post
-draw-piece-cast-rows t c = search needs
-
 draw-piece-mul-rows : (t : ℕ) → draw-piece-lts.Need-mul-rows (draw-piece-Cs t) (draw-piece-at t) draw-piece.Post
 draw-piece-mul-rows t c = omega (arith, third t (c .before .before .before .before .before .before .before))
 
 draw-piece-element-write-rows : (t : ℕ) → draw-piece-lts.Need-element-write-rows (draw-piece-Cs t) (draw-piece-at t) draw-piece.Post
 draw-piece-element-write-rows t c = omega (arith, third t (c .before .before .before .before .before .before .before))
-
-draw-piece-rims-of-requires : (t : ℕ) → draw-piece-lts.Need-rims-of-requires (draw-piece-Cs t) (draw-piece-at t) draw-piece.Post
-draw-piece-rims-of-requires t c κs = search needs
 
 draw-piece-sub-t22 : (t : ℕ) → draw-piece-lts.Need-sub-t22 (draw-piece-Cs t) (draw-piece-at t) draw-piece.Post
 draw-piece-sub-t22 t c = omega (arith, tall t (c .before .before .before .before .before .before), high t (c .before .before .before .before .before .before .before .before .before))
@@ -183,9 +198,6 @@ draw-stem-Inv-loop tree depths columns₀ rows₀ w at role₀ right x₀ k₀ c
 abbrev draw-stem-μ-loop : draw-stem-lts.MeasureT-loop
 draw-stem-μ-loop tree depths columns₀ rows₀ w at role₀ right x₀ k₀ columns rows role x k = x .v - x .u
 
-draw-stem-from-right-requires : (t : ℕ) → draw-stem-lts.Need-from-right-requires (draw-stem-Cs t) (draw-stem-at t) draw-stem.Post draw-stem-Inv-loop draw-stem-μ-loop
-draw-stem-from-right-requires t c κs = search needs
-
 draw-stem-loop-holds : (t : ℕ) → draw-stem-lts.Need-loop-holds (draw-stem-Cs t) (draw-stem-at t) draw-stem.Post draw-stem-Inv-loop draw-stem-μ-loop
 draw-stem-loop-holds t c = let pre = c .before .pre .1 in along-begins (pre .0 .1) (pre .1 .1) (pre .1 .0)
 
@@ -208,29 +220,11 @@ draw-stem-open-requires t c κs = (record { tree = _; shows = c .before .before 
 sides : (t : ℕ) (c : draw-stem-lts.After-open (draw-stem-Cs t) (draw-stem-at t) draw-stem.Post draw-stem-Inv-loop draw-stem-μ-loop) → (c .«open» .result .left .e < 2045) × (c .«open» .result .right .e < 2045) × (c .«open» .result .left .v < 1024)
 sides t c = let d = opened (c .before .before .before .before .loop .inv .known .shows) (c .before .if1 .taken) in rw (c .«open» .ensures) (omega (arith, d), omega (arith, d), omega (arith, d))
 
-draw-stem-cast-numbers : (t : ℕ) → draw-stem-lts.Need-cast-numbers (draw-stem-Cs t) (draw-stem-at t) draw-stem.Post draw-stem-Inv-loop draw-stem-μ-loop
-draw-stem-cast-numbers t c = search needs
-
 draw-stem-numbers-requires : (t : ℕ) → draw-stem-lts.Need-numbers-requires (draw-stem-Cs t) (draw-stem-at t) draw-stem.Post draw-stem-Inv-loop draw-stem-μ-loop
 draw-stem-numbers-requires t c κs = omega (arith, sides t (c .before .before .before))
 
-draw-stem-cast-numbers-2 : (t : ℕ) → draw-stem-lts.Need-cast-numbers-2 (draw-stem-Cs t) (draw-stem-at t) draw-stem.Post draw-stem-Inv-loop draw-stem-μ-loop
-draw-stem-cast-numbers-2 t c = search needs
-
 draw-stem-numbers-requires-2 : (t : ℕ) → draw-stem-lts.Need-numbers-requires-2 (draw-stem-Cs t) (draw-stem-at t) draw-stem.Post draw-stem-Inv-loop draw-stem-μ-loop
 draw-stem-numbers-requires-2 t c κs = omega (arith, sides t (c .before .before .before .before .before))
-
-draw-stem-step-at-requires : (t : ℕ) → draw-stem-lts.Need-step-at-requires (draw-stem-Cs t) (draw-stem-at t) draw-stem.Post draw-stem-Inv-loop draw-stem-μ-loop
-draw-stem-step-at-requires t c κs = search needs
-
-draw-stem-go-on-requires : (t : ℕ) → draw-stem-lts.Need-go-on-requires (draw-stem-Cs t) (draw-stem-at t) draw-stem.Post draw-stem-Inv-loop draw-stem-μ-loop
-draw-stem-go-on-requires t c κs = search needs
-
-draw-stem-beside-line-requires : (t : ℕ) → draw-stem-lts.Need-beside-line-requires (draw-stem-Cs t) (draw-stem-at t) draw-stem.Post draw-stem-Inv-loop draw-stem-μ-loop
-draw-stem-beside-line-requires t c κs = search needs
-
-draw-stem-cast-rows : (t : ℕ) → draw-stem-lts.Need-cast-rows (draw-stem-Cs t) (draw-stem-at t) draw-stem.Post draw-stem-Inv-loop draw-stem-μ-loop
-draw-stem-cast-rows t c = search needs
 
 draw-stem-mul-rows : (t : ℕ) → draw-stem-lts.Need-mul-rows (draw-stem-Cs t) (draw-stem-at t) draw-stem.Post draw-stem-Inv-loop draw-stem-μ-loop
 draw-stem-mul-rows t c = omega (arith, sides t (c .before .before .before .before .before .before .before .before .before .before))
@@ -239,20 +233,28 @@ draw-stem-element-write-rows : (t : ℕ) → draw-stem-lts.Need-element-write-ro
 draw-stem-element-write-rows t c = omega (arith, sides t (c .before .before .before .before .before .before .before .before .before .before))
 
 -- on from the triangle
-ahead : (t : ℕ) (c : draw-stem-lts.After-beside-line (draw-stem-Cs t) (draw-stem-at t) draw-stem.Post draw-stem-Inv-loop draw-stem-μ-loop) → let at-loop = c .before .before .before .before .before .before .before .before .before .before .before .before .before in let start = at-loop .before .before in
-    Onward (start .args .tree .now) (start .args .depths .now) (start .args .p) (start .args .w) (start .args .at) (start .args .columns .now) (start .args .rows .now) (at-loop .loop .columns) (at-loop .loop .rows) (at-loop .loop .x) (at-loop .loop .k)
-    (c .before .before .before .before .before .before .before .before .before .«open» .result .left .v) (c .beside-line .result) (c .before .go-on .result)
+abbrev turns : (t : ℕ) → draw-stem-lts.After-beside-line (draw-stem-Cs t) (draw-stem-at t) draw-stem.Post draw-stem-Inv-loop draw-stem-μ-loop → draw-stem-lts.After-open (draw-stem-Cs t) (draw-stem-at t) draw-stem.Post draw-stem-Inv-loop draw-stem-μ-loop
+turns t c = c .before .before .before .before .before .before .before .before .before
+
+ahead : (t : ℕ) (c : draw-stem-lts.After-beside-line (draw-stem-Cs t) (draw-stem-at t) draw-stem.Post draw-stem-Inv-loop draw-stem-μ-loop) → let at-loop = turns t c .before .before .before .before in let args = at-loop .before .before .args in
+    Onward (args .tree .now) (args .depths .now) (args .p) (args .w) (args .at) (args .columns .now) (args .rows .now) (at-loop .loop .columns) (at-loop .loop .rows) (at-loop .loop .x) (at-loop .loop .k)
+    (turns t c .«open» .result .left .v) (c .beside-line .result) (c .before .go-on .result)
 ahead t c =
-    let at-loop = c .before .before .before .before .before .before .before .before .before .before .before .before .before in
-    let start = at-loop .before .before in
-    onward-is (at-loop .loop .inv) (c .before .before .before .before .before .before .before .before .before .before .if1 .taken) (start .pre .1 .1 .0) (c .before .before .before .before .before .before .before .before .before .«open» .result) (c .before .before .before .before .before .numbers .result) (c .before .before .before .numbers2 .result) (c .before .before .step-at .result) (at-loop .before .from-right .result) (c .before .go-on .result) (c .beside-line .result)
-    (c .before .before .before .before .before .before .before .before .before .«open» .ensures) (c .before .before .before .before .before .numbers .ensures) (c .before .before .before .numbers2 .ensures) (c .before .before .step-at .ensures) (at-loop .before .from-right .ensures) (c .before .go-on .ensures) (c .beside-line .ensures)
+    let at-open = turns t c in
+    let at-loop = at-open .before .before .before .before in
+    let at-step = c .before .before in
+    let right = at-loop .before .from-right in
+    let l = at-step .before .before .before .numbers in
+    let r = at-step .before .numbers2 in
+    onward-is (at-loop .loop .inv) (at-open .before .if1 .taken) (at-loop .before .before .pre .1 .1 .0) (at-open .«open» .result) (l .result) (r .result) (at-step .step-at .result) (right .result) (c .before .go-on .result) (c .beside-line .result)
+    (at-open .«open» .ensures) (l .ensures) (r .ensures) (at-step .step-at .ensures) (right .ensures) (c .before .go-on .ensures) (c .beside-line .ensures)
 
 draw-stem-draw-beside-requires : (t : ℕ) → draw-stem-lts.Need-draw-beside-requires (draw-stem-Cs t) (draw-stem-at t) draw-stem.Post draw-stem-Inv-loop draw-stem-μ-loop
 draw-stem-draw-beside-requires t c κs =
     let O = ahead t (c .before .before .before .before .before) in
-    let A = c .before .before .before .before .before .before .before .before .before .before .before .before .before .before .before .before .before .before .loop .inv in
-    (omega (arith, O .narrow, A .fits, A .begun, c .before .before .before .before .before .before .before .before .before .before .before .before .before .before .before .before .before .before .before .before .pre .0), ((O .beside, O .known-beside), O .room))
+    let at-loop = turns t (c .before .before .before .before .before) .before .before .before .before in
+    let A = at-loop .loop .inv in
+    (omega (arith, O .narrow, A .fits, A .begun, at-loop .before .before .pre .0), ((O .beside, O .known-beside), O .room))
 
 draw-stem-loop-less : (t : ℕ) → draw-stem-lts.Need-loop-less (draw-stem-Cs t) (draw-stem-at t) draw-stem.Post draw-stem-Inv-loop draw-stem-μ-loop
 draw-stem-loop-less t c = omega (arith, ahead t (c .before .before .before .before .before .before .before) .narrow-on)
@@ -269,19 +271,23 @@ draw-stem-element-write-columns-2 t c = let A = c .before .before .before .loop 
 draw-stem-add-k-2 : (t : ℕ) → draw-stem-lts.Need-add-k-2 (draw-stem-Cs t) (draw-stem-at t) draw-stem.Post draw-stem-Inv-loop draw-stem-μ-loop
 draw-stem-add-k-2 t c = let A = c .before .before .before .loop .inv in omega (arith, A .fits, c .before .before .before .before .before .pre .1 .1 .0 .fits, corners (A .known .shows))
 
-draw-stem-differ-requires : (t : ℕ) → draw-stem-lts.Need-differ-requires (draw-stem-Cs t) (draw-stem-at t) draw-stem.Post draw-stem-Inv-loop draw-stem-μ-loop
-draw-stem-differ-requires t c κs = search needs
-
 draw-stem-turn-requires : (t : ℕ) → draw-stem-lts.Need-turn-requires (draw-stem-Cs t) (draw-stem-at t) draw-stem.Post draw-stem-Inv-loop draw-stem-μ-loop
-draw-stem-turn-requires t c κs = let A = c .before .before .before .before .before .before .loop .inv in (omega (arith, A .begun), simp length-set (omega (arith, A .columns-size, A .fits, c .before .before .before .before .before .before .before .before .pre .1 .1 .0 .fits, corners (A .known .shows))))
+draw-stem-turn-requires t c κs =
+    let at-loop = c .before .before .before .before .before .before in
+    let A = at-loop .loop .inv in
+    (omega (arith, A .begun), simp length-set (omega (arith, A .columns-size, A .fits, at-loop .before .before .pre .1 .1 .0 .fits, corners (A .known .shows))))
 
 draw-stem-returns : (t : ℕ) → draw-stem-lts.Need-returns (draw-stem-Cs t) (draw-stem-at t) draw-stem.Post draw-stem-Inv-loop draw-stem-μ-loop
 draw-stem-returns t c =
     λ x k.
-    let A = c .before .before .before .before .before .before .before .loop .inv in
-    let start = c .before .before .before .before .before .before .before .before .before in
+    let at-differ = c .before .before .before in
+    let at-loop = at-differ .before .before .before .before in
+    let A = at-loop .loop .inv in
+    let start = at-loop .before .before in
+    let room = start .pre .1 .1 .0 in
+    let other = ap (λ b. differ b (start .args .w .turned)) (sym (at-loop .before .from-right .ensures)) ∙ (sym (at-differ .differ .ensures) ∙ c .before .before .if2 .taken) in
     rw (one-piece (k .shows) (A .whole .shows))
-    (walked-turned (along-ends A (c .before .before .before .before .if1 .left)) (ap (λ b. differ b (start .args .w .turned)) (sym (c .before .before .before .before .before .before .before .before .from-right .ensures)) ∙ (sym (c .before .before .before .differ .ensures) ∙ c .before .before .if2 .taken)) (omega (arith, A .fits, start .pre .1 .1 .0 .fits, start .pre .1 .1 .0 .columns-size, corners (A .known .shows))) (c .turn .ensures))
+    (walked-turned (along-ends A (at-differ .before .if1 .left)) other (omega (arith, A .fits, room .fits, room .columns-size, corners (A .known .shows))) (c .turn .ensures))
 
 draw-stem-returns-2 : (t : ℕ) → draw-stem-lts.Need-returns-2 (draw-stem-Cs t) (draw-stem-at t) draw-stem.Post draw-stem-Inv-loop draw-stem-μ-loop
 draw-stem-returns-2 t c =
@@ -292,4 +298,15 @@ draw-stem-returns-2 t c =
     (walked-kept (along-ends A (c .before .before .if1 .left)) (ap (λ b. differ b (start .args .w .turned)) (sym (c .before .before .before .before .before .before .from-right .ensures)) ∙ (sym (c .before .differ .ensures) ∙ c .if2 .left)))
 
 pub +draw-beside+draw-piece+draw-stem-spec : {M : Type 1} → statement M
-+draw-beside+draw-piece+draw-stem-spec = close μ-draw-beside μ-draw-piece μ-draw-stem (λ t. draw-beside-lts.spec (draw-beside-Cs t) (draw-beside-at t) draw-beside.Post (draw-beside-is-hung-requires t) (draw-beside-draw-piece-requires t) (draw-beside-returns t) (draw-beside-draw-stem-requires t) (draw-beside-returns-2 t)) (λ t. draw-piece-lts.spec (draw-piece-Cs t) (draw-piece-at t) draw-piece.Post (draw-piece-add-if1 t) (draw-piece-returns t) (draw-piece-open-requires t) (draw-piece-cast-numbers t) (draw-piece-numbers-requires t) (draw-piece-far-line-requires t) (draw-piece-near-line-requires t) (draw-piece-cast-rows t) (draw-piece-mul-rows t) (draw-piece-element-write-rows t) (draw-piece-rims-of-requires t) (draw-piece-sub-t22 t) (draw-piece-sub-t22-2 t) (draw-piece-draw-stem-requires t) (draw-piece-draw-stem-requires-2 t) (draw-piece-returns-2 t)) λ t. draw-stem-lts.spec (draw-stem-Cs t) (draw-stem-at t) draw-stem.Post draw-stem-Inv-loop draw-stem-μ-loop (draw-stem-from-right-requires t) (draw-stem-loop-holds t) (draw-stem-add-if1 t) (draw-stem-mul-columns t) (draw-stem-element-write-columns t) (draw-stem-add-k t) (draw-stem-open-requires t) (draw-stem-cast-numbers t) (draw-stem-numbers-requires t) (draw-stem-cast-numbers-2 t) (draw-stem-numbers-requires-2 t) (draw-stem-step-at-requires t) (draw-stem-go-on-requires t) (draw-stem-beside-line-requires t) (draw-stem-cast-rows t) (draw-stem-mul-rows t) (draw-stem-element-write-rows t) (draw-stem-draw-beside-requires t) (draw-stem-loop-less t) (draw-stem-loop-again t) (draw-stem-mul-columns-2 t) (draw-stem-element-write-columns-2 t) (draw-stem-add-k-2 t) (draw-stem-differ-requires t) (draw-stem-turn-requires t) (draw-stem-returns t) (draw-stem-returns-2 t)
++draw-beside+draw-piece+draw-stem-spec =
+    close μ-draw-beside μ-draw-piece μ-draw-stem
+    (λ t. draw-beside-lts.spec (draw-beside-Cs t) (draw-beside-at t) draw-beside.Post (λ c κs. search needs) (draw-beside-draw-piece-requires t) (draw-beside-returns t)
+    (draw-beside-draw-stem-requires t) (draw-beside-returns-2 t))
+    (λ t. draw-piece-lts.spec (draw-piece-Cs t) (draw-piece-at t) draw-piece.Post (draw-piece-add-if1 t) (draw-piece-returns t) (draw-piece-open-requires t) (λ c. search needs)
+    (draw-piece-numbers-requires t) (draw-piece-far-line-requires t) (draw-piece-near-line-requires t) (λ c. search needs) (draw-piece-mul-rows t) (draw-piece-element-write-rows t)
+    (λ c κs. search needs) (draw-piece-sub-t22 t) (draw-piece-sub-t22-2 t) (draw-piece-draw-stem-requires t) (draw-piece-draw-stem-requires-2 t) (draw-piece-returns-2 t))
+    (λ t. draw-stem-lts.spec (draw-stem-Cs t) (draw-stem-at t) draw-stem.Post draw-stem-Inv-loop draw-stem-μ-loop (λ c κs. search needs) (draw-stem-loop-holds t) (draw-stem-add-if1 t)
+    (draw-stem-mul-columns t) (draw-stem-element-write-columns t) (draw-stem-add-k t) (draw-stem-open-requires t) (λ c. search needs) (draw-stem-numbers-requires t) (λ c. search needs)
+    (draw-stem-numbers-requires-2 t) (λ c κs. search needs) (λ c κs. search needs) (λ c κs. search needs) (λ c. search needs) (draw-stem-mul-rows t) (draw-stem-element-write-rows t)
+    (draw-stem-draw-beside-requires t) (draw-stem-loop-less t) (draw-stem-loop-again t) (draw-stem-mul-columns-2 t) (draw-stem-element-write-columns-2 t) (draw-stem-add-k-2 t) (λ c κs. search needs)
+    (draw-stem-turn-requires t) (draw-stem-returns t) (draw-stem-returns-2 t))

@@ -102,4 +102,7 @@ returns-4 c =
     (omega (arith, at-renumber .renumber .kept .1 .1 .0, start .pre .room))
 
 pub remove-from-spec : {M : Type 1} → statement M
-remove-from-spec = tie.close (tie.spec returns returns-2 sub-m slice-reshare-prefix-is-ear slice-aggregate-is-ear is-ear-requires same-length returns-3 low-neighbour-requires high-neighbour-requires slice-reshare-prefix-remove slice-aggregate-remove key-requires slice-aggregate-remove-2 remove-requires array-share-prefix-rest slice-aggregate-renumber renumber-requires sub-t25 same-length-2 returns-4)
+remove-from-spec =
+    tie.close (tie.spec returns returns-2 sub-m slice-reshare-prefix-is-ear slice-aggregate-is-ear is-ear-requires same-length returns-3 low-neighbour-requires
+    high-neighbour-requires slice-reshare-prefix-remove slice-aggregate-remove key-requires slice-aggregate-remove-2 remove-requires array-share-prefix-rest
+    slice-aggregate-renumber renumber-requires sub-t25 same-length-2 returns-4)

@@ -97,4 +97,7 @@ returns-2 c =
     (omega (arith, at-merge .merge .kept .1 .1 .0, s .pre .0 .room))
 
 pub turn-spec : {M : Type 1} → statement M
-turn-spec = tie.close (tie.spec sub-m key-requires slice-reshare-prefix-has slice-aggregate-has has-requires same-length returns slice-reshare-prefix-turned-key slice-aggregate-turned-key turned-key-requires slice-reshare-prefix-remove slice-aggregate-remove slice-aggregate-remove-2 remove-requires slice-aggregate-merge array-share-prefix-rest slice-aggregate-merge-2 merge-requires same-length-2 returns-2)
+turn-spec =
+    tie.close (tie.spec sub-m key-requires slice-reshare-prefix-has slice-aggregate-has has-requires same-length returns slice-reshare-prefix-turned-key
+    slice-aggregate-turned-key turned-key-requires slice-reshare-prefix-remove slice-aggregate-remove slice-aggregate-remove-2 remove-requires slice-aggregate-merge
+    array-share-prefix-rest slice-aggregate-merge-2 merge-requires same-length-2 returns-2)

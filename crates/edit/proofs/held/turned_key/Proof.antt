@@ -83,4 +83,7 @@ returns-3 c =
     (F .0, second-found (start .args .n) (start .args .a) (start .args .b) (edgesOf (start .args .keys .now)) (at-mark .mark .last .1 .1 .1 .0) (at-mark2 .mark2 .last .1 .1 .1 .0) (at-mark .mark .ensures) (at-mark2 .mark2 .ensures) x y e _ C .0)
 
 pub turned-key-spec : {M : Type 1} → statement M
-turned-key-spec = tie.close (tie.spec slice-aggregate-mark mark-requires slice-aggregate-mark-2 mark-requires-2 slice-aggregate-first-common slice-aggregate-first-common-2 first-common-requires returns slice-aggregate-first-common-3 slice-aggregate-first-common-4 add-first-common first-common-requires-2 returns-2 key-requires returns-3)
+turned-key-spec =
+    tie.close (tie.spec slice-aggregate-mark mark-requires slice-aggregate-mark-2 mark-requires-2 slice-aggregate-first-common slice-aggregate-first-common-2
+    first-common-requires returns slice-aggregate-first-common-3 slice-aggregate-first-common-4 add-first-common first-common-requires-2 returns-2 key-requires
+    returns-3)

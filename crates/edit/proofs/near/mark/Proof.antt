@@ -6,7 +6,8 @@ use lib.ListN.{length, take, getD, length-set}
 use lib.Seq.{take-all}
 use Rattle.keys.specs.Keys.{edgeOf, edgesOf}
 use Rattle.edit.specs.Tables.{Near}
-use Rattle.edit.proofs.Marking.{near-begin, near-next, edges-next, end-below}
+use Rattle.sheet.proofs.Writing.{edges-more}
+use Rattle.edit.proofs.Marking.{near-begin, near-next, end-below}
 use Rattle.edit.proofs.near.mark.Statement.{statement}
 use Rattle.edit.proofs.near.mark.Tie as tie
 
@@ -66,7 +67,7 @@ loop-again c =
     let j = at-loop .loop .j in (
       omega arith,
       simp length-set (at-loop .loop .inv .1),
-      rw (edges-next keys j (c .before .before .loop-test .taken))
+      rw (edges-more keys j (c .before .before .loop-test .taken))
           (near-next (start .args .n) (start .args .c) (edgesOf (take j keys)) (edgeOf (getD keys j 0)) (at-loop .loop .near) (at-loop .loop .inv .2) (start .pre .0 .1) (at-loop .loop .inv .1) (c .other-end .result) (c .other-end .ensures)),
     )
 

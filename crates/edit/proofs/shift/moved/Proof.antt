@@ -3,7 +3,7 @@ use mathlib.Core.Path.{sym}
 use borrow.Author.Needs.{needs}
 use native.Mathlib.Decide.{decLt}
 use native.Mathlib.Omega.{arith}
-use Rattle.lists.proofs.Lists.{choose-yes, choose-no}
+use Rattle.lists.proofs.Lists.{choose-no, choose-yes}
 use Rattle.edit.specs.declared.shift.Shift.the-variants.{Up, Down}
 use Rattle.edit.specs.Tables.{Movable}
 use Rattle.edit.proofs.shift.moved.Statement.{statement}

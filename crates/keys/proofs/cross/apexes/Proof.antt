@@ -22,15 +22,6 @@ loop-holds c =
     let start = at-begin .before .before .before .before .before in
     record { upto = omega arith; tops-size = at-begin .begin .kept .0 ∙ start .pre .1 .1; apex-size = refl; tops = tops-begin (start .args .n) (at-begin .begin .last .0) (start .pre .1 .0) (at-begin .begin .ensures); apexes = λ i h. absurd (omega arith) }
 
-mul-low : tie.Need-mul-low Inv-loop μ-loop
-mul-low c = omega arith
-
-shared-slice-read-low : tie.Need-shared-slice-read-low Inv-loop μ-loop
-shared-slice-read-low c = omega arith
-
-low-requires : tie.Need-low-requires Inv-loop μ-loop
-low-requires c κs = omega arith
-
 mul-apex : tie.Need-mul-apex Inv-loop μ-loop
 mul-apex c = omega (arith, c .low .ensures, c .before .shared-slice-known2 .given (c .before .before .before .loop .j))
 
@@ -41,23 +32,8 @@ slice-read-apex c =
     let start = at-loop .before .before .before .before .before .before .before .before in
     omega (arith, c .before .low .ensures, diagonal-at (start .args .n) (start .args .keys .now) (start .pre .0) (at-loop .loop .j) (at-loop-test .loop-test .taken), start .pre .1 .0, at-loop .loop .inv .tops-size)
 
-mul-apex-2 : tie.Need-mul-apex-2 Inv-loop μ-loop
-mul-apex-2 c = omega arith
-
 slice-write-apex : tie.Need-slice-write-apex Inv-loop μ-loop
 slice-write-apex c = omega (arith, c .before .before .before .before .loop .inv .apex-size, c .before .before .before .before .before .before .before .before .before .before .before .before .pre .1 .2)
-
-mul-high : tie.Need-mul-high Inv-loop μ-loop
-mul-high c = omega arith
-
-shared-slice-read-high : tie.Need-shared-slice-read-high Inv-loop μ-loop
-shared-slice-read-high c = omega arith
-
-high-requires : tie.Need-high-requires Inv-loop μ-loop
-high-requires c κs = omega arith
-
-cast-top : tie.Need-cast-top Inv-loop μ-loop
-cast-top c = omega arith
 
 mul-top : tie.Need-mul-top Inv-loop μ-loop
 mul-top c = omega (arith, c .before .before .before .low .ensures, c .before .before .before .before .shared-slice-known2 .given (c .before .before .before .before .before .before .loop .j))
@@ -69,12 +45,6 @@ slice-write-top c =
     let at-loop = at-loop-test .before in
     let start = at-loop .before .before .before .before .before .before .before .before in
     omega (arith, at-low .low .ensures, diagonal-at (start .args .n) (start .args .keys .now) (start .pre .0) (at-loop .loop .j) (at-loop-test .loop-test .taken), start .pre .1 .0, at-loop .loop .inv .tops-size)
-
-add-j : tie.Need-add-j Inv-loop μ-loop
-add-j c = omega arith
-
-loop-less : tie.Need-loop-less Inv-loop μ-loop
-loop-less c = omega arith
 
 loop-again : tie.Need-loop-again Inv-loop μ-loop
 loop-again c =
@@ -95,4 +65,6 @@ returns : tie.Need-returns Inv-loop μ-loop
 returns c = scanned-end _ (c .before .before .before .before .before .before .before .before .before .args .keys .now) _ _ _ (c .before .loop .j) (c .before .loop .inv) (c .loop-test .left)
 
 pub apexes-spec : {M : Type 1} → statement M
-apexes-spec = tie.close (tie.spec Inv-loop μ-loop begin-requires loop-holds mul-low shared-slice-read-low low-requires mul-apex slice-read-apex mul-apex-2 slice-write-apex mul-high shared-slice-read-high high-requires cast-top mul-top slice-write-top add-j loop-less loop-again same-length same-length-2 returns)
+apexes-spec =
+    tie.close (tie.spec Inv-loop μ-loop begin-requires loop-holds (λ c. omega arith) (λ c. omega arith) (λ c κs. omega arith) mul-apex slice-read-apex (λ c. omega arith) slice-write-apex
+    (λ c. omega arith) (λ c. omega arith) (λ c κs. omega arith) (λ c. omega arith) mul-top slice-write-top (λ c. omega arith) (λ c. omega arith) loop-again same-length same-length-2 returns)

@@ -17,32 +17,11 @@ abbrev μ-loop : tie.MeasureT-loop
 loop-holds : tie.Need-loop-holds Inv-loop μ-loop
 loop-holds c = (omega arith, omega arith, λ i h. absurd (omega arith))
 
-add-top : tie.Need-add-top Inv-loop μ-loop
-add-top c = omega arith
-
-cast-top : tie.Need-cast-top Inv-loop μ-loop
-cast-top c = omega arith
-
-mul-top : tie.Need-mul-top Inv-loop μ-loop
-mul-top c = omega arith
-
-slice-write-top : tie.Need-slice-write-top Inv-loop μ-loop
-slice-write-top c = omega arith
-
-add-c : tie.Need-add-c Inv-loop μ-loop
-add-c c = omega arith
-
-loop-less : tie.Need-loop-less Inv-loop μ-loop
-loop-less c = omega arith
-
 loop-again : tie.Need-loop-again Inv-loop μ-loop
 loop-again c = (omega arith, simp length-set (omega arith), table-next suc (c .before .loop .top) (c .before .loop .c) _ (omega arith) (add-one (c .before .loop .c)) (c .before .loop .inv .2))
-
-same-length : tie.Need-same-length Inv-loop μ-loop
-same-length c = omega arith
 
 returns : tie.Need-returns Inv-loop μ-loop
 returns c = λ i h. c .before .loop .inv .2 i (omega arith)
 
 pub begin-spec : {M : Type 1} → statement M
-begin-spec = tie.close (tie.spec Inv-loop μ-loop loop-holds add-top cast-top mul-top slice-write-top add-c loop-less loop-again same-length returns)
+begin-spec = tie.close (tie.spec Inv-loop μ-loop loop-holds (λ c. omega arith) (λ c. omega arith) (λ c. omega arith) (λ c. omega arith) (λ c. omega arith) (λ c. omega arith) loop-again (λ c. omega arith) returns)

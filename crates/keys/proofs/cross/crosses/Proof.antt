@@ -6,21 +6,6 @@ use Rattle.keys.proofs.Crosses.{apex-below, reaches-free, fails-cross}
 use Rattle.keys.proofs.cross.crosses.Statement.{statement}
 use Rattle.keys.proofs.cross.crosses.Tie as tie
 
-slice-aggregate-apexes : tie.Need-slice-aggregate-apexes
-slice-aggregate-apexes c = search needs
-
-slice-aggregate-apexes-2 : tie.Need-slice-aggregate-apexes-2
-slice-aggregate-apexes-2 c = search needs
-
-apexes-requires : tie.Need-apexes-requires
-apexes-requires c κs = search needs
-
-slice-aggregate-reaches : tie.Need-slice-aggregate-reaches
-slice-aggregate-reaches c = search needs
-
-slice-aggregate-reaches-2 : tie.Need-slice-aggregate-reaches-2
-slice-aggregate-reaches-2 c = search needs
-
 reaches-requires : tie.Need-reaches-requires
 reaches-requires c κs =
     let at-apexes = c .before .before .before .before in
@@ -40,4 +25,4 @@ returns c =
     )
 
 pub crosses-spec : {M : Type 1} → statement M
-crosses-spec = tie.close (tie.spec slice-aggregate-apexes slice-aggregate-apexes-2 apexes-requires slice-aggregate-reaches slice-aggregate-reaches-2 reaches-requires returns)
+crosses-spec = tie.close (tie.spec (λ c. search needs) (λ c. search needs) (λ c κs. search needs) (λ c. search needs) (λ c. search needs) reaches-requires returns)

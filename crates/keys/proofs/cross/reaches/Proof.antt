@@ -17,12 +17,6 @@ abbrev μ-loop : tie.MeasureT-loop
 loop-holds : tie.Need-loop-holds Inv-loop μ-loop
 loop-holds c = (omega arith, λ i h. absurd (omega arith))
 
-mul-c : tie.Need-mul-c Inv-loop μ-loop
-mul-c c = omega arith
-
-shared-slice-read-c : tie.Need-shared-slice-read-c Inv-loop μ-loop
-shared-slice-read-c c = omega arith
-
 cast-c : tie.Need-cast-c Inv-loop μ-loop
 cast-c c = omega (arith, c .shared-slice-known4 .given (c .before .before .loop .j))
 
@@ -35,23 +29,8 @@ shared-slice-read-if1 c = c .before .before .before .before .before .before .bef
 cast-if1 : tie.Need-cast-if1 Inv-loop μ-loop
 cast-if1 c = omega (arith, c .shared-slice-known5 .given (getD (c .before .before .before .before .before .before .before .args .apex .now) (c .before .before .before .loop .j) 0))
 
-mul-high : tie.Need-mul-high Inv-loop μ-loop
-mul-high c = omega arith
-
-shared-slice-read-high : tie.Need-shared-slice-read-high Inv-loop μ-loop
-shared-slice-read-high c = omega arith
-
-high-requires : tie.Need-high-requires Inv-loop μ-loop
-high-requires c κs = omega arith
-
 returns : tie.Need-returns Inv-loop μ-loop
 returns c = (λ h. absurd (false≢true h), λ h. (c .before .before .before .before .before .before .loop .j, c .before .before .before .before .before .loop-test .taken, λ e. c .if1 .taken (e ∙ sym (c .before .high .ensures .0))))
-
-add-j : tie.Need-add-j Inv-loop μ-loop
-add-j c = omega arith
-
-loop-less : tie.Need-loop-less Inv-loop μ-loop
-loop-less c = omega arith
 
 loop-again : tie.Need-loop-again Inv-loop μ-loop
 loop-again c = (omega arith, below-more _ _ (c .before .before .before .before .before .before .loop .inv .1) (c .if1 .left ∙ c .before .high .ensures .0))
@@ -60,4 +39,6 @@ returns-2 : tie.Need-returns-2 Inv-loop μ-loop
 returns-2 c = (λ h i k. c .before .loop .inv .1 i (omega arith), λ h. absurd (true≢false h))
 
 pub reaches-spec : {M : Type 1} → statement M
-reaches-spec = tie.close (tie.spec Inv-loop μ-loop loop-holds mul-c shared-slice-read-c cast-c mul-if1 shared-slice-read-if1 cast-if1 mul-high shared-slice-read-high high-requires returns add-j loop-less loop-again returns-2)
+reaches-spec =
+    tie.close (tie.spec Inv-loop μ-loop loop-holds (λ c. omega arith) (λ c. omega arith) cast-c mul-if1 shared-slice-read-if1 cast-if1 (λ c. omega arith) (λ c. omega arith) (λ c κs. omega arith)
+    returns (λ c. omega arith) (λ c. omega arith) loop-again returns-2)

@@ -96,4 +96,7 @@ count-returns : (t : ℕ) → count-lts.Need-returns (count-Cs t) (count-at t) c
 count-returns t c = λ x K. counting-ends (c .before .before .before .loop .inv) K (c .if1 .left)
 
 pub +count-spec : {M : Type 1} → statement M
-+count-spec = close μ-count λ t. count-lts.spec (count-Cs t) (count-at t) count.Post count-Inv-loop count-μ-loop (count-loop-holds t) (count-add-if1 t) (count-triangle-requires t) (count-add-umbrellas t) (count-add-stems t) (count-add-if2 t) (count-count-requires t) (count-add-umbrellas-2 t) (count-add-stems-2 t) (count-loop-less t) (count-loop-again t) (count-returns t)
++count-spec =
+    close μ-count λ t. count-lts.spec (count-Cs t) (count-at t) count.Post count-Inv-loop count-μ-loop (count-loop-holds t) (count-add-if1 t)
+    (count-triangle-requires t) (count-add-umbrellas t) (count-add-stems t) (count-add-if2 t) (count-count-requires t) (count-add-umbrellas-2 t)
+    (count-add-stems-2 t) (count-loop-less t) (count-loop-again t) (count-returns t)

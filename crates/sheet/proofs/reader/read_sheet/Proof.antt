@@ -116,4 +116,7 @@ returns-5 c =
     read (ordered at-order) (sym (not-false _ (at-if2 .if2 .left)) ∙ at-order .order .ensures .1) (c .before .crosses .ensures .0 (c .if3 .left))
 
 pub read-sheet-spec : {M : Type 1} → statement M
-read-sheet-spec = tie.close (tie.spec read-head-requires enum-known-k enum-known-h sub-m read-pairs-requires same-length returns slice-relend-prefix-order slice-aggregate-order order-requires same-length-2 returns-2 slice-reshare-prefix-crosses slice-aggregate-crosses crosses-requires same-length-3 returns-3 returns-4 same-length-4 returns-5)
+read-sheet-spec =
+    tie.close (tie.spec read-head-requires enum-known-k enum-known-h sub-m read-pairs-requires same-length returns slice-relend-prefix-order slice-aggregate-order
+    order-requires same-length-2 returns-2 slice-reshare-prefix-crosses slice-aggregate-crosses crosses-requires same-length-3 returns-3 returns-4 same-length-4
+    returns-5)

@@ -8,36 +8,6 @@ use Rattle.umbrella.proofs.roles.step_at.Tie as tie
 enum-told : tie.Need-enum-told
 enum-told c = search needs
 
-enum-told-2 : tie.Need-enum-told-2
-enum-told-2 c = search needs
-
-left-step-requires : tie.Need-left-step-requires
-left-step-requires c κs = search needs
-
-enum-told-3 : tie.Need-enum-told-3
-enum-told-3 c = search needs
-
-right-step-requires : tie.Need-right-step-requires
-right-step-requires c κs = search needs
-
-enum-told-4 : tie.Need-enum-told-4
-enum-told-4 c = search needs
-
-goes-left-requires : tie.Need-goes-left-requires
-goes-left-requires c κs = search needs
-
-stem-step-requires : tie.Need-stem-step-requires
-stem-step-requires c κs = search needs
-
-enum-told-5 : tie.Need-enum-told-5
-enum-told-5 c = search needs
-
-goes-left-requires-2 : tie.Need-goes-left-requires-2
-goes-left-requires-2 c κs = search needs
-
-stem-step-requires-2 : tie.Need-stem-step-requires-2
-stem-step-requires-2 c κs = search needs
-
 returns : tie.Need-returns
 unfolding stepAt
 returns c = rw (c .enum-told .given .1)
@@ -59,4 +29,6 @@ unfolding stepAt
 returns-5 c = rw (c .before .before .enum-told5 .given .1) (c .stem-step2 .ensures ∙ rw (c .before .goes-left2 .ensures, c .before .before .enum-told5 .given .1))
 
 pub step-at-spec : {M : Type 1} → statement M
-step-at-spec = tie.close (tie.spec enum-told enum-told-2 left-step-requires enum-told-3 right-step-requires enum-told-4 goes-left-requires stem-step-requires enum-told-5 goes-left-requires-2 stem-step-requires-2 returns returns-2 returns-3 returns-4 returns-5)
+step-at-spec =
+    tie.close (tie.spec enum-told (λ c. search needs) (λ c κs. search needs) (λ c. search needs) (λ c κs. search needs) (λ c. search needs) (λ c κs. search needs) (λ c κs. search needs)
+    (λ c. search needs) (λ c κs. search needs) (λ c κs. search needs) returns returns-2 returns-3 returns-4 returns-5)
