@@ -4,13 +4,16 @@
 mod save;
 
 use console::Input;
+use draw::program::CHART_ROOM;
+use draw::program::INPUT_ROOM;
+use draw::program::LINE_ROOM;
 use draw::program::Shown;
 use draw::program::draw_input;
 
 // Saves and prints what is done with an input of which these are the first bytes.
-fn answer(input: &[u8; 4092], size: usize) {
-    let mut chart = [0u8; 20465];
-    let mut text = [0u8; 256];
+fn answer(input: &[u8; INPUT_ROOM], size: usize) {
+    let mut chart = [0u8; CHART_ROOM];
+    let mut text = [0u8; LINE_ROOM];
     match draw_input(input, size, &mut chart, &mut text) {
         Shown::Refused(m) => console::print(&text[..m]),
         Shown::Chart(k, m) => {
@@ -22,7 +25,7 @@ fn answer(input: &[u8; 4092], size: usize) {
 }
 
 fn main() {
-    let mut input = [0u8; 4092];
+    let mut input = [0u8; INPUT_ROOM];
     if let Input::Bytes(size) = console::read_input(&mut input) {
         answer(&input, size);
     }

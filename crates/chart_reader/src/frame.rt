@@ -7,6 +7,7 @@ ghost use Rattle.chart.specs.Decode.{places};
 ghost use Rattle.chart_reader.specs.Formed.{Formed};
 ghost use Rattle.chart_reader.specs.Held.{Ending, StrokesFound};
 use codec::get16;
+use keys::CORNERS;
 
 // Finds the places of the strokes from `from` on, as many as there is room for, if their map bytes have at most bit 0 and they end where the bytes end.
 fn stroke_places(chart: &[u8], from: usize, at: &mut [usize]) -> bool
@@ -45,7 +46,7 @@ pub fn frame(chart: &[u8], at: &mut [usize]) -> usize
     if n < 3 {
         return 0;
     }
-    if n > 1024 {
+    if n > CORNERS {
         return 0;
     }
     let m = 2 * n - 3;

@@ -12,6 +12,7 @@ use crate::gaps::gaps_keep;
 use crate::part::part;
 use crate::strokes::strokes_keep;
 use codec::Written;
+use keys::EDGES;
 use sheet::Head;
 use sheet::Read;
 use sheet::writer::write_sheet;
@@ -48,7 +49,7 @@ pub fn read_part(chart: &[u8], keys: &mut [u32]) -> Read
     requires { ⌜ length (now keys) ≡ 2045 ⌝ }
     ensures { λ r. ⌜ Reads (readChart (now (chart .entry))) r (now (keys .exit)) ⌝ }
 {
-    let mut at = [0usize; 2045];
+    let mut at = [0usize; EDGES];
     let n = frame(chart, &mut at);
     if n == 0 {
         return Read::Refused(14);
@@ -57,7 +58,7 @@ pub fn read_part(chart: &[u8], keys: &mut [u32]) -> Read
         return Read::Refused(15);
     }
     let m = 2 * n - 3;
-    let mut edges = [0u32; 2045];
+    let mut edges = [0u32; EDGES];
     if !strokes_keep(chart, &at[..m], n, &mut edges) {
         return Read::Refused(16);
     }
@@ -78,7 +79,7 @@ pub fn read_part(chart: &[u8], keys: &mut [u32]) -> Read
 pub fn read_chart(chart: &[u8], out: &mut [u8]) -> Written
     ensures { λ r. ⌜ answered r (now (out .exit)) ≡ written (chartRead (now (chart .entry))) (now (out .entry)) ⌝ }
 {
-    let mut keys = [0u32; 2045];
+    let mut keys = [0u32; EDGES];
     match read_part(chart, &mut keys) {
         Read::Refused(k) => Written::Refused(k),
         Read::Held(h) => write_sheet(h, &keys, out),

@@ -19,6 +19,7 @@ use chart_reader::frame::frame;
 use chart_reader::read_part;
 use codec::get16;
 use draw::line::counts_line;
+use keys::EDGES;
 use log_line::put_field;
 use log_line::put_refused;
 use log_line::put_word;
@@ -28,6 +29,9 @@ use sheet::Read;
 
 pub mod program;
 pub mod strokes;
+
+// Room for the longest text.
+pub const TEXT_ROOM: usize = 163840;
 
 // Writes the line of a part in hand, in the chart's own rows and columns.
 fn put_head(chart: &[u8], h: Head, keys: &[u32], out: &mut [u8]) -> usize
@@ -79,7 +83,7 @@ fn describe_part(chart: &[u8], h: Head, keys: &[u32], out: &mut [u8]) -> usize
         (now (out .entry)) 0 (now (out .exit)) r ⌝ }
     ensures within { λ r. ⌜ r ≤ 163840 ⌝ }
 {
-    let mut at = [0usize; 2045];
+    let mut at = [0usize; EDGES];
     let n = frame(chart, &mut at);
     let m = 2 * n - 3;
     let corners = put_head(chart, h, keys, out);
@@ -88,11 +92,11 @@ fn describe_part(chart: &[u8], h: Head, keys: &[u32], out: &mut [u8]) -> usize
 }
 
 // Writes what is said of a chart, and says how long it is.
-pub fn describe(chart: &[u8], out: &mut [u8; 163840]) -> usize
+pub fn describe(chart: &[u8], out: &mut [u8; TEXT_ROOM]) -> usize
     ensures text { λ r. ⌜ Put (described (now (chart .entry))) (now (out .entry)) 0 (now (out .exit)) r ⌝ }
     ensures within { λ r. ⌜ r ≤ 163840 ⌝ }
 {
-    let mut keys = [0u32; 2045];
+    let mut keys = [0u32; EDGES];
     match read_part(chart, &mut keys) {
         Read::Refused(k) => put_refused(k as usize, out),
         Read::Held(h) => describe_part(chart, h, &keys, out),

@@ -15,6 +15,7 @@ use chart::Stroke;
 use chart::stroke_at;
 use chart_reader::part::is_diagonal;
 use chart_reader::strokes::stroke_ends;
+use keys::EDGES;
 use keys::key;
 use keys::sort::sort;
 use log_line::put_field;
@@ -129,8 +130,8 @@ pub fn put_strokes(out: &mut [u8], from: usize, chart: &[u8], at: &[usize], n: u
     ensures { λ r. ⌜ Put (strokeLines (chartIn (now (chart .entry)))) (now (out .entry)) from (now (out .exit)) r ⌝ }
     ensures { λ r. ⌜ r ≤ from + 44 * length (now (at .entry)) ⌝ }
 {
-    let mut keys = [0u32; 2045];
-    let mut spare = [0u32; 2045];
+    let mut keys = [0u32; EDGES];
+    let mut spare = [0u32; EDGES];
     order(chart, at, n, &mut keys, &mut spare);
     let m = at.len();
     put_lines(out, from, chart, at, n, &keys[..m])

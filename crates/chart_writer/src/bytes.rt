@@ -7,6 +7,7 @@ ghost use lib.Seq.{sets};
 ghost use Rattle.codec.specs.Numbers.{bytes16};
 ghost use Rattle.chart.specs.Bytes.{strokeBytes};
 ghost use Rattle.chart_writer.specs.Tables.{EdgeKeys, strokeMap, edgeBytes, edgeStroke, barRun, strokeRun};
+use crate::NONE;
 use codec::put16;
 use keys::high;
 use keys::low;
@@ -29,7 +30,7 @@ pub fn put_bars(out: &mut [u8], n: usize, rows: &[u16], left: &[u16], right: &[u
 fn map_byte(c: u16) -> u8
     ensures { λ r. ⌜ (r ≡ strokeMap c) × (r ≤ 1) ⌝ }
 {
-    if c == 65535 { 0 } else { 1 }
+    if c == NONE { 0 } else { 1 }
 }
 
 // The map byte and the two corners of a stroke.
@@ -59,7 +60,7 @@ fn put_last(out: &mut [u8], at: usize, k: u32, c: u16)
     ensures { λ _. ⌜ now (out .exit) ≡ sets (now (out .entry)) at (strokeBytes (edgeStroke k c)) ⌝ }
 {
     put_edge(out, at, k, c);
-    if c == 65535 {
+    if c == NONE {
         return;
     }
     put16(out, at + 5, c as usize);

@@ -14,9 +14,14 @@ use crate::bytes::put_strokes;
 use crate::bytes::strokes_size;
 use codec::Written;
 use codec::put16;
+use keys::CORNERS;
+use keys::EDGES;
 
 pub mod bars;
 pub mod bytes;
+
+// The column of an edge that is not upright.
+pub const NONE: u16 = 65535;
 
 // Writes the chart of a part with n corners, if the output is long enough: `height` is the number of its rows, the first 2n-3 numbers of `tree` are the keys of its edges.
 pub fn write_chart(
@@ -35,9 +40,9 @@ pub fn write_chart(
         → answered r (now (out .exit)) ≡ written (write (bytesOf (layout (n - 1) D rs us es))) (now (out .entry))) ⌝ }
 {
     let w = columns.len();
-    let mut left = [w as u16; 1024];
-    let mut right = [0u16; 1024];
-    let mut stands = [65535u16; 2045];
+    let mut left = [w as u16; CORNERS];
+    let mut right = [0u16; CORNERS];
+    let mut stands = [NONE; EDGES];
     spans(tree, columns, n, &mut left, &mut right, &mut stands);
     let m = 2 * n - 3;
     let from = 6 + 6 * n;

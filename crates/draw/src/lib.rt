@@ -25,7 +25,8 @@ use codec::Written;
 use drawing::Size;
 use drawing::place;
 use drawing::walk::COLUMNS;
-use levels::CORNERS;
+use keys::CORNERS;
+use keys::DIAGONALS;
 use levels::NUMBERS;
 use levels::fill;
 use sheet::Head;
@@ -85,7 +86,7 @@ pub fn draw_for(sheet: &[u8], out: &mut [u8], room: usize) -> BothWritten
         ≡ drawnWithBars (now (sheet .entry)) (now (out .entry)) (map barOf bars)) ⌝ }
     ensures fits { λ r. ⌜ BarsFit r room (length (now (out .entry))) ⌝ }
 {
-    let mut keys = [0u32; 1021];
+    let mut keys = [0u32; DIAGONALS];
     match read_sheet(sheet, &mut keys) {
         Read::Refused(k) => BothWritten::Refused(k),
         Read::Held(h) => {
@@ -105,7 +106,7 @@ pub fn draw_for(sheet: &[u8], out: &mut [u8], room: usize) -> BothWritten
 pub fn draw(sheet: &[u8], out: &mut [u8]) -> Written
     ensures { λ r. ⌜ answered r (now (out .exit)) ≡ written (drawn (now (sheet .entry))) (now (out .entry)) ⌝ }
 {
-    match draw_for(sheet, out, 1024) {
+    match draw_for(sheet, out, CORNERS) {
         BothWritten::Refused(k) => Written::Refused(k),
         BothWritten::Lengths(size, _) => Written::Bytes(size),
     }

@@ -12,6 +12,7 @@ use crate::line::counts_line;
 use crate::write_part;
 use codec::Written;
 use codec::least;
+use keys::DIAGONALS;
 use levels::NUMBERS;
 use levels::fill;
 use log_line::put_refused;
@@ -20,6 +21,13 @@ use sheet::Head;
 use sheet::Read;
 use sheet::reader::read_sheet;
 use tree::PLACES;
+
+// Room for an input, one byte more than the longest sheet has; for the longest chart; for the longest line.
+pub const INPUT_ROOM: usize = 4092;
+
+pub const CHART_ROOM: usize = 20465;
+
+pub const LINE_ROOM: usize = 256;
 
 // The length of a chart to be saved and that of its line; or that of a refusal's line, with nothing to be saved.
 pub enum Shown {
@@ -61,7 +69,7 @@ fn draw_first(lent: &[u8], end: usize, chart: &mut [u8], text: &mut [u8]) -> Sho
         ≡ output (take end (now (lent .entry))) (now (chart .entry)) (now (text .entry)) ⌝ }
     ensures within { λ r. ⌜ Lengths r (now (chart .exit)) (now (text .exit)) ⌝ }
 {
-    let mut keys = [0u32; 1021];
+    let mut keys = [0u32; DIAGONALS];
     match read_sheet(&lent[..end], &mut keys) {
         Read::Refused(k) => Shown::Refused(put_refused(k as usize, text)),
         Read::Held(h) => show_part(h, &keys, chart, text),
@@ -70,14 +78,14 @@ fn draw_first(lent: &[u8], end: usize, chart: &mut [u8], text: &mut [u8]) -> Sho
 
 // What is done with an input, of which the first `size` bytes lent are all, or the first 4,092 bytes if it is longer.
 pub fn draw_input(
-    lent: &[u8; 4092],
+    lent: &[u8; INPUT_ROOM],
     size: usize,
-    chart: &mut [u8; 20465],
-    text: &mut [u8; 256],
+    chart: &mut [u8; CHART_ROOM],
+    text: &mut [u8; LINE_ROOM],
 ) -> Shown
     ensures done { λ r. ⌜ ((input : List ℕ) → Begins (now (lent .entry)) size input
         → shown r (now (chart .exit)) (now (text .exit)) ≡ output input (now (chart .entry)) (now (text .entry))) ⌝ }
     ensures within { λ r. ⌜ Lengths r (now (chart .exit)) (now (text .exit)) ⌝ }
 {
-    draw_first(lent, least(size, 4092), chart, text)
+    draw_first(lent, least(size, INPUT_ROOM), chart, text)
 }

@@ -10,7 +10,7 @@ use crate::lines::Line;
 use crate::lines::Way;
 use crate::walk::COLUMNS;
 use crate::walk::draw_piece;
-use levels::CORNERS;
+use keys::CORNERS;
 use levels::NUMBERS;
 use levels::numbers;
 use tree::PLACES;

@@ -16,7 +16,7 @@ use crate::lines::far_line;
 use crate::lines::go_on;
 use crate::lines::near_line;
 use crate::lines::rims_of;
-use levels::CORNERS;
+use keys::CORNERS;
 use levels::NUMBERS;
 use levels::numbers;
 use tree::PLACES;

@@ -9,6 +9,7 @@ ghost use Rattle.polygon.specs.Tree.{Tree, treeOf};
 ghost use Rattle.keys.specs.Keys.{edgesOf};
 ghost use Rattle.tree.specs.Table.{rightEdge, TreeAt, SomeTreeAt};
 ghost use Rattle.levels.specs.Numbered.{join, sixAt, withSix, Leaves, Deep, Grows, Rising, Filled};
+use keys::CORNERS;
 use tree::LAST;
 use tree::PLACES;
 use tree::Root;
@@ -18,9 +19,6 @@ use tree::open;
 
 // How many places the table of numbers has.
 pub const NUMBERS: usize = 12270;
-
-// How many corners a part has at most.
-pub const CORNERS: usize = 1024;
 
 // The six numbers of a piece: its levels, and those of a stem through it, of its two fans and of its two partial umbrellas.
 pub struct Six {

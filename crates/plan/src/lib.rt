@@ -10,6 +10,7 @@ ghost use Rattle.levels.specs.Numbered.{Filled};
 ghost use Rattle.plan.specs.Counts.{totalsOf};
 ghost use Rattle.plan.specs.Answer.{plannedOf, planned};
 use crate::counts::count;
+use keys::DIAGONALS;
 use levels::NUMBERS;
 use levels::fill;
 use levels::numbers;
@@ -65,7 +66,7 @@ pub fn plan_part(h: Head, keys: &[u32]) -> Totals
 pub fn plan(sheet: &[u8]) -> Planned
     ensures { λ r. ⌜ plannedOf r ≡ planned (now (sheet .entry)) ⌝ }
 {
-    let mut keys = [0u32; 1021];
+    let mut keys = [0u32; DIAGONALS];
     match read_sheet(sheet, &mut keys) {
         Read::Refused(k) => Planned::Refused(k),
         Read::Held(h) => {

@@ -50,8 +50,8 @@ Holds (turned s a b t) = edited (flip a b) s ≡ write t
 Holds (lined s bs) = printed s ≡ bs
 
 -- the part of the last two cases
-abbrev pub hung : List ℕ
-hung = sheet 11 ((0 — 3) ∷ (0 — 9) ∷ (1 — 3) ∷ (3 — 6) ∷ (3 — 9) ∷ (4 — 6) ∷ (6 — 8) ∷ (6 — 9) ∷ [])
+abbrev pub manyHung : List ℕ
+manyHung = sheet 11 ((0 — 3) ∷ (0 — 9) ∷ (1 — 3) ∷ (3 — 6) ∷ (3 — 9) ∷ (4 — 6) ∷ (6 — 8) ∷ (6 — 9) ∷ [])
 
 abbrev pub cases : List Case
 cases =
@@ -90,6 +90,6 @@ cases =
     ∷ turned (sheet 4 ((0 — 2) ∷ [])) 0 2 (sheet 4 ((1 — 3) ∷ []))
     ∷ turned (sheet 4 ((1 — 3) ∷ [])) 1 3 (sheet 4 ((0 — 2) ∷ []))
     -- Not document 01's, whose bars are all of parts without a hung piece. Here (1,3) hangs on row 1, downwards and reversed, and (4,6) and (6,9) on row 2D, upwards; the stem is built from the right.
-    ∷ counted hung 2 4 1
-    ∷ barred hung (bar 0 0 12 ∷ bar 1 10 11 ∷ bar 3 9 10 ∷ bar 1 0 9 ∷ bar 4 0 1 ∷ bar 2 1 2 ∷ bar 4 2 5 ∷ bar 2 4 4 ∷ bar 2 5 6 ∷ bar 4 6 13 ∷ bar 0 13 13 ∷ [])
+    ∷ counted manyHung 2 4 1
+    ∷ barred manyHung (bar 0 0 12 ∷ bar 1 10 11 ∷ bar 3 9 10 ∷ bar 1 0 9 ∷ bar 4 0 1 ∷ bar 2 1 2 ∷ bar 4 2 5 ∷ bar 2 4 4 ∷ bar 2 5 6 ∷ bar 4 6 13 ∷ bar 0 13 13 ∷ [])
     ∷ []
