@@ -1,1 +1,2 @@
+-- Read beside document 01.
 pub mod ReadBack

@@ -1,3 +1,4 @@
+-- Read beside document 01.
 pub mod Places
 pub mod Chart
 pub mod Bytes

@@ -1,3 +1,4 @@
+-- For the contracts and the code.
 pub mod Columns
 pub mod Lines
 pub mod Walk

@@ -1,4 +1,6 @@
+-- Read beside document 01.
 pub mod Script
 pub mod Desk
 pub mod Result
+-- For the contracts and the code.
 pub mod Steps

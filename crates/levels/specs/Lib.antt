@@ -1,1 +1,2 @@
+-- For the contracts and the code.
 pub mod Numbered

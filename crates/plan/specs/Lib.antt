@@ -1,2 +1,4 @@
-pub mod Counts
+-- Read beside document 01.
 pub mod Answer
+-- For the contracts and the code.
+pub mod Counts

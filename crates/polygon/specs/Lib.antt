@@ -1,4 +1,6 @@
+-- Read beside document 01.
 pub mod Polygon
-pub mod Order
 pub mod Tree
+-- For the contracts and the code.
+pub mod Order
 pub mod Edges

@@ -1,2 +1,3 @@
+-- For the contracts and the code.
 pub mod Table
 pub mod Outline

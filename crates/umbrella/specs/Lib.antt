@@ -1,8 +1,10 @@
+-- Read beside document 01.
 pub mod Plan
 pub mod Numbers
 pub mod Drawn
-pub mod Best
 pub mod Triangles
 pub mod Rim
 pub mod Border
+-- For the contracts and the code.
+pub mod Best
 pub mod Roles
