@@ -1,5 +1,5 @@
 -- What this crate proves of reading a chart, each theorem with its statement in plain words. The proofs are in the files beside this one.
--- To be read with specs/Reader.antt, specs/Rules.antt, specs/Decode.antt and specs/Charts.antt.
+-- To be read with specs/Reader.antt, specs/Rules.antt, specs/Formed.antt, specs/Charts.antt, and specs/Decode.antt of the crate chart.
 use mathlib.Core.Path.{_≡_, refl, ap}
 use mathlib.Core.Logic.{_↔_}
 use mathlib.Core.List.{List}

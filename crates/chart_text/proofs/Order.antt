@@ -1,5 +1,5 @@
 -- The strokes from left to right have the same members as the chart's strokes, and ascend by where they stand; and since a chart has its strokes ascending, they tell its list of strokes.
--- Rests on the laws of lists and edges in crate polygon.
+-- Rests on the laws of lists (crate lists) and of edges (crate polygon).
 use mathlib.Core.Path.{_≡_}
 use mathlib.Core.Logic.{_⊎_, inl, inr}
 use mathlib.Core.List.{List, [], _∷_, map}

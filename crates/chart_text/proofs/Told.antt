@@ -2,7 +2,7 @@
 -- Rests on reading numbers in decimal (crate log_line).
 use mathlib.Core.Path.{_≡_, refl, ap, ap₂, sym}
 use mathlib.Core.List.{List, [], _∷_, _++_, map, flatMap, append-assoc, append-cancel-left}
-use Prim.Native.Nat.{ℕ, _+_, _<_}
+use Prim.Native.Nat.{ℕ, _<_}
 use native.Mathlib.Omega.{arith}
 use lib.ListN.{drop, getD}
 use Rattle.lists.specs.Lists.{All, all-cons, all-nil, below, choose}

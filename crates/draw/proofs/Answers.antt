@@ -19,7 +19,7 @@ use Rattle.chart.specs.Chart as chart
 use Rattle.chart.specs.Chart.{layout, chartOf}
 use Rattle.chart.specs.Bytes.{bytesOf}
 use Rattle.draw.specs.Answer.{charted, drawn, chartedBoth, drawnWithBars}
-use Rattle.draw.specs.WithBars.{filledBy, BarsFit}
+use Rattle.draw.specs.WithBars.{filledBy, RecordsFit}
 use Rattle.draw.proofs.WithBars.{few-records, both-written, none-written, wrote, enough-records}
 use Rattle.chart.specs.declared.Bar.{Bar}
 use Rattle.chart.specs.Decode.{barOf}
@@ -53,7 +53,7 @@ module _ (p : Polygon) (T : Triangulated (p .n) (p .ds)) (out : List ℕ) (room 
     for-chart a bars l =
         ap (λ (n : ℕ). answeredBoth (Lengths k n) after (map barOf (filledBy (Lengths k n) after bars))) (sym (corners p T)) ∙ both-written (chartOf p) out bars (omega (arith, h, l, corners p T)) after k a
 
-    pub chart-fits : answered (is.Bytes k) after ≡ written (write bytes) out → BarsFit (Lengths k (p .n)) room (length out)
+    pub chart-fits : answered (is.Bytes k) after ≡ written (write bytes) out → RecordsFit (Lengths k (p .n)) room (length out)
     chart-fits a = (h, omega (arith, wrote (chartOf p) out after k a, corners p T))
 
 -- room for any part

@@ -15,7 +15,7 @@ use Rattle.polygon.proofs.Order.{low-of, high-of}
 use Rattle.polygon.proofs.Far.{Far, far-ok, far-is}
 use Rattle.polygon.proofs.TreeTheorem.{root}
 use Rattle.polygon.proofs.Triangle.{ApexWithin, linked-up, links-free}
-use Rattle.polygon.proofs.Piece.{apex}
+use Rattle.polygon.proofs.Apex.{apex}
 
 -- the largest corner that c is joined to from below, c + 1 if there is none above it
 abbrev pub largest : ℕ → List Edge → ℕ → ℕ

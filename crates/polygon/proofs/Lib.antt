@@ -7,7 +7,7 @@ pub mod TreeOf
 pub mod TreeTheorem
 pub mod Edges
 pub mod Triangle
-pub mod Piece
+pub mod Apex
 pub mod PieceTheorem
 pub mod Crossing
 pub mod Scan

@@ -1,4 +1,4 @@
--- Demand 1 is proved, by the law of every operation that writes bytes (crate sheet, proofs/Refusals.antt) and the cases of the other three.
+-- Demand 1 is proved, by the law of every operation that writes bytes (crate codec, proofs/Refusals.antt) and the cases of the other three.
 use mathlib.Core.Path.{_≡_, refl}
 use mathlib.Core.Logic.{_⊎_, inl, inr}
 use mathlib.Core.List.{List, [], _∷_, _++_}

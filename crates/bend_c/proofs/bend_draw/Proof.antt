@@ -6,17 +6,11 @@ use Rattle.draw.proofs.Size.{drawn-size}
 use Rattle.bend_c.proofs.bend_draw.Statement.{statement}
 use Rattle.bend_c.proofs.bend_draw.Tie as tie
 
-draw-requires : tie.Need-draw-requires
-draw-requires c κs = search needs
-
 pack-requires : tie.Need-pack-requires
 pack-requires c κs =
     let at-draw = c .before .before in
     let start = at-draw .before .before .before .before in
     packable (at-draw .draw .result) (at-draw .draw .last .1 .0) (at-draw .draw .ensures) (omega (arith, drawn-size (start .args .sheet .now) (start .args .out .now)))
-
-same-length : tie.Need-same-length
-same-length c = search needs
 
 returns : tie.Need-returns
 returns c =
@@ -24,4 +18,4 @@ returns c =
     packed-left (at-draw .draw .result) (at-draw .draw .last .1 .0) (c .pack .ensures) (at-draw .draw .ensures)
 
 pub bend-draw-spec : {M : Type 1} → statement M
-bend-draw-spec = tie.close (tie.spec draw-requires pack-requires same-length returns)
+bend-draw-spec = tie.close (tie.spec (λ c κs. search needs) pack-requires (λ c. search needs) returns)

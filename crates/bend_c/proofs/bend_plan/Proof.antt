@@ -5,14 +5,8 @@ use Rattle.plan.specs.Answer.{packedPlan}
 use Rattle.bend_c.proofs.bend_plan.Statement.{statement}
 use Rattle.bend_c.proofs.bend_plan.Tie as tie
 
-plan-requires : tie.Need-plan-requires
-plan-requires c κs = search needs
-
-pack-plan-requires : tie.Need-pack-plan-requires
-pack-plan-requires c κs = search needs
-
 returns : tie.Need-returns
 returns c = c .pack-plan .ensures ∙ ap packedPlan (c .before .plan .ensures)
 
 pub bend-plan-spec : {M : Type 1} → statement M
-bend-plan-spec = tie.close (tie.spec plan-requires pack-plan-requires returns)
+bend-plan-spec = tie.close (tie.spec (λ c κs. search needs) (λ c κs. search needs) returns)

@@ -8,9 +8,6 @@ use Rattle.edit_list.proofs.Packing.{result-told, tellable, lent-left}
 use Rattle.bend_c.proofs.bend_run_edits.Statement.{statement}
 use Rattle.bend_c.proofs.bend_run_edits.Tie as tie
 
-run-requires : tie.Need-run-requires
-run-requires c κs = search needs
-
 pack-run-requires : tie.Need-pack-run-requires
 pack-run-requires c κs =
     let at-run = c .before .before .before .before .before .before in
@@ -20,15 +17,6 @@ pack-run-requires c κs =
     tellable (at-run .run .result) (at-run .run .last .1 .1 .0) (at-run .run .last .1 .1 .1 .0) (at-run .run .last .1 .1 .1 .1 .0) (at-run .run .ensures .0)
     (result-told (start .args .first .now) list (start .args .front .now) (start .args .back .now) (start .args .numbers .now) (all-at 0 list (λ i h. omega (arith, at-shared-slice-known2 .shared-slice-known2 .given i))))
 
-same-length : tie.Need-same-length
-same-length c = search needs
-
-same-length-2 : tie.Need-same-length-2
-same-length-2 c = search needs
-
-same-length-3 : tie.Need-same-length-3
-same-length-3 c = search needs
-
 returns : tie.Need-returns
 returns c =
     let at-run = c .before .before .before .before .before .before .before in (
@@ -37,4 +25,5 @@ returns c =
     )
 
 pub bend-run-edits-spec : {M : Type 1} → statement M
-bend-run-edits-spec = tie.close (tie.spec run-requires pack-run-requires same-length same-length-2 same-length-3 returns)
+bend-run-edits-spec = tie.close
+    (tie.spec (λ c κs. search needs) pack-run-requires (λ c. search needs) (λ c. search needs) (λ c. search needs) returns)

@@ -5,19 +5,10 @@ use Rattle.codec.proofs.Answers.{packed-bytes, packed-refused, packed-fits}
 use Rattle.bend_c.proofs.pack.Statement.{statement}
 use Rattle.bend_c.proofs.pack.Tie as tie
 
-enum-known-w : tie.Need-enum-known-w
-enum-known-w c = search needs
-
 mul-result : tie.Need-mul-result
 mul-result c =
     let start = c .before .before .before in
     omega (arith, packed-fits (start .args .w) _ (start .pre) (c .before .w .given .1))
-
-enum-known-w-2 : tie.Need-enum-known-w-2
-enum-known-w-2 c = search needs
-
-cast-result : tie.Need-cast-result
-cast-result c = search needs
 
 returns : tie.Need-returns
 returns c = packed-bytes (c .before .before .before .args .w) _ (c .before .w .given .1)
@@ -26,4 +17,4 @@ returns-2 : tie.Need-returns-2
 returns-2 c = packed-refused (c .before .before .before .args .w) _ (c .before .w2 .given .1)
 
 pub pack-spec : {M : Type 1} → statement M
-pack-spec = tie.close (tie.spec enum-known-w mul-result enum-known-w-2 cast-result returns returns-2)
+pack-spec = tie.close (tie.spec (λ c. search needs) mul-result (λ c. search needs) (λ c. search needs) returns returns-2)

@@ -10,9 +10,6 @@ use Rattle.edit.proofs.Size.{edited-size}
 use Rattle.bend_c.proofs.pack_edit.Statement.{statement}
 use Rattle.bend_c.proofs.pack_edit.Tie as tie
 
-edit-requires : tie.Need-edit-requires
-edit-requires c κs = search needs
-
 pack-requires : tie.Need-pack-requires
 pack-requires c κs =
     let at-edit = c .before .before in
@@ -21,13 +18,10 @@ pack-requires c κs =
     let bytes : All (λ b. b < 256) (start .args .sheet .now) = all-at 0 (start .args .sheet .now) (λ i h. omega (arith, at-shared-slice-known .shared-slice-known .given i)) in
     packable (at-edit .edit .result) (at-edit .edit .last .1 .1 .0) (at-edit .edit .ensures) (omega (arith, edited-size (editOf (start .args .e)) (start .args .sheet .now) (start .args .out .now) bytes))
 
-same-length : tie.Need-same-length
-same-length c = search needs
-
 returns : tie.Need-returns
 returns c =
     let at-edit = c .before .before .before in
     packed-left (at-edit .edit .result) (at-edit .edit .last .1 .1 .0) (c .pack .ensures) (at-edit .edit .ensures)
 
 pub pack-edit-spec : {M : Type 1} → statement M
-pack-edit-spec = tie.close (tie.spec edit-requires pack-requires same-length returns)
+pack-edit-spec = tie.close (tie.spec (λ c κs. search needs) pack-requires (λ c. search needs) returns)

@@ -5,9 +5,6 @@ use Rattle.edit_list.proofs.Packing.{told-fits, packed-first, packed-buffer, pa
 use Rattle.bend_c.proofs.pack_run.Statement.{statement}
 use Rattle.bend_c.proofs.pack_run.Tie as tie
 
-enum-known-r : tie.Need-enum-known-r
-enum-known-r c = search needs
-
 returns : tie.Need-returns
 returns c =
     let at-r = c .before .before in
@@ -32,12 +29,6 @@ add-result c =
     let start = at-r .before .before in
     omega (arith, told-fits (start .args .r) _ _ (start .pre) (at-r .r .given .1) .0, told-fits (start .args .r) _ _ (start .pre) (at-r .r .given .1) .1 (c .if1 .left))
 
-enum-known-r-2 : tie.Need-enum-known-r-2
-enum-known-r-2 c = search needs
-
-cast-result : tie.Need-cast-result
-cast-result c = search needs
-
 returns-2 : tie.Need-returns-2
 returns-2 c =
     let at-r = c .before .before in
@@ -48,4 +39,5 @@ returns-3 : tie.Need-returns-3
 returns-3 c = packed-no-run (c .before .before .before .args .r) _ (c .before .r2 .given .1)
 
 pub pack-run-spec : {M : Type 1} → statement M
-pack-run-spec = tie.close (tie.spec enum-known-r returns mul-result mul-result-2 add-result enum-known-r-2 cast-result returns-2 returns-3)
+pack-run-spec = tie.close
+    (tie.spec (λ c. search needs) returns mul-result mul-result-2 add-result (λ c. search needs) (λ c. search needs) returns-2 returns-3)

@@ -8,18 +8,6 @@ use Rattle.chart_writer.proofs.Writing.{uprights-keyed, chart-short, ch
 use Rattle.chart_writer.proofs.write_chart.Statement.{statement}
 use Rattle.chart_writer.proofs.write_chart.Tie as tie
 
-cast-left : tie.Need-cast-left
-cast-left c = search needs
-
-slice-aggregate-spans : tie.Need-slice-aggregate-spans
-slice-aggregate-spans c = search needs
-
-slice-aggregate-spans-2 : tie.Need-slice-aggregate-spans-2
-slice-aggregate-spans-2 c = search needs
-
-slice-aggregate-spans-3 : tie.Need-slice-aggregate-spans-3
-slice-aggregate-spans-3 c = search needs
-
 spans-requires : tie.Need-spans-requires
 spans-requires c κs =
     let start = c .before .before .before .before .before .before .before in
@@ -35,27 +23,6 @@ spans-requires c κs =
       ),
     )
 
-mul-m : tie.Need-mul-m
-mul-m c = search needs
-
-sub-m : tie.Need-sub-m
-sub-m c = search needs
-
-mul-from : tie.Need-mul-from
-mul-from c = search needs
-
-add-from : tie.Need-add-from
-add-from c = search needs
-
-slice-aggregate-strokes-size : tie.Need-slice-aggregate-strokes-size
-slice-aggregate-strokes-size c = search needs
-
-strokes-size-requires : tie.Need-strokes-size-requires
-strokes-size-requires c κs = search needs
-
-add-size : tie.Need-add-size
-add-size c = search needs
-
 returns : tie.Need-returns
 returns c =
     let at-size = c .before in
@@ -63,27 +30,6 @@ returns c =
     let start = at-spans .before .before .before .before .before .before .before .before in
     λ D rs us es L. chart-short (start .args .n) (start .args .height) (start .args .tree .now) (start .args .columns .now) (start .args .rows .now) (start .pre .0) (start .pre .1 .0) (start .pre .1 .1)
     (at-spans .spans .last .1 .1 .1 .1 .1 .0) (start .args .out .now) (at-spans .spans .ensures .1) (at-size .strokes-size .result) (at-size .strokes-size .ensures .0 (start .args .tree .now)) L (c .if1 .taken)
-
-put16-requires : tie.Need-put16-requires
-put16-requires c κs = search needs
-
-put16-requires-2 : tie.Need-put16-requires-2
-put16-requires-2 c κs = search needs
-
-put16-requires-3 : tie.Need-put16-requires-3
-put16-requires-3 c κs = search needs
-
-slice-aggregate-put-bars : tie.Need-slice-aggregate-put-bars
-slice-aggregate-put-bars c = search needs
-
-slice-aggregate-put-bars-2 : tie.Need-slice-aggregate-put-bars-2
-slice-aggregate-put-bars-2 c = search needs
-
-put-bars-requires : tie.Need-put-bars-requires
-put-bars-requires c κs = search needs
-
-slice-aggregate-put-strokes : tie.Need-slice-aggregate-put-strokes
-slice-aggregate-put-strokes c = search needs
 
 put-strokes-requires : tie.Need-put-strokes-requires
 put-strokes-requires c κs =
@@ -102,9 +48,6 @@ put-strokes-requires c κs =
       ),
     )
 
-same-length : tie.Need-same-length
-same-length c = search needs
-
 returns-2 : tie.Need-returns-2
 returns-2 c =
     let at-put-bars = c .before .before .before .before .before .before .before in
@@ -121,4 +64,8 @@ returns-2 c =
     (c .before .before .put-strokes .ensures ∙ rw (at-put-bars .put-bars .ensures, at-put163 .put163 .ensures, at-put162 .put162 .ensures, at-put16 .put16 .ensures))
 
 pub write-chart-spec : {M : Type 1} → statement M
-write-chart-spec = tie.close (tie.spec cast-left slice-aggregate-spans slice-aggregate-spans-2 slice-aggregate-spans-3 spans-requires mul-m sub-m mul-from add-from slice-aggregate-strokes-size strokes-size-requires add-size returns put16-requires put16-requires-2 put16-requires-3 slice-aggregate-put-bars slice-aggregate-put-bars-2 put-bars-requires slice-aggregate-put-strokes put-strokes-requires same-length returns-2)
+write-chart-spec = tie.close
+    (tie.spec (λ c. search needs) (λ c. search needs) (λ c. search needs) (λ c. search needs) spans-requires (λ c. search needs) (λ c. search needs)
+    (λ c. search needs) (λ c. search needs) (λ c. search needs) (λ c κs. search needs) (λ c. search needs) returns (λ c κs. search needs)
+    (λ c κs. search needs) (λ c κs. search needs) (λ c. search needs) (λ c. search needs) (λ c κs. search needs) (λ c. search needs)
+    put-strokes-requires (λ c. search needs) returns-2)

@@ -8,27 +8,12 @@ use Rattle.draw.proofs.Answers.{without-bars}
 use Rattle.draw.proofs.draw.Statement.{statement}
 use Rattle.draw.proofs.draw.Tie as tie
 
-draw-for-requires : tie.Need-draw-for-requires
-draw-for-requires c κs = search needs
-
-enum-known-k : tie.Need-enum-known-k
-enum-known-k c = search needs
-
-enum-known-size : tie.Need-enum-known-size
-enum-known-size c = search needs
-
-same-length : tie.Need-same-length
-same-length c = search needs
-
 returns : tie.Need-returns
 unfolding drawnWithBars
 returns c =
     let at-draw-for = c .before .before .before .before .before in
     let start = at-draw-for .before .before .before .before in
     without-bars (start .args .sheet .now) (start .args .out .now) (at-draw-for .draw-for .last .1 .0) (at-draw-for .draw-for .result) (at-draw-for .draw-for .ensures .0) _ (λ bars. ap (λ (d : BothWritten). answeredBoth d (at-draw-for .draw-for .last .1 .0) bars .answer) (c .before .k .given .1))
-
-same-length-2 : tie.Need-same-length-2
-same-length-2 c = search needs
 
 returns-2 : tie.Need-returns-2
 unfolding drawnWithBars
@@ -38,4 +23,5 @@ returns-2 c =
     without-bars (start .args .sheet .now) (start .args .out .now) (at-draw-for .draw-for .last .1 .0) (at-draw-for .draw-for .result) (at-draw-for .draw-for .ensures .0) _ (λ bars. ap (λ (d : BothWritten). answeredBoth d (at-draw-for .draw-for .last .1 .0) bars .answer) (c .before .size .given .1))
 
 pub draw-spec : {M : Type 1} → statement M
-draw-spec = tie.close (tie.spec draw-for-requires enum-known-k enum-known-size same-length returns same-length-2 returns-2)
+draw-spec = tie.close
+    (tie.spec (λ c κs. search needs) (λ c. search needs) (λ c. search needs) (λ c. search needs) returns (λ c. search needs) returns-2)

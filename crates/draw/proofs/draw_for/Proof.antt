@@ -33,25 +33,10 @@ whole : (c : tie.After-h) (bars : List Bar) → writtenBoth (chartedBoth (held (
 unfolding drawnWithBars
 whole c bars = read-is (λ (q : Reading). writtenBoth (chartedBoth q) (start c .args .out .now) (map barOf bars)) (c .before .before .before .read-sheet .ensures) (c .h .given .1)
 
-slice-aggregate-read-sheet : tie.Need-slice-aggregate-read-sheet
-slice-aggregate-read-sheet c = search needs
-
-read-sheet-requires : tie.Need-read-sheet-requires
-read-sheet-requires c κs = search needs
-
-enum-known-k : tie.Need-enum-known-k
-enum-known-k c = search needs
-
-enum-known-h : tie.Need-enum-known-h
-enum-known-h c = search needs
-
 returns : tie.Need-returns
 returns c =
     let at-h = c .before .before in
     (λ bars l. for-few (held-part at-h) (part at-h .valid .triangulated) (start at-h .args .out .now) (start at-h .args .room) (c .if1 .taken) bars l ∙ whole at-h bars, tt)
-
-slice-aggregate-draw-part : tie.Need-slice-aggregate-draw-part
-slice-aggregate-draw-part c = search needs
 
 draw-part-requires : tie.Need-draw-part-requires
 draw-part-requires c κs = part (c .before .before .before .before)
@@ -60,18 +45,9 @@ draw-part-requires c κs = part (c .before .before .before .before)
 drew : (c : tie.After-draw-part) (w : Written) → c .draw-part .result ≡ w → answered w (c .draw-part .last .1 .1 .0) ≡ written (write (bytesOf (chartOf (held-part (c .before .before .before .before .before))))) (start (c .before .before .before .before .before) .args .out .now)
 drew c w e = ap (λ (v : Written). answered v (c .draw-part .last .1 .1 .0)) (sym e) ∙ c .draw-part .ensures
 
-enum-known-k-2 : tie.Need-enum-known-k-2
-enum-known-k-2 c = search needs
-
-enum-known-size : tie.Need-enum-known-size
-enum-known-size c = search needs
-
 returns-2 : tie.Need-returns-2
 unfolding drawnWithBars chartedBoth writtenBoth
 returns-2 c = (λ bars l. read-is (λ (q : Reading). writtenBoth (chartedBoth q) (c .before .before .before .before .before .before .before .before .args .out .now) (map barOf bars)) (c .before .before .before .before .read-sheet .ensures) (c .before .k .given .1), tt)
-
-same-length : tie.Need-same-length
-same-length c = search needs
 
 returns-3 : tie.Need-returns-3
 returns-3 c =
@@ -80,9 +56,6 @@ returns-3 c =
     let s = start at-h .args in
     let law = for-none (held-part at-h) (part at-h .valid .triangulated) (s .out .now) (s .room) (c .before .before .before .before .before .before .before .before .if1 .left) (at-draw .draw-part .last .1 .1 .0) (c .before .k2 .given .0 .0) in
     (λ bars l. law (drew at-draw _ (c .before .k2 .given .1)) bars l ∙ whole at-h bars, tt)
-
-same-length-2 : tie.Need-same-length-2
-same-length-2 c = search needs
 
 returns-4 : tie.Need-returns-4
 returns-4 c =
@@ -98,4 +71,6 @@ returns-4 c =
     )
 
 pub draw-for-spec : {M : Type 1} → statement M
-draw-for-spec = tie.close (tie.spec slice-aggregate-read-sheet read-sheet-requires enum-known-k enum-known-h returns slice-aggregate-draw-part draw-part-requires enum-known-k-2 enum-known-size returns-2 same-length returns-3 same-length-2 returns-4)
+draw-for-spec = tie.close
+    (tie.spec (λ c. search needs) (λ c κs. search needs) (λ c. search needs) (λ c. search needs) returns (λ c. search needs) draw-part-requires
+    (λ c. search needs) (λ c. search needs) returns-2 (λ c. search needs) returns-3 (λ c. search needs) returns-4)

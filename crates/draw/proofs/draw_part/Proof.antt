@@ -9,9 +9,6 @@ use Rattle.chart.specs.Chart.{chartOf}
 use Rattle.draw.proofs.draw_part.Statement.{statement}
 use Rattle.draw.proofs.draw_part.Tie as tie
 
-sub-m : tie.Need-sub-m
-sub-m c = search needs
-
 slice-aggregate-fill : tie.Need-slice-aggregate-fill
 slice-aggregate-fill c = sym (keys-count (c .before .before .before .before .pre))
 
@@ -20,15 +17,9 @@ fill-requires c κs =
     let P = c .before .before .before .before .before .before .pre .valid in
     ((P .triangulated, P .most), ((length-replicate {A = ℕ} 3072 0, length-replicate {A = ℕ} 12270 0), (blank 3072, blank 12270)))
 
-write-part-requires : tie.Need-write-part-requires
-write-part-requires c κs = search needs
-
-same-length : tie.Need-same-length
-same-length c = search needs
-
 returns : tie.Need-returns
 unfolding chartOf
 returns c = c .before .before .write-part .ensures _ (c .before .before .before .before .before .before .fill .ensures) .answer
 
 pub draw-part-spec : {M : Type 1} → statement M
-draw-part-spec = tie.close (tie.spec sub-m slice-aggregate-fill fill-requires write-part-requires same-length returns)
+draw-part-spec = tie.close (tie.spec (λ c. search needs) slice-aggregate-fill fill-requires (λ c κs. search needs) (λ c. search needs) returns)

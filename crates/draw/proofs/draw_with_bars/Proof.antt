@@ -48,7 +48,7 @@ use Rattle.codec.specs.declared.BothWritten.the-variants.{Lengths, Refused}
 use Rattle.codec.specs.TwoOutputs.{answeredBoth}
 use Rattle.bar_list.specs.Bars.{filled}
 use Rattle.draw.specs.Answer.{drawnWithBars}
-use Rattle.draw.specs.WithBars.{filledBy, BarsFit}
+use Rattle.draw.specs.WithBars.{filledBy, RecordsFit}
 use Rattle.bar_list.proofs.Filled.{filled-len}
 use Rattle.codec.proofs.BothWritten as D
 use Rattle.codec.proofs.BothWritten.Laws as D′
@@ -103,7 +103,7 @@ abbrev val : BothWritten → Val
 val = EL.val D.the-type D′.the-laws
 
 -- the bars are as many as they were, after either answer
-after-len : (d : BothWritten) (s : List ℕ) (ys : List Bar) (m : ℕ) → BarsFit d (length ys) m → length (filledBy d s ys) ≡ length ys
+after-len : (d : BothWritten) (s : List ℕ) (ys : List Bar) (m : ℕ) → RecordsFit d (length ys) m → length (filledBy d s ys) ≡ length ys
 after-len (Lengths k n) s ys m f = filled-len s n ys (f .0)
 after-len (Refused k) s ys m f = refl
 
@@ -156,7 +156,7 @@ module _ {M : Type 1} (𝓤 : URA M) (H : Heap 𝓤) (A : Atoms 𝓤) (W : Given
   Answers d zs = (bars : List Bar) → length bars ≡ length ys → answeredBoth d zs (map barOf (filledBy d zs bars)) ≡ drawnWithBars (c .now) outs (map barOf bars)
 
   abbrev Known : BothWritten → List ℕ → Type 0
-  Known d zs = Answers d zs × BarsFit d (length ys) (length outs) × (length zs ≡ length outs) × Is D.the-row d (val d ∷ [])
+  Known d zs = Answers d zs × RecordsFit d (length ys) (length outs) × (length zs ≡ length outs) × Is D.the-row d (val d ∷ [])
 
   -- what is had after the call, before a context: of the bars F, and at the end their last list
   abbrev Had : BothWritten → List ℕ → Fml → List (Item 𝓤) → List (Item 𝓤)
@@ -290,8 +290,8 @@ module _ {M : Type 1} (𝓤 : URA M) (H : Heap 𝓤) (A : Atoms 𝓤) (W : Given
         ⊛ raw (ensured 𝓤 H A draw-for.ended (draw-for.clauses 𝓤 H A mem run) (κ₀, (ν ∷ [], tt)) (c, (y δ outs, (length ys, tt))) tt r)))) (id⊢ 𝓤 _) $ await ! tt $ pick ! (λ d.
         -- what `draw_for` ensures, at some last list of out: two clauses, under ∗
         split ! $ move ! (1 ∷ []) $ use1 W (some (λ (ws : Unit {0} × (List ℕ × (Unit {0} × Unit {0}))). ‵ (lasts draw-for.ended (κ₀, (ν ∷ [], tt)) (c, (y δ outs, (length ys, tt))) ws)
-        ⊛ raw (fact 𝓤 (Answers d (ws .1 .0))) ⊛ raw (fact 𝓤 (BarsFit d (length ys) (length outs))))) (id⊢ 𝓤 _) $ pick ! (λ ws.
-        split ! $ move ! (1 ∷ []) $ split ! $ heard ! (Answers d (ws .1 .0)) (λ e₀. heard ! (BarsFit d (length ys) (length outs)) (λ e₁.
+        ⊛ raw (fact 𝓤 (Answers d (ws .1 .0))) ⊛ raw (fact 𝓤 (RecordsFit d (length ys) (length outs))))) (id⊢ 𝓤 _) $ pick ! (λ ws.
+        split ! $ move ! (1 ∷ []) $ split ! $ heard ! (Answers d (ws .1 .0)) (λ e₀. heard ! (RecordsFit d (length ys) (length outs)) (λ e₁.
         fsplit ! $ drop ! $ fsplit ! $ fsplit ! $ move ! (1 ∷ []) $ feqL ! (λ l.
         -- [out's last list; true; the tokens and the answer; what is kept of out; κ₂'s; bars; true; sheet; _13; …]
         move ! (2 ∷ []) $ split ! $ move ! (1 ∷ []) $ peeks ! D.the-row (Is D.the-row) (shows 𝓤 H A D.the-row) d (w ∷ []) (λ is.

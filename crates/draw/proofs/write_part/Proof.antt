@@ -9,9 +9,6 @@ use borrow.Author.Needs.{needs}
 use Rattle.draw.proofs.write_part.Statement.{statement}
 use Rattle.draw.proofs.write_part.Tie as tie
 
-place-requires : tie.Need-place-requires
-place-requires c κs = search needs
-
 array-share-prefix-columns : tie.Need-array-share-prefix-columns
 array-share-prefix-columns c =
     let (least, (t, F)) = c .before .before .before .before .before .pre in
@@ -30,9 +27,6 @@ write-chart-requires c κs =
     let P = c .before .before .before .before .place .ensures t F in
     (placed-asks F least P, (placed-edges F least P, placed-among F least P))
 
-same-length : tie.Need-same-length
-same-length c = search needs
-
 returns : tie.Need-returns
 returns c t F =
     let start = c .before .before .before .before .before .before .before .before .before .before .before in
@@ -45,4 +39,6 @@ returns c t F =
     }
 
 pub write-part-spec : {M : Type 1} → statement M
-write-part-spec = tie.close (tie.spec place-requires array-share-prefix-columns slice-aggregate-write-chart slice-aggregate-write-chart-2 write-chart-requires same-length returns)
+write-part-spec = tie.close
+    (tie.spec (λ c κs. search needs) array-share-prefix-columns slice-aggregate-write-chart slice-aggregate-write-chart-2 write-chart-requires
+    (λ c. search needs) returns)

@@ -11,32 +11,8 @@ use Rattle.edit.specs.Tables.{editOf}
 use Rattle.edit.proofs.edit.Statement.{statement}
 use Rattle.edit.proofs.edit.Tie as tie
 
-slice-aggregate-read-sheet : tie.Need-slice-aggregate-read-sheet
-slice-aggregate-read-sheet c = search needs
-
-read-sheet-requires : tie.Need-read-sheet-requires
-read-sheet-requires c κs = search needs
-
-enum-known-k : tie.Need-enum-known-k
-enum-known-k c = search needs
-
-enum-known-h : tie.Need-enum-known-h
-enum-known-h c = search needs
-
-slice-aggregate-edit-part : tie.Need-slice-aggregate-edit-part
-slice-aggregate-edit-part c = search needs
-
 edit-part-requires : tie.Need-edit-part-requires
 edit-part-requires c κs = in-hand (c .before .before .before .before .before .read-sheet .ensures) (c .before .before .h .given .1)
-
-enum-known-k-2 : tie.Need-enum-known-k-2
-enum-known-k-2 c = search needs
-
-enum-known-g : tie.Need-enum-known-g
-enum-known-g c = search needs
-
-slice-aggregate-write-sheet : tie.Need-slice-aggregate-write-sheet
-slice-aggregate-write-sheet c = search needs
 
 write-sheet-requires : tie.Need-write-sheet-requires
 write-sheet-requires c κs = in-hand (c .before .before .before .before .before .before .edit-part .ensures) (c .before .before .before .g .given .1)
@@ -59,9 +35,6 @@ returns-2 : tie.Need-returns-2
 unfolding edited outcome written
 returns-2 c = read-is (λ (q : Reading). written (outcome q) (start (c .before .before .before .before) .args .out .now)) (after (c .before .before .before .before)) (c .before .k2 .given .1)
 
-same-length : tie.Need-same-length
-same-length c = search needs
-
 returns-3 : tie.Need-returns-3
 unfolding edited outcome
 returns-3 c =
@@ -69,4 +42,6 @@ returns-3 c =
     c .before .before .write-sheet .ensures ∙ read-is (λ (q : Reading). written (outcome q) (start at-edit-part .args .out .now)) (after at-edit-part) (c .before .before .before .before .before .before .g .given .1)
 
 pub edit-spec : {M : Type 1} → statement M
-edit-spec = tie.close (tie.spec slice-aggregate-read-sheet read-sheet-requires enum-known-k enum-known-h slice-aggregate-edit-part edit-part-requires enum-known-k-2 enum-known-g slice-aggregate-write-sheet write-sheet-requires returns returns-2 same-length returns-3)
+edit-spec = tie.close
+    (tie.spec (λ c. search needs) (λ c κs. search needs) (λ c. search needs) (λ c. search needs) (λ c. search needs) edit-part-requires
+    (λ c. search needs) (λ c. search needs) (λ c. search needs) write-sheet-requires returns returns-2 (λ c. search needs) returns-3)

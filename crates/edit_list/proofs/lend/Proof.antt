@@ -7,17 +7,8 @@ use Rattle.edit_list.proofs.Desks.{lent-first, lent-front, lent-back}
 use Rattle.edit_list.proofs.lend.Statement.{statement}
 use Rattle.edit_list.proofs.lend.Tie as tie
 
-slice-relend-prefix-edit : tie.Need-slice-relend-prefix-edit
-slice-relend-prefix-edit c = search needs
-
 slice-aggregate-edit : tie.Need-slice-aggregate-edit
 slice-aggregate-edit c = sym (length-take-le _ (c .before .before .before .before .before .args .front .now) (c .before .before .before .before .before .pre .1 .0))
-
-edit-requires : tie.Need-edit-requires
-edit-requires c κs = search needs
-
-same-length : tie.Need-same-length
-same-length c = search needs
 
 returns : tie.Need-returns
 returns c =
@@ -34,20 +25,8 @@ slice-reshare-prefix-edit c = c .before .before .before .before .before .pre .0 
 slice-aggregate-edit-2 : tie.Need-slice-aggregate-edit-2
 slice-aggregate-edit-2 c = sym (length-take-le _ (c .before .before .before .before .before .before .args .front .now) (c .before .before .before .before .before .before .pre .0 (c .before .before .if1 .left) .0))
 
-slice-relend-prefix-edit-2 : tie.Need-slice-relend-prefix-edit-2
-slice-relend-prefix-edit-2 c = search needs
-
 slice-aggregate-edit-3 : tie.Need-slice-aggregate-edit-3
 slice-aggregate-edit-3 c = sym (length-take-le _ (c .before .before .before .before .before .before .before .args .back .now) (c .before .before .before .before .before .before .before .pre .1 .1))
-
-edit-requires-2 : tie.Need-edit-requires-2
-edit-requires-2 c κs = search needs
-
-same-length-2 : tie.Need-same-length-2
-same-length-2 c = search needs
-
-same-length-3 : tie.Need-same-length-3
-same-length-3 c = search needs
 
 returns-2 : tie.Need-returns-2
 returns-2 c =
@@ -64,20 +43,8 @@ slice-reshare-prefix-edit-2 c = c .before .before .before .before .before .pre .
 slice-aggregate-edit-4 : tie.Need-slice-aggregate-edit-4
 slice-aggregate-edit-4 c = sym (length-take-le _ (c .before .before .before .before .before .before .args .back .now) (c .before .before .before .before .before .before .pre .0 (c .before .before .if1 .left) .1))
 
-slice-relend-prefix-edit-3 : tie.Need-slice-relend-prefix-edit-3
-slice-relend-prefix-edit-3 c = search needs
-
 slice-aggregate-edit-5 : tie.Need-slice-aggregate-edit-5
 slice-aggregate-edit-5 c = sym (length-take-le _ (c .before .before .before .before .before .before .before .args .front .now) (c .before .before .before .before .before .before .before .pre .1 .0))
-
-edit-requires-3 : tie.Need-edit-requires-3
-edit-requires-3 c κs = search needs
-
-same-length-4 : tie.Need-same-length-4
-same-length-4 c = search needs
-
-same-length-5 : tie.Need-same-length-5
-same-length-5 c = search needs
 
 returns-3 : tie.Need-returns-3
 returns-3 c =
@@ -90,7 +57,8 @@ returns-3 c =
     (at-if2 .if2 .left) (at-edit3 .edit3 .ensures)
 
 pub lend-spec : {M : Type 1} → statement M
-lend-spec =
-    tie.close (tie.spec slice-relend-prefix-edit slice-aggregate-edit edit-requires same-length returns slice-reshare-prefix-edit slice-aggregate-edit-2
-    slice-relend-prefix-edit-2 slice-aggregate-edit-3 edit-requires-2 same-length-2 same-length-3 returns-2 slice-reshare-prefix-edit-2 slice-aggregate-edit-4
-    slice-relend-prefix-edit-3 slice-aggregate-edit-5 edit-requires-3 same-length-4 same-length-5 returns-3)
+lend-spec = tie.close
+    (tie.spec (λ c. search needs) slice-aggregate-edit (λ c κs. search needs) (λ c. search needs) returns slice-reshare-prefix-edit
+    slice-aggregate-edit-2 (λ c. search needs) slice-aggregate-edit-3 (λ c κs. search needs) (λ c. search needs) (λ c. search needs) returns-2
+    slice-reshare-prefix-edit-2 slice-aggregate-edit-4 (λ c. search needs) slice-aggregate-edit-5 (λ c κs. search needs) (λ c. search needs)
+    (λ c. search needs) returns-3)

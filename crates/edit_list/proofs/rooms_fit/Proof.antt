@@ -17,27 +17,12 @@ abbrev μ-loop : tie.MeasureT-loop
 loop-holds : tie.Need-loop-holds Inv-loop μ-loop
 loop-holds c = (omega arith, λ j h. absurd (omega arith))
 
-mul-get32 : tie.Need-mul-get32 Inv-loop μ-loop
-mul-get32 c = omega arith
-
-add-get32 : tie.Need-add-get32 Inv-loop μ-loop
-add-get32 c = omega arith
-
-get32-requires : tie.Need-get32-requires Inv-loop μ-loop
-get32-requires c κs = omega arith
-
 returns : tie.Need-returns Inv-loop μ-loop
 returns c = (λ h. absurd (false≢true h), λ h a. absurd (omega (arith, c .if1 .taken, c .before .get32 .ensures .0, below-at a (c .before .before .before .loop .i) (c .before .before .loop-test .taken))))
 
 returns-2 : tie.Need-returns-2 Inv-loop μ-loop
 returns-2 c =
     (λ h. absurd (false≢true h), λ h a. absurd (omega (arith, c .if2 .taken, c .before .before .get32 .ensures .0, below-at a (c .before .before .before .before .loop .i) (c .before .before .before .loop-test .taken))))
-
-add-i : tie.Need-add-i Inv-loop μ-loop
-add-i c = omega arith
-
-loop-less : tie.Need-loop-less Inv-loop μ-loop
-loop-less c = omega arith
 
 loop-again : tie.Need-loop-again Inv-loop μ-loop
 loop-again c = (omega arith, below-more _ _ (c .before .before .before .before .loop .inv .1) (omega (arith, c .before .if1 .left, c .before .before .get32 .ensures .0), omega (arith, c .if2 .left, c .before .before .get32 .ensures .0)))
@@ -46,4 +31,6 @@ returns-3 : tie.Need-returns-3 Inv-loop μ-loop
 returns-3 c = (λ h. below-all (count (c .before .before .before .args .list .now)) (λ j l. c .before .loop .inv .1 j (omega arith)), λ h. absurd (true≢false h))
 
 pub rooms-fit-spec : {M : Type 1} → statement M
-rooms-fit-spec = tie.close (tie.spec Inv-loop μ-loop loop-holds mul-get32 add-get32 get32-requires returns returns-2 add-i loop-less loop-again returns-3)
+rooms-fit-spec = tie.close
+    (tie.spec Inv-loop μ-loop loop-holds (λ c. omega arith) (λ c. omega arith) (λ c κs. omega arith) returns returns-2 (λ c. omega arith)
+    (λ c. omega arith) loop-again returns-3)

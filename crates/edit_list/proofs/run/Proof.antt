@@ -22,23 +22,14 @@ refused-by s = let a = s .args in result-refused (a .first .now) (a .list .now) 
 returns : tie.Need-returns
 returns c = (refused-by (c .before .before .before .before .before .before) 32 (fault-length _ _ _ _ (c .if1 .taken)) (omega arith), λ p e z. absurd (omega arith))
 
-kinds-known-requires : tie.Need-kinds-known-requires
-kinds-known-requires c κs = search needs
-
 returns-2 : tie.Need-returns-2
 returns-2 c = (refused-by (c .before .before .before .before .before .before .before .before) 33 (fault-kind _ _ _ _ (omega arith) (c .before .kinds-known .ensures .1 (not-true _ (c .if2 .taken)))) (omega arith), λ p e z. absurd (omega arith))
 
 known : (c : tie.Else2) → Kinds (c .before .before .before .before .before .before .before .before .args .list .now)
 known c = c .before .kinds-known .ensures .0 (not-false _ (c .if2 .left))
 
-mul-if3 : tie.Need-mul-if3
-mul-if3 c = search needs
-
 returns-3 : tie.Need-returns-3
 returns-3 c = (refused-by (c .before .before .before .before .before .before .before .before .before) 34 (fault-short _ _ _ _ (omega arith) (known (c .before)) (c .if3 .taken)) (omega arith), λ p e z. absurd (omega arith))
-
-rooms-fit-requires : tie.Need-rooms-fit-requires
-rooms-fit-requires c κs = search needs
 
 returns-4 : tie.Need-returns-4
 returns-4 c =
@@ -47,15 +38,6 @@ returns-4 c =
 
 run-all-requires : tie.Need-run-all-requires
 run-all-requires c κs = ((c .before .before .before .before .rooms-fit .ensures .0 (not-false _ (c .before .before .before .if4 .left))), omega arith)
-
-same-length : tie.Need-same-length
-same-length c = search needs
-
-same-length-2 : tie.Need-same-length-2
-same-length-2 c = search needs
-
-same-length-3 : tie.Need-same-length-3
-same-length-3 c = search needs
 
 returns-5 : tie.Need-returns-5
 returns-5 c =
@@ -71,4 +53,6 @@ returns-5 c =
     (q, ran-model (a .first .now) (a .list .now) (a .front .now) (a .back .now) (a .numbers .now) _ q (all-at 0 (a .first .now) (λ i h. omega (arith, at-shared-slice-known .shared-slice-known .given i))))
 
 pub run-spec : {M : Type 1} → statement M
-run-spec = tie.close (tie.spec returns kinds-known-requires returns-2 mul-if3 returns-3 rooms-fit-requires returns-4 run-all-requires same-length same-length-2 same-length-3 returns-5)
+run-spec = tie.close
+    (tie.spec returns (λ c κs. search needs) returns-2 (λ c. search needs) returns-3 (λ c κs. search needs) returns-4 run-all-requires
+    (λ c. search needs) (λ c. search needs) (λ c. search needs) returns-5)

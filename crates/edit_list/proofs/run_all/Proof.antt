@@ -28,19 +28,10 @@ step-requires c κs =
     let more = at-loop-test .loop-test .taken in
     (more, (l .inv .sound .lies, edit-spacious (a .first .now) (a .list .now) (a .front .now) (a .back .now) (a .numbers .now) (start .pre .0) (deskOf (l .place) (l .size) (l .front) (l .back)) (l .numbers) (l .i) (l .inv) more))
 
-mul-put16 : tie.Need-mul-put16 Inv-loop μ-loop
-mul-put16 c = omega arith
-
 put16-requires : tie.Need-put16-requires Inv-loop μ-loop
 put16-requires c κs =
     let at-loop-test = c .before .before .before .before .before .before .before .before in
     (omega (arith, at-loop-test .before .loop .inv .outs-length, at-loop-test .before .before .before .before .before .before .before .pre .1, at-loop-test .loop-test .taken), omega (arith, c .before .before .before .before .before .step .ensures .number-fits))
-
-add-i : tie.Need-add-i Inv-loop μ-loop
-add-i c = omega arith
-
-loop-less : tie.Need-loop-less Inv-loop μ-loop
-loop-less c = omega arith
 
 loop-again : tie.Need-loop-again Inv-loop μ-loop
 loop-again c =
@@ -81,4 +72,6 @@ returns c =
     )
 
 pub run-all-spec : {M : Type 1} → statement M
-run-all-spec = tie.close (tie.spec Inv-loop μ-loop loop-holds step-requires mul-put16 put16-requires add-i loop-less loop-again same-length same-length-2 same-length-3 returns)
+run-all-spec = tie.close
+    (tie.spec Inv-loop μ-loop loop-holds step-requires (λ c. omega arith) put16-requires (λ c. omega arith) (λ c. omega arith) loop-again same-length
+    same-length-2 same-length-3 returns)

@@ -18,36 +18,6 @@ desk c = deskOf (start c .args .place) (start c .args .size) (start c .args .fro
 lent : (c : tie.After-lend) → Lent (start c .args .first .now) (desk c) (editAt (start c .args .list .now) (start c .args .i)) (c .lend .result) (c .lend .last .1 .0) (c .lend .last .1 .1 .0)
 lent c = rw (edit-read (start c .args .list .now) (start c .args .i) (c .before .before .before .before .edit-at .ensures) (c .before .before .before .get32 .ensures .0)) at (c .lend .ensures)
 
-edit-at-requires : tie.Need-edit-at-requires
-edit-at-requires c κs = search needs
-
-mul-get32 : tie.Need-mul-get32
-mul-get32 c = search needs
-
-add-get32 : tie.Need-add-get32
-add-get32 c = search needs
-
-get32-requires : tie.Need-get32-requires
-get32-requires c κs = search needs
-
-lend-requires : tie.Need-lend-requires
-lend-requires c κs = search needs
-
-number-of-requires : tie.Need-number-of-requires
-number-of-requires c κs = search needs
-
-other-requires : tie.Need-other-requires
-other-requires c κs = search needs
-
-size-of-requires : tie.Need-size-of-requires
-size-of-requires c κs = search needs
-
-same-length : tie.Need-same-length
-same-length c = search needs
-
-same-length-2 : tie.Need-same-length-2
-same-length-2 c = search needs
-
 returns : tie.Need-returns
 returns c =
     let at-number-of = c .before .before .before in
@@ -55,12 +25,6 @@ returns c =
     stepped-taken _ (desk at-lend) _ (at-lend .lend .result) _ _ (lent at-lend)
     (record { place = c .before .other .result; size = c .size-of .result; number = at-number-of .number-of .result }) (at-number-of .number-of .ensures .1)
     (at-number-of .number-of .ensures .0) (c .before .before .if1 .taken) (c .before .other .ensures) (c .size-of .ensures)
-
-same-length-3 : tie.Need-same-length-3
-same-length-3 c = search needs
-
-same-length-4 : tie.Need-same-length-4
-same-length-4 c = search needs
 
 returns-2 : tie.Need-returns-2
 returns-2 c =
@@ -70,4 +34,6 @@ returns-2 c =
     (c .before .number-of .ensures .0) (c .if1 .left) refl refl
 
 pub step-spec : {M : Type 1} → statement M
-step-spec = tie.close (tie.spec edit-at-requires mul-get32 add-get32 get32-requires lend-requires number-of-requires other-requires size-of-requires same-length same-length-2 returns same-length-3 same-length-4 returns-2)
+step-spec = tie.close
+    (tie.spec (λ c κs. search needs) (λ c. search needs) (λ c. search needs) (λ c κs. search needs) (λ c κs. search needs) (λ c κs. search needs)
+    (λ c κs. search needs) (λ c κs. search needs) (λ c. search needs) (λ c. search needs) returns (λ c. search needs) (λ c. search needs) returns-2)

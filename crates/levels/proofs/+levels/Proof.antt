@@ -1,6 +1,6 @@
 -- The loop's invariant is `Descending`; the span falls at each call.
 use mathlib.Core.Logic.{⊎-elim}
-use Prim.Native.Nat.{ℕ, _-_, _+_, _<_}
+use Prim.Native.Nat.{ℕ, _-_, _<_}
 use native.Mathlib.Omega.{arith}
 use lib.ListN.{length-set}
 use Rattle.tree.proofs.Pieces.{corners, opened, one-piece}

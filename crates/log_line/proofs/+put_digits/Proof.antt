@@ -28,12 +28,6 @@ put-digits-below t = and 1 put-digits-kinds.ps (falls 1 put-digits-kinds.ps _<_ 
 abbrev put-digits-Cs : ℕ → put-digits-lts.Claims
 put-digits-Cs t = (put-digits-below t, put-digits.Post)
 
-put-digits-add-out : (t : ℕ) → put-digits-lts.Need-add-out (put-digits-Cs t) (put-digits-at t) put-digits.Post
-put-digits-add-out t c = omega arith
-
-put-digits-cast-out : (t : ℕ) → put-digits-lts.Need-cast-out (put-digits-Cs t) (put-digits-at t) put-digits.Post
-put-digits-cast-out t c = omega arith
-
 put-digits-slice-write-out : (t : ℕ) → put-digits-lts.Need-slice-write-out (put-digits-Cs t) (put-digits-at t) put-digits.Post
 put-digits-slice-write-out t c = omega (arith, ap length (digits-one 19 (c .before .before .args .n) (c .if1 .taken)), c .before .before .pre .1)
 
@@ -48,12 +42,6 @@ put-digits-returns t c = record { bytes = rw (digits-one 19 (c .before .before .
 
 put-digits-put-digits-requires : (t : ℕ) → put-digits-lts.Need-put-digits-requires (put-digits-Cs t) (put-digits-at t) put-digits.Post
 put-digits-put-digits-requires t c κs = (omega (arith, c .before .before .before .pre .0), omega (arith, length-step (c .before .before .before .args .n) (c .before .if1 .left) (omega arith), c .before .before .before .pre .1))
-
-put-digits-add-out-2 : (t : ℕ) → put-digits-lts.Need-add-out-2 (put-digits-Cs t) (put-digits-at t) put-digits.Post
-put-digits-add-out-2 t c = omega arith
-
-put-digits-cast-out-2 : (t : ℕ) → put-digits-lts.Need-cast-out-2 (put-digits-Cs t) (put-digits-at t) put-digits.Post
-put-digits-cast-out-2 t c = omega arith
 
 put-digits-slice-write-out-2 : (t : ℕ) → put-digits-lts.Need-slice-write-out-2 (put-digits-Cs t) (put-digits-at t) put-digits.Post
 put-digits-slice-write-out-2 t c =
@@ -79,8 +67,7 @@ put-digits-returns-2 t c =
     }
 
 pub +put-digits-spec : {M : Type 1} → statement M
-+put-digits-spec =
-    close μ-put-digits λ t. put-digits-lts.spec (put-digits-Cs t) (put-digits-at t) put-digits.Post (put-digits-add-out t) (put-digits-cast-out t)
-    (put-digits-slice-write-out t) (put-digits-add-result t) (put-digits-same-length t) (put-digits-returns t) (put-digits-put-digits-requires t)
-    (put-digits-add-out-2 t) (put-digits-cast-out-2 t) (put-digits-slice-write-out-2 t) (put-digits-add-result-2 t) (put-digits-same-length-2 t)
-    (put-digits-returns-2 t)
++put-digits-spec = close μ-put-digits λ t.
+    put-digits-lts.spec (put-digits-Cs t) (put-digits-at t) put-digits.Post (λ c. omega arith) (λ c. omega arith) (put-digits-slice-write-out t)
+    (put-digits-add-result t) (put-digits-same-length t) (put-digits-returns t) (put-digits-put-digits-requires t) (λ c. omega arith)
+    (λ c. omega arith) (put-digits-slice-write-out-2 t) (put-digits-add-result-2 t) (put-digits-same-length-2 t) (put-digits-returns-2 t)

@@ -13,12 +13,6 @@ use Rattle.log_line.proofs.put_line.Tie as tie
 abbrev Free : ℕ → ℕ → List ℕ → Type 0
 Free r n o = (r ≤ n) × (256 ≤ length o)
 
-slice-aggregate-put-word : tie.Need-slice-aggregate-put-word
-slice-aggregate-put-word c = search needs
-
-put-word-requires : tie.Need-put-word-requires
-put-word-requires c κs = search needs
-
 put-word-end : (c : tie.After-put-word) → Free (c .put-word .result) 5 (c .put-word .last .0)
 put-word-end c = omega (arith, c .put-word .ensures .end, c .put-word .kept .0, c .before .before .before .before .pre)
 
@@ -28,17 +22,11 @@ put-number-requires c κs = omega (arith, put-word-end (c .before .before .befor
 put-number-end : (c : tie.After-put-number) → Free (c .put-number .result) 25 (c .put-number .last .0)
 put-number-end c = omega (arith, c .put-number .ensures .1, c .put-number .kept .0, put-word-end (c .before .before .before .before))
 
-slice-aggregate-put-field : tie.Need-slice-aggregate-put-field
-slice-aggregate-put-field c = search needs
-
 put-field-requires : tie.Need-put-field-requires
 put-field-requires c κs = omega (arith, put-number-end (c .before .before .before .before))
 
 put-field-end : (c : tie.After-put-field) → Free (c .put-field .result) 54 (c .put-field .last .0)
 put-field-end c = omega (arith, c .put-field .ensures .1, c .put-field .kept .0, put-number-end (c .before .before .before .before .before))
-
-slice-aggregate-put-field-2 : tie.Need-slice-aggregate-put-field-2
-slice-aggregate-put-field-2 c = search needs
 
 put-field-requires-2 : tie.Need-put-field-requires-2
 put-field-requires-2 c κs = omega (arith, put-field-end (c .before .before .before .before))
@@ -46,17 +34,11 @@ put-field-requires-2 c κs = omega (arith, put-field-end (c .before .before .bef
 put-field2-end : (c : tie.After-put-field2) → Free (c .put-field2 .result) 82 (c .put-field2 .last .0)
 put-field2-end c = omega (arith, c .put-field2 .ensures .1, c .put-field2 .kept .0, put-field-end (c .before .before .before .before .before))
 
-slice-aggregate-put-field-3 : tie.Need-slice-aggregate-put-field-3
-slice-aggregate-put-field-3 c = search needs
-
 put-field-requires-3 : tie.Need-put-field-requires-3
 put-field-requires-3 c κs = omega (arith, put-field2-end (c .before .before .before .before))
 
 put-field3-end : (c : tie.After-put-field3) → Free (c .put-field3 .result) 113 (c .put-field3 .last .0)
 put-field3-end c = omega (arith, c .put-field3 .ensures .1, c .put-field3 .kept .0, put-field2-end (c .before .before .before .before .before))
-
-slice-aggregate-put-field-4 : tie.Need-slice-aggregate-put-field-4
-slice-aggregate-put-field-4 c = search needs
 
 put-field-requires-4 : tie.Need-put-field-requires-4
 put-field-requires-4 c κs = omega (arith, put-field3-end (c .before .before .before .before))
@@ -64,26 +46,17 @@ put-field-requires-4 c κs = omega (arith, put-field3-end (c .before .before .be
 put-field4-end : (c : tie.After-put-field4) → Free (c .put-field4 .result) 140 (c .put-field4 .last .0)
 put-field4-end c = omega (arith, c .put-field4 .ensures .1, c .put-field4 .kept .0, put-field3-end (c .before .before .before .before .before))
 
-slice-aggregate-put-field-5 : tie.Need-slice-aggregate-put-field-5
-slice-aggregate-put-field-5 c = search needs
-
 put-field-requires-5 : tie.Need-put-field-requires-5
 put-field-requires-5 c κs = omega (arith, put-field4-end (c .before .before .before .before))
 
 put-field5-end : (c : tie.After-put-field5) → Free (c .put-field5 .result) 166 (c .put-field5 .last .0)
 put-field5-end c = omega (arith, c .put-field5 .ensures .1, c .put-field5 .kept .0, put-field4-end (c .before .before .before .before .before))
 
-slice-aggregate-put-field-6 : tie.Need-slice-aggregate-put-field-6
-slice-aggregate-put-field-6 c = search needs
-
 put-field-requires-6 : tie.Need-put-field-requires-6
 put-field-requires-6 c κs = omega (arith, put-field5-end (c .before .before .before .before))
 
 put-field6-end : (c : tie.After-put-field6) → Free (c .put-field6 .result) 195 (c .put-field6 .last .0)
 put-field6-end c = omega (arith, c .put-field6 .ensures .1, c .put-field6 .kept .0, put-field5-end (c .before .before .before .before .before))
-
-slice-aggregate-put-word-2 : tie.Need-slice-aggregate-put-word-2
-slice-aggregate-put-word-2 c = search needs
 
 put-word-requires-2 : tie.Need-put-word-requires-2
 put-word-requires-2 c κs = omega (arith, put-field6-end (c .before .before .before .before))
@@ -106,7 +79,7 @@ same-length : tie.Need-same-length
 same-length c = put-length (returns c)
 
 pub put-line-spec : {M : Type 1} → statement M
-put-line-spec =
-    tie.close (tie.spec slice-aggregate-put-word put-word-requires put-number-requires slice-aggregate-put-field put-field-requires slice-aggregate-put-field-2
-    put-field-requires-2 slice-aggregate-put-field-3 put-field-requires-3 slice-aggregate-put-field-4 put-field-requires-4 slice-aggregate-put-field-5
-    put-field-requires-5 slice-aggregate-put-field-6 put-field-requires-6 slice-aggregate-put-word-2 put-word-requires-2 same-length returns)
+put-line-spec = tie.close
+    (tie.spec (λ c. search needs) (λ c κs. search needs) put-number-requires (λ c. search needs) put-field-requires (λ c. search needs)
+    put-field-requires-2 (λ c. search needs) put-field-requires-3 (λ c. search needs) put-field-requires-4 (λ c. search needs) put-field-requires-5
+    (λ c. search needs) put-field-requires-6 (λ c. search needs) put-word-requires-2 same-length returns)

@@ -9,25 +9,14 @@ use Rattle.log_line.proofs.put_number.Tie as tie
 put-digits-requires : tie.Need-put-digits-requires
 put-digits-requires c κs = omega (arith, digits-length 20 (c .before .before .before .args .number))
 
-same-length : tie.Need-same-length
-same-length c = search needs
-
 returns : tie.Need-returns
 unfolding numberWord decimal
 returns c = rw (c .before .before .before .before .if1 .taken) (c .before .before .put-digits .ensures, omega (arith, c .before .before .put-digits .ensures .end, digits-length 20 (c .before .before .before .before .before .before .args .number)))
-
-slice-aggregate-put-word : tie.Need-slice-aggregate-put-word
-slice-aggregate-put-word c = search needs
-
-put-word-requires : tie.Need-put-word-requires
-put-word-requires c κs = search needs
-
-same-length-2 : tie.Need-same-length-2
-same-length-2 c = search needs
 
 returns-2 : tie.Need-returns-2
 unfolding numberWord
 returns-2 c = rw (c .before .before .before .before .before .if1 .left) (c .before .before .put-word .ensures, omega (arith, c .before .before .put-word .ensures .end))
 
 pub put-number-spec : {M : Type 1} → statement M
-put-number-spec = tie.close (tie.spec put-digits-requires same-length returns slice-aggregate-put-word put-word-requires same-length-2 returns-2)
+put-number-spec = tie.close
+    (tie.spec put-digits-requires (λ c. search needs) returns (λ c. search needs) (λ c κs. search needs) (λ c. search needs) returns-2)

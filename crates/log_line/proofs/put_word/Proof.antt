@@ -17,28 +17,10 @@ abbrev μ-loop : tie.MeasureT-loop
 loop-holds : tie.Need-loop-holds Inv-loop μ-loop
 loop-holds c = (omega arith, refl, refl)
 
-shared-slice-read-out : tie.Need-shared-slice-read-out Inv-loop μ-loop
-shared-slice-read-out c = omega arith
-
-add-out : tie.Need-add-out Inv-loop μ-loop
-add-out c = omega arith
-
-slice-write-out : tie.Need-slice-write-out Inv-loop μ-loop
-slice-write-out c = omega arith
-
-add-i : tie.Need-add-i Inv-loop μ-loop
-add-i c = omega arith
-
-loop-less : tie.Need-loop-less Inv-loop μ-loop
-loop-less c = omega arith
-
 loop-again : tie.Need-loop-again Inv-loop μ-loop
 loop-again c =
     let at-loop = c .before .before in
     (omega arith, simp length-set (at-loop .loop .inv .1), rw (at-loop .loop .inv .2) (word-next (at-loop .before .args .word .now) (at-loop .before .args .out .now) (at-loop .before .args .at) (at-loop .loop .i) (c .before .loop-test .taken)))
-
-add-result : tie.Need-add-result Inv-loop μ-loop
-add-result c = omega arith
 
 same-length : tie.Need-same-length Inv-loop μ-loop
 same-length c = c .before .loop .inv .1
@@ -47,4 +29,6 @@ returns : tie.Need-returns Inv-loop μ-loop
 returns c = let e = take-all (c .before .loop .i) (c .before .before .args .word .now) (c .loop-test .left) in record { bytes = c .before .loop .inv .2 ∙ rw e; end = omega arith }
 
 pub put-word-spec : {M : Type 1} → statement M
-put-word-spec = tie.close (tie.spec Inv-loop μ-loop loop-holds shared-slice-read-out add-out slice-write-out add-i loop-less loop-again add-result same-length returns)
+put-word-spec = tie.close
+    (tie.spec Inv-loop μ-loop loop-holds (λ c. omega arith) (λ c. omega arith) (λ c. omega arith) (λ c. omega arith) (λ c. omega arith) loop-again
+    (λ c. omega arith) same-length returns)

@@ -10,9 +10,6 @@ use Rattle.codec.proofs.Input.{begins-itself}
 use Rattle.unbend.proofs.answer.Statement.{statement}
 use Rattle.unbend.proofs.answer.Tie as tie
 
-describe-input-requires : tie.Need-describe-input-requires
-describe-input-requires c κs = search needs
-
 within : (c : tie.After-describe-input) → c .describe-input .result ≤ length (c .describe-input .last .1 .1 .0)
 within c =
     let start = c .before .before in
@@ -24,11 +21,5 @@ array-share-prefix-text c = within c
 slice-aggregate-print : tie.Need-slice-aggregate-print
 slice-aggregate-print c = sym (length-take-le _ _ (within (c .before)))
 
-print-requires : tie.Need-print-requires
-print-requires c κs = search needs
-
-returns : tie.Need-returns
-returns c = search needs
-
 pub answer-spec : {M : Type 1} → statement M
-answer-spec = tie.close (tie.spec describe-input-requires array-share-prefix-text slice-aggregate-print print-requires returns)
+answer-spec = tie.close (tie.spec (λ c κs. search needs) array-share-prefix-text slice-aggregate-print (λ c κs. search needs) (λ c. search needs))

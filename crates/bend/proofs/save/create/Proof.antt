@@ -11,33 +11,7 @@ Inv-loop name₀ tries₀ name tries = tries ≤ 100
 abbrev μ-loop : tie.MeasureT-loop
 μ-loop name₀ tries₀ name tries = 100 - tries
 
-loop-holds : tie.Need-loop-holds Inv-loop μ-loop
-loop-holds c = omega arith
-
-try-create-requires : tie.Need-try-create-requires Inv-loop μ-loop
-try-create-requires c κs = search needs
-
-returns : tie.Need-returns Inv-loop μ-loop
-returns c = search needs
-
-errno-requires : tie.Need-errno-requires Inv-loop μ-loop
-errno-requires c κs = search needs
-
-returns-2 : tie.Need-returns-2 Inv-loop μ-loop
-returns-2 c = search needs
-
-add-tries : tie.Need-add-tries Inv-loop μ-loop
-add-tries c = omega arith
-
-loop-less : tie.Need-loop-less Inv-loop μ-loop
-loop-less c = omega arith
-
-loop-again : tie.Need-loop-again Inv-loop μ-loop
-loop-again c = omega arith
-
-returns-3 : tie.Need-returns-3 Inv-loop μ-loop
-returns-3 c = search needs
-
 pub create-spec : {M : Type 1} → statement M
-create-spec =
-    tie.close (tie.spec Inv-loop μ-loop loop-holds try-create-requires returns errno-requires returns-2 add-tries loop-less loop-again returns-3)
+create-spec = tie.close
+    (tie.spec Inv-loop μ-loop (λ c. omega arith) (λ c κs. search needs) (λ c. search needs) (λ c κs. search needs) (λ c. search needs)
+    (λ c. omega arith) (λ c. omega arith) (λ c. omega arith) (λ c. search needs))

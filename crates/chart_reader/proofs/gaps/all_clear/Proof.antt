@@ -39,8 +39,12 @@ returns c =
     let at-loop = at-loop-test .before in
     let start = at-loop .before .before .before .before in
     let s = start .args .chart .now in
-    let at = start .args .at .now in
-    (λ h. absurd (false≢true h), λ h a. at-clear .clear .ensures .1 (not-true _ (c .if1 .taken)) (subst (Clear (chartIn s) (start .args .gaps .now) (start .args .g)) (sym (at-stroke-at .stroke-at .ensures)) (strokes-at s (start .args .n) at (start .pre .0) a (at-loop .loop .i) (at-loop-test .loop-test .taken))))
+    let at = start .args .at .now in (
+      λ h. absurd (false≢true h),
+      λ h a. at-clear .clear .ensures .1 (not-true _ (c .if1 .taken))
+          (subst (Clear (chartIn s) (start .args .gaps .now) (start .args .g)) (sym (at-stroke-at .stroke-at .ensures))
+          (strokes-at s (start .args .n) at (start .pre .0) a (at-loop .loop .i) (at-loop-test .loop-test .taken))),
+    )
 
 loop-again : tie.Need-loop-again Inv-loop μ-loop
 loop-again c =

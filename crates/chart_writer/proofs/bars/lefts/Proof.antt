@@ -29,15 +29,6 @@ loop-holds c =
     let start = c .before .before .before .before in
     (omega arith, start .pre .1 .0 .0, start .pre .1 .1 .0, lefts-begin (start .args .tree .now) (start .args .columns .now) (start .args .left .now) (start .pre .1 .0), placed-begin (start .args .columns .now) (start .args .stands .now) (start .pre .1 .1 .1))
 
-sub-j : tie.Need-sub-j Inv-loop μ-loop
-sub-j c = omega arith
-
-mul-e : tie.Need-mul-e Inv-loop μ-loop
-mul-e c = omega arith
-
-shared-slice-read-e : tie.Need-shared-slice-read-e Inv-loop μ-loop
-shared-slice-read-e c = omega arith
-
 cast-e : tie.Need-cast-e Inv-loop μ-loop
 cast-e c = omega (arith, up (c .before))
 
@@ -47,20 +38,11 @@ mul-k c = omega (arith, up (c .before))
 shared-slice-read-k : tie.Need-shared-slice-read-k Inv-loop μ-loop
 shared-slice-read-k c = omega (arith, up (c .before .before))
 
-cast-stands : tie.Need-cast-stands Inv-loop μ-loop
-cast-stands c = omega arith
-
 mul-stands : tie.Need-mul-stands Inv-loop μ-loop
 mul-stands c = omega (arith, up (c .before .before))
 
 slice-write-stands : tie.Need-slice-write-stands Inv-loop μ-loop
 slice-write-stands c = omega (arith, up (c .before .before))
-
-cast-left : tie.Need-cast-left Inv-loop μ-loop
-cast-left c = omega arith
-
-low-requires : tie.Need-low-requires Inv-loop μ-loop
-low-requires c κs = omega arith
 
 mul-left : tie.Need-mul-left Inv-loop μ-loop
 mul-left c = omega (arith, c .low .ensures, up (c .before .before .before))
@@ -68,20 +50,11 @@ mul-left c = omega (arith, c .low .ensures, up (c .before .before .before))
 slice-write-left : tie.Need-slice-write-left Inv-loop μ-loop
 slice-write-left c = omega (arith, c .low .ensures, up (c .before .before .before))
 
-cast-left-2 : tie.Need-cast-left-2 Inv-loop μ-loop
-cast-left-2 c = omega arith
-
-high-requires : tie.Need-high-requires Inv-loop μ-loop
-high-requires c κs = omega arith
-
 mul-left-2 : tie.Need-mul-left-2 Inv-loop μ-loop
 mul-left-2 c = omega (arith, c .high .ensures .1)
 
 slice-write-left-2 : tie.Need-slice-write-left-2 Inv-loop μ-loop
 slice-write-left-2 c = simp length-set (omega (arith, c .high .ensures .1, c .before .before .before .before .before .loop .inv .1))
-
-loop-less : tie.Need-loop-less Inv-loop μ-loop
-loop-less c = omega arith
 
 loop-again : tie.Need-loop-again Inv-loop μ-loop
 loop-again c =
@@ -109,4 +82,7 @@ returns c =
     (λ x h. omega (arith, L x h), rw e at (c .before .loop .inv .4))
 
 pub lefts-spec : {M : Type 1} → statement M
-lefts-spec = tie.close (tie.spec Inv-loop μ-loop loop-holds sub-j mul-e shared-slice-read-e cast-e mul-k shared-slice-read-k cast-stands mul-stands slice-write-stands cast-left low-requires mul-left slice-write-left cast-left-2 high-requires mul-left-2 slice-write-left-2 loop-less loop-again same-length same-length-2 returns)
+lefts-spec = tie.close
+    (tie.spec Inv-loop μ-loop loop-holds (λ c. omega arith) (λ c. omega arith) (λ c. omega arith) cast-e mul-k shared-slice-read-k (λ c. omega arith)
+    mul-stands slice-write-stands (λ c. omega arith) (λ c κs. omega arith) mul-left slice-write-left (λ c. omega arith) (λ c κs. omega arith)
+    mul-left-2 slice-write-left-2 (λ c. omega arith) loop-again same-length same-length-2 returns)

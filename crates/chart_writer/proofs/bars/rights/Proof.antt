@@ -27,12 +27,6 @@ up c = c .before .before .before .before .before .pre .0 .0 (c .before .loop .j)
 loop-holds : tie.Need-loop-holds Inv-loop μ-loop
 loop-holds c = (omega arith, c .before .before .before .pre .1 .0, rights-begin (c .before .before .before .args .tree .now) (c .before .before .before .args .columns .now) (c .before .before .before .args .right .now) (c .before .before .before .pre .1))
 
-mul-k : tie.Need-mul-k Inv-loop μ-loop
-mul-k c = omega arith
-
-shared-slice-read-k : tie.Need-shared-slice-read-k Inv-loop μ-loop
-shared-slice-read-k c = omega arith
-
 cast-k : tie.Need-cast-k Inv-loop μ-loop
 cast-k c = omega (arith, up (c .before))
 
@@ -42,35 +36,17 @@ mul-k-2 c = omega (arith, up (c .before))
 shared-slice-read-k-2 : tie.Need-shared-slice-read-k-2 Inv-loop μ-loop
 shared-slice-read-k-2 c = omega (arith, up (c .before .before))
 
-cast-right : tie.Need-cast-right Inv-loop μ-loop
-cast-right c = omega arith
-
-low-requires : tie.Need-low-requires Inv-loop μ-loop
-low-requires c κs = omega arith
-
 mul-right : tie.Need-mul-right Inv-loop μ-loop
 mul-right c = omega (arith, c .low .ensures, up (c .before .before .before))
 
 slice-write-right : tie.Need-slice-write-right Inv-loop μ-loop
 slice-write-right c = omega (arith, c .low .ensures, up (c .before .before .before))
 
-cast-right-2 : tie.Need-cast-right-2 Inv-loop μ-loop
-cast-right-2 c = omega arith
-
-high-requires : tie.Need-high-requires Inv-loop μ-loop
-high-requires c κs = omega arith
-
 mul-right-2 : tie.Need-mul-right-2 Inv-loop μ-loop
 mul-right-2 c = omega (arith, c .high .ensures .1)
 
 slice-write-right-2 : tie.Need-slice-write-right-2 Inv-loop μ-loop
 slice-write-right-2 c = simp length-set (omega (arith, c .high .ensures .1, c .before .before .before .before .before .loop .inv .1))
-
-add-j : tie.Need-add-j Inv-loop μ-loop
-add-j c = omega arith
-
-loop-less : tie.Need-loop-less Inv-loop μ-loop
-loop-less c = omega arith
 
 loop-again : tie.Need-loop-again Inv-loop μ-loop
 loop-again c =
@@ -89,4 +65,7 @@ returns : tie.Need-returns Inv-loop μ-loop
 returns c = rw (take-all (c .before .loop .j) (c .before .before .before .before .before .args .columns .now) (omega arith)) at (c .before .loop .inv .2)
 
 pub rights-spec : {M : Type 1} → statement M
-rights-spec = tie.close (tie.spec Inv-loop μ-loop loop-holds mul-k shared-slice-read-k cast-k mul-k-2 shared-slice-read-k-2 cast-right low-requires mul-right slice-write-right cast-right-2 high-requires mul-right-2 slice-write-right-2 add-j loop-less loop-again same-length returns)
+rights-spec = tie.close
+    (tie.spec Inv-loop μ-loop loop-holds (λ c. omega arith) (λ c. omega arith) cast-k mul-k-2 shared-slice-read-k-2 (λ c. omega arith)
+    (λ c κs. omega arith) mul-right slice-write-right (λ c. omega arith) (λ c κs. omega arith) mul-right-2 slice-write-right-2 (λ c. omega arith)
+    (λ c. omega arith) loop-again same-length returns)

@@ -18,35 +18,11 @@ abbrev μ-loop : tie.MeasureT-loop
 loop-holds : tie.Need-loop-holds Inv-loop μ-loop
 loop-holds c = (omega arith, refl, bars-none (c .before .before .before .before .args .rows .now) (c .before .before .before .before .args .left .now) (c .before .before .before .before .args .right .now) (c .before .before .before .before .args .out .now))
 
-mul-put16 : tie.Need-mul-put16 Inv-loop μ-loop
-mul-put16 c = omega arith
-
-add-put16 : tie.Need-add-put16 Inv-loop μ-loop
-add-put16 c = omega arith
-
-mul-put16-2 : tie.Need-mul-put16-2 Inv-loop μ-loop
-mul-put16-2 c = omega arith
-
-shared-slice-read-put16 : tie.Need-shared-slice-read-put16 Inv-loop μ-loop
-shared-slice-read-put16 c = omega arith
-
 cast-put16 : tie.Need-cast-put16 Inv-loop μ-loop
 cast-put16 c = omega (arith, c .shared-slice-known4 .given (c .before .before .before .loop .x))
 
 put16-requires : tie.Need-put16-requires Inv-loop μ-loop
 put16-requires c κs = (omega arith, omega (arith, c .shared-slice-known4 .given (c .before .before .before .loop .x)))
-
-mul-put16-3 : tie.Need-mul-put16-3 Inv-loop μ-loop
-mul-put16-3 c = omega arith
-
-add-put16-2 : tie.Need-add-put16-2 Inv-loop μ-loop
-add-put16-2 c = omega arith
-
-mul-put16-4 : tie.Need-mul-put16-4 Inv-loop μ-loop
-mul-put16-4 c = omega arith
-
-shared-slice-read-put16-2 : tie.Need-shared-slice-read-put16-2 Inv-loop μ-loop
-shared-slice-read-put16-2 c = omega arith
 
 cast-put16-2 : tie.Need-cast-put16-2 Inv-loop μ-loop
 cast-put16-2 c = omega (arith, c .shared-slice-known5 .given (c .before .before .before .before .before .before .before .before .loop .x))
@@ -54,29 +30,15 @@ cast-put16-2 c = omega (arith, c .shared-slice-known5 .given (c .before .before 
 put16-requires-2 : tie.Need-put16-requires-2 Inv-loop μ-loop
 put16-requires-2 c κs = (omega (arith, c .before .before .before .before .put16 .kept .0), omega (arith, c .shared-slice-known5 .given (c .before .before .before .before .before .before .before .before .loop .x)))
 
-mul-put16-5 : tie.Need-mul-put16-5 Inv-loop μ-loop
-mul-put16-5 c = omega arith
-
-add-put16-3 : tie.Need-add-put16-3 Inv-loop μ-loop
-add-put16-3 c = omega arith
-
-mul-put16-6 : tie.Need-mul-put16-6 Inv-loop μ-loop
-mul-put16-6 c = omega arith
-
-shared-slice-read-put16-3 : tie.Need-shared-slice-read-put16-3 Inv-loop μ-loop
-shared-slice-read-put16-3 c = omega arith
-
 cast-put16-3 : tie.Need-cast-put16-3 Inv-loop μ-loop
 cast-put16-3 c = omega (arith, c .shared-slice-known6 .given (c .before .before .before .before .before .before .before .before .before .before .before .before .before .loop .x))
 
 put16-requires-3 : tie.Need-put16-requires-3 Inv-loop μ-loop
-put16-requires-3 c κs = (omega (arith, c .before .before .before .before .before .before .before .before .before .put16 .kept .0, c .before .before .before .before .put162 .kept .0), omega (arith, c .shared-slice-known6 .given (c .before .before .before .before .before .before .before .before .before .before .before .before .before .loop .x)))
-
-add-x : tie.Need-add-x Inv-loop μ-loop
-add-x c = omega arith
-
-loop-less : tie.Need-loop-less Inv-loop μ-loop
-loop-less c = omega arith
+put16-requires-3 c κs =
+    let at-put162 = c .before .before .before .before in
+    let at-put16 = at-put162 .before .before .before .before .before in
+    let at-loop = at-put16 .before .before .before .before in
+    (omega (arith, at-put16 .put16 .kept .0, at-put162 .put162 .kept .0), omega (arith, c .shared-slice-known6 .given (at-loop .loop .x)))
 
 loop-again : tie.Need-loop-again Inv-loop μ-loop
 loop-again c =
@@ -98,4 +60,7 @@ returns : tie.Need-returns Inv-loop μ-loop
 returns c = let e : c .before .loop .x ≡ c .before .before .before .before .before .before .args .n = omega arith in rw (← e) (c .before .loop .inv .2)
 
 pub put-bars-spec : {M : Type 1} → statement M
-put-bars-spec = tie.close (tie.spec Inv-loop μ-loop loop-holds mul-put16 add-put16 mul-put16-2 shared-slice-read-put16 cast-put16 put16-requires mul-put16-3 add-put16-2 mul-put16-4 shared-slice-read-put16-2 cast-put16-2 put16-requires-2 mul-put16-5 add-put16-3 mul-put16-6 shared-slice-read-put16-3 cast-put16-3 put16-requires-3 add-x loop-less loop-again same-length returns)
+put-bars-spec = tie.close
+    (tie.spec Inv-loop μ-loop loop-holds (λ c. omega arith) (λ c. omega arith) (λ c. omega arith) (λ c. omega arith) cast-put16 put16-requires
+    (λ c. omega arith) (λ c. omega arith) (λ c. omega arith) (λ c. omega arith) cast-put16-2 put16-requires-2 (λ c. omega arith) (λ c. omega arith)
+    (λ c. omega arith) (λ c. omega arith) cast-put16-3 put16-requires-3 (λ c. omega arith) (λ c. omega arith) loop-again same-length returns)

@@ -8,26 +8,8 @@ use lib.ListN.{length-set}
 use Rattle.chart_writer.proofs.bytes.put_edge.Statement.{statement}
 use Rattle.chart_writer.proofs.bytes.put_edge.Tie as tie
 
-map-byte-requires : tie.Need-map-byte-requires
-map-byte-requires c κs = search needs
-
-slice-write-out : tie.Need-slice-write-out
-slice-write-out c = search needs
-
-add-put16 : tie.Need-add-put16
-add-put16 c = search needs
-
-low-requires : tie.Need-low-requires
-low-requires c κs = search needs
-
 put16-requires : tie.Need-put16-requires
 put16-requires c κs = (simp length-set (omega arith), omega (arith, c .low .ensures))
-
-add-put16-2 : tie.Need-add-put16-2
-add-put16-2 c = search needs
-
-high-requires : tie.Need-high-requires
-high-requires c κs = search needs
 
 put16-requires-2 : tie.Need-put16-requires-2
 put16-requires-2 c κs = (simp (c .before .before .before .before .put16 .kept .0, length-set) (omega arith), omega (arith, c .high .ensures))
@@ -46,4 +28,6 @@ returns c =
     c .before .before .put162 .ensures ∙ rw (at-put16 .put16 .ensures, at-map-byte .map-byte .ensures .0, at-low .low .ensures, at-high .high .ensures .0, e, add-one (start .args .at))
 
 pub put-edge-spec : {M : Type 1} → statement M
-put-edge-spec = tie.close (tie.spec map-byte-requires slice-write-out add-put16 low-requires put16-requires add-put16-2 high-requires put16-requires-2 same-length returns)
+put-edge-spec = tie.close
+    (tie.spec (λ c κs. search needs) (λ c. search needs) (λ c. search needs) (λ c κs. search needs) put16-requires (λ c. search needs)
+    (λ c κs. search needs) put16-requires-2 same-length returns)

@@ -14,26 +14,17 @@ use Rattle.chart_writer.proofs.bytes.put_last.Tie as tie
 put-edge-requires : tie.Need-put-edge-requires
 put-edge-requires c κs = (omega (arith, stroke-size (c .before .before .args .k) (c .before .before .args .c)), c .before .before .pre .1)
 
-same-length : tie.Need-same-length
-same-length c = search needs
-
 returns : tie.Need-returns
 returns c =
     let at-put-edge = c .before .before .before in
     let start = at-put-edge .before .before .before in
     at-put-edge .put-edge .ensures ∙ ap (sets (start .args .out .now) (start .args .at)) (level-bytes (start .args .k) (start .args .c) (c .if1 .taken))
 
-add-put16 : tie.Need-add-put16
-add-put16 c = search needs
-
 put16-requires : tie.Need-put16-requires
 put16-requires c κs =
     let at-put-edge = c .before .before .before .before in
     let start = at-put-edge .before .before .before in
     (omega (arith, at-put-edge .put-edge .kept .0, stroke-size (start .args .k) (start .args .c), upright-map (start .args .c) (c .before .if1 .left)), omega arith)
-
-same-length-2 : tie.Need-same-length-2
-same-length-2 c = search needs
 
 returns-2 : tie.Need-returns-2
 returns-2 c =
@@ -44,4 +35,4 @@ returns-2 c =
     c .before .before .put16 .ensures ∙ rw (at-put-edge .put-edge .ensures) (sym (sets-append (edgeBytes k h) (bytes16 h) (start .args .out .now) (start .args .at)) ∙ ap (sets (start .args .out .now) (start .args .at)) (upright-bytes k h (c .before .before .before .before .if1 .left)))
 
 pub put-last-spec : {M : Type 1} → statement M
-put-last-spec = tie.close (tie.spec put-edge-requires same-length returns add-put16 put16-requires same-length-2 returns-2)
+put-last-spec = tie.close (tie.spec put-edge-requires (λ c. search needs) returns (λ c. search needs) put16-requires (λ c. search needs) returns-2)

@@ -16,37 +16,16 @@ Inv-loop out₀ from m tree stands last at₀ i₀ out at i = (i ≤ m - 1) × (
 abbrev μ-loop : tie.MeasureT-loop
 μ-loop out₀ from m tree stands last at₀ i₀ out at i = m - 1 - i
 
-sub-last : tie.Need-sub-last Inv-loop μ-loop
-sub-last c = omega arith
-
 loop-holds : tie.Need-loop-holds Inv-loop μ-loop
 loop-holds c =
     let start = c .before .before .before in
     (omega arith, refl, omega (arith, strokes-none (start .args .tree .now) (start .args .stands .now)), over-begin (start .args .tree .now) (start .args .stands .now) (start .args .out .now) (start .args .from))
-
-mul-put-stroke : tie.Need-mul-put-stroke Inv-loop μ-loop
-mul-put-stroke c = omega arith
-
-shared-slice-read-put-stroke : tie.Need-shared-slice-read-put-stroke Inv-loop μ-loop
-shared-slice-read-put-stroke c = omega arith
-
-mul-put-stroke-2 : tie.Need-mul-put-stroke-2 Inv-loop μ-loop
-mul-put-stroke-2 c = omega arith
-
-shared-slice-read-put-stroke-2 : tie.Need-shared-slice-read-put-stroke-2 Inv-loop μ-loop
-shared-slice-read-put-stroke-2 c = omega arith
 
 put-stroke-requires : tie.Need-put-stroke-requires Inv-loop μ-loop
 put-stroke-requires c κs =
     let at-loop = c .before .before .before .before in
     let start = at-loop .before .before .before .before in
     (omega (arith, stroke-room (start .args .tree .now) (start .args .stands .now) (at-loop .loop .i) (start .args .m) (omega arith), start .pre .1 .1, at-loop .loop .inv .2), start .pre .0 (at-loop .loop .i) (omega arith))
-
-add-i : tie.Need-add-i Inv-loop μ-loop
-add-i c = omega arith
-
-loop-less : tie.Need-loop-less Inv-loop μ-loop
-loop-less c = omega arith
 
 loop-again : tie.Need-loop-again Inv-loop μ-loop
 loop-again c =
@@ -61,18 +40,6 @@ loop-again c =
       rw (add-one i) (omega (arith, at-put .put-stroke .ensures .1, at-loop .loop .inv .2, run-size strokeBytes (tableStroke tree stands) i)),
       rw (at-put .put-stroke .ensures .0, at-loop .loop .inv .2) (over-next tree stands (start .args .out .now) (at-loop .loop .out) (start .args .from) i (at-loop .loop .inv .3)),
     )
-
-mul-put-last : tie.Need-mul-put-last Inv-loop μ-loop
-mul-put-last c = omega arith
-
-shared-slice-read-put-last : tie.Need-shared-slice-read-put-last Inv-loop μ-loop
-shared-slice-read-put-last c = omega arith
-
-mul-put-last-2 : tie.Need-mul-put-last-2 Inv-loop μ-loop
-mul-put-last-2 c = omega arith
-
-shared-slice-read-put-last-2 : tie.Need-shared-slice-read-put-last-2 Inv-loop μ-loop
-shared-slice-read-put-last-2 c = omega arith
 
 put-last-requires : tie.Need-put-last-requires Inv-loop μ-loop
 put-last-requires c κs =
@@ -94,4 +61,7 @@ returns c =
     c .before .before .put-last .ensures ∙ rw p (over-end (start .args .tree .now) (start .args .stands .now) (start .args .out .now) (at-loop .loop .out) (start .args .from) (start .args .m - 1) (rw e at (at-loop .loop .inv .3)) ∙ rw f)
 
 pub put-strokes-spec : {M : Type 1} → statement M
-put-strokes-spec = tie.close (tie.spec Inv-loop μ-loop sub-last loop-holds mul-put-stroke shared-slice-read-put-stroke mul-put-stroke-2 shared-slice-read-put-stroke-2 put-stroke-requires add-i loop-less loop-again mul-put-last shared-slice-read-put-last mul-put-last-2 shared-slice-read-put-last-2 put-last-requires same-length returns)
+put-strokes-spec = tie.close
+    (tie.spec Inv-loop μ-loop (λ c. omega arith) loop-holds (λ c. omega arith) (λ c. omega arith) (λ c. omega arith) (λ c. omega arith)
+    put-stroke-requires (λ c. omega arith) (λ c. omega arith) loop-again (λ c. omega arith) (λ c. omega arith) (λ c. omega arith) (λ c. omega arith)
+    put-last-requires same-length returns)

@@ -18,15 +18,6 @@ abbrev μ-loop : tie.MeasureT-loop
 loop-holds : tie.Need-loop-holds Inv-loop μ-loop
 loop-holds c = (omega arith, omega arith, λ tr. strokes-none tr (c .before .args .stands .now))
 
-mul-map-byte : tie.Need-mul-map-byte Inv-loop μ-loop
-mul-map-byte c = omega arith
-
-shared-slice-read-map-byte : tie.Need-shared-slice-read-map-byte Inv-loop μ-loop
-shared-slice-read-map-byte c = omega arith
-
-map-byte-requires : tie.Need-map-byte-requires Inv-loop μ-loop
-map-byte-requires c κs = omega arith
-
 cast-size : tie.Need-cast-size Inv-loop μ-loop
 cast-size c = omega (arith, c .map-byte .ensures .1)
 
@@ -39,12 +30,6 @@ add-size c = omega (arith, c .map-byte .ensures .1)
 add-size-2 : tie.Need-add-size-2 Inv-loop μ-loop
 add-size-2 c = omega (arith, c .map-byte .ensures .1)
 
-add-i : tie.Need-add-i Inv-loop μ-loop
-add-i c = omega arith
-
-loop-less : tie.Need-loop-less Inv-loop μ-loop
-loop-less c = omega arith
-
 loop-again : tie.Need-loop-again Inv-loop μ-loop
 loop-again c =
     let at-loop = c .before .before .before in
@@ -55,4 +40,6 @@ returns : tie.Need-returns Inv-loop μ-loop
 returns c = let e : c .before .loop .i ≡ c .before .before .before .args .m = omega arith in rw (← e) (c .before .loop .inv .2, c .before .loop .inv .1)
 
 pub strokes-size-spec : {M : Type 1} → statement M
-strokes-size-spec = tie.close (tie.spec Inv-loop μ-loop loop-holds mul-map-byte shared-slice-read-map-byte map-byte-requires cast-size mul-size add-size add-size-2 add-i loop-less loop-again returns)
+strokes-size-spec = tie.close
+    (tie.spec Inv-loop μ-loop loop-holds (λ c. omega arith) (λ c. omega arith) (λ c κs. omega arith) cast-size mul-size add-size add-size-2
+    (λ c. omega arith) (λ c. omega arith) loop-again returns)

@@ -14,34 +14,10 @@ use Rattle.draw.proofs.program.draw_first.Tie as tie
 slice-aggregate-read-sheet : tie.Need-slice-aggregate-read-sheet
 slice-aggregate-read-sheet c = let start = c .before .before .before .before in sym (length-take-le (start .args .end) (start .args .lent .now) (start .pre .0))
 
-slice-aggregate-read-sheet-2 : tie.Need-slice-aggregate-read-sheet-2
-slice-aggregate-read-sheet-2 c = search needs
-
-read-sheet-requires : tie.Need-read-sheet-requires
-read-sheet-requires c κs = search needs
-
-enum-known-k : tie.Need-enum-known-k
-enum-known-k c = search needs
-
-cast-put-refused : tie.Need-cast-put-refused
-cast-put-refused c = search needs
-
-put-refused-requires : tie.Need-put-refused-requires
-put-refused-requires c κs = search needs
-
-enum-known-h : tie.Need-enum-known-h
-enum-known-h c = search needs
-
-slice-aggregate-show-part : tie.Need-slice-aggregate-show-part
-slice-aggregate-show-part c = search needs
-
 show-part-requires : tie.Need-show-part-requires
 show-part-requires c κs =
     let start = c .before .before .before .before .before .before .before .before .before .before .before .before .before in
     (in-hand (c .before .before .before .before .before .before .before .read-sheet .ensures) (c .before .before .before .before .h .given .1), (start .pre .1, start .pre .2))
-
-same-length : tie.Need-same-length
-same-length c = search needs
 
 returns : tie.Need-returns
 unfolding output
@@ -53,12 +29,6 @@ returns c =
       omega (arith, wrote .ensures .end, refused-size (k .0 .0), wrote .kept .1 .0, start .pre .2),
     )
 
-same-length-2 : tie.Need-same-length-2
-same-length-2 c = search needs
-
-same-length-3 : tie.Need-same-length-3
-same-length-3 c = search needs
-
 returns-2 : tie.Need-returns-2
 unfolding output
 returns-2 c =
@@ -69,5 +39,6 @@ returns-2 c =
     (done ∙ read-is out (at-h .before .before .before .read-sheet .ensures) (at-h .h .given .1), within)
 
 pub draw-first-spec : {M : Type 1} → statement M
-draw-first-spec =
-    tie.close (tie.spec slice-aggregate-read-sheet slice-aggregate-read-sheet-2 read-sheet-requires enum-known-k cast-put-refused put-refused-requires enum-known-h slice-aggregate-show-part show-part-requires same-length returns same-length-2 same-length-3 returns-2)
+draw-first-spec = tie.close
+    (tie.spec slice-aggregate-read-sheet (λ c. search needs) (λ c κs. search needs) (λ c. search needs) (λ c. search needs) (λ c κs. search needs)
+    (λ c. search needs) (λ c. search needs) show-part-requires (λ c. search needs) returns (λ c. search needs) (λ c. search needs) returns-2)

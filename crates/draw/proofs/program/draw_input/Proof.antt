@@ -11,12 +11,6 @@ use Rattle.draw.proofs.Inputs.{begins-output}
 use Rattle.draw.proofs.program.draw_input.Statement.{statement}
 use Rattle.draw.proofs.program.draw_input.Tie as tie
 
-least-requires : tie.Need-least-requires
-least-requires c κs = search needs
-
-draw-first-requires : tie.Need-draw-first-requires
-draw-first-requires c κs = search needs
-
 returns : tie.Need-returns
 returns c =
     let at-least = c .before .before .before in
@@ -29,4 +23,4 @@ returns c =
     (λ input b. c .draw-first .ensures .0 ∙ done input b, c .draw-first .ensures .1)
 
 pub draw-input-spec : {M : Type 1} → statement M
-draw-input-spec = tie.close (tie.spec least-requires draw-first-requires returns)
+draw-input-spec = tie.close (tie.spec (λ c κs. search needs) (λ c κs. search needs) returns)

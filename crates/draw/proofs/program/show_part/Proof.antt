@@ -48,9 +48,6 @@ said c =
 within : (c : tie.After-counts-line) → c .counts-line .result ≤ length (c .counts-line .last .1 .1 .1 .1 .0)
 within c = omega (arith, said c .end, line-size (factsOf (part c)), c .counts-line .kept .1 .1 .1 .1 .0, start c .pre .1)
 
-sub-m : tie.Need-sub-m
-sub-m c = search needs
-
 slice-aggregate-fill : tie.Need-slice-aggregate-fill
 slice-aggregate-fill c = sym (keys-count (c .before .before .before .before .before .pre .0))
 
@@ -59,37 +56,13 @@ fill-requires c κs =
     let P = c .before .before .before .before .before .before .before .pre .0 .valid in
     ((P .triangulated, P .most), ((length-replicate {A = ℕ} 3072 0, length-replicate {A = ℕ} 12270 0), (blank 3072, blank 12270)))
 
-write-part-requires : tie.Need-write-part-requires
-write-part-requires c κs = search needs
-
-counts-of-requires : tie.Need-counts-of-requires
-counts-of-requires c κs = search needs
-
 counts-line-requires : tie.Need-counts-line-requires
 counts-line-requires c κs = c .before .before .before .before .before .before .before .before .before .before .before .before .before .before .before .before .before .before .pre .1 .1
-
-enum-told : tie.Need-enum-told
-enum-told c = search needs
-
-enum-known-w : tie.Need-enum-known-w
-enum-known-w c = search needs
-
-same-length : tie.Need-same-length
-same-length c = search needs
-
-same-length-2 : tie.Need-same-length-2
-same-length-2 c = search needs
 
 returns : tie.Need-returns
 returns c =
     let at = c .before .before .before .before in
     absurd (part-fits (part at) (start at .pre .0 .valid) _ _ _ (start at .pre .1 .0) (wrote at) _ (c .enum-told .given .1))
-
-same-length-3 : tie.Need-same-length-3
-same-length-3 c = search needs
-
-same-length-4 : tie.Need-same-length-4
-same-length-4 c = search needs
 
 returns-2 : tie.Need-returns-2
 returns-2 c =
@@ -101,5 +74,6 @@ returns-2 c =
     )
 
 pub show-part-spec : {M : Type 1} → statement M
-show-part-spec =
-    tie.close (tie.spec sub-m slice-aggregate-fill fill-requires write-part-requires counts-of-requires counts-line-requires enum-told enum-known-w same-length same-length-2 returns same-length-3 same-length-4 returns-2)
+show-part-spec = tie.close
+    (tie.spec (λ c. search needs) slice-aggregate-fill fill-requires (λ c κs. search needs) (λ c κs. search needs) counts-line-requires
+    (λ c. search needs) (λ c. search needs) (λ c. search needs) (λ c. search needs) returns (λ c. search needs) (λ c. search needs) returns-2)

@@ -24,31 +24,13 @@ returns c = refuses (add-outside (c .before .before .pre) (c .before .before .ar
 returns-2 : tie.Need-returns-2
 returns-2 c = refuses (add-full (c .before .before .before .pre) (c .before .before .before .args .side) (omega arith) (c .if2 .taken))
 
-sub-m : tie.Need-sub-m
-sub-m c = search needs
-
-slice-reshare-prefix-renumber : tie.Need-slice-reshare-prefix-renumber
-slice-reshare-prefix-renumber c = search needs
-
 slice-aggregate-renumber : tie.Need-slice-aggregate-renumber
 slice-aggregate-renumber c = sym (keys-count (c .before .before .before .before .pre))
-
-slice-aggregate-renumber-2 : tie.Need-slice-aggregate-renumber-2
-slice-aggregate-renumber-2 c = search needs
 
 renumber-requires : tie.Need-renumber-requires
 renumber-requires c κs =
     let start = c .before .before .before .before .before in
     (omega (arith, keys-count (start .pre), start .pre .valid .most), can-rise (start .pre) (start .args .side) (omega arith) (c .before .before .if2 .left))
-
-entering-key-requires : tie.Need-entering-key-requires
-entering-key-requires c κs = search needs
-
-slice-aggregate-merge : tie.Need-slice-aggregate-merge
-slice-aggregate-merge c = search needs
-
-array-share-prefix-moved : tie.Need-array-share-prefix-moved
-array-share-prefix-moved c = search needs
 
 slice-aggregate-merge-2 : tie.Need-slice-aggregate-merge-2
 slice-aggregate-merge-2 c = sym (moved-count (c .before .before .before .before))
@@ -56,12 +38,6 @@ slice-aggregate-merge-2 c = sym (moved-count (c .before .before .before .before)
 merge-requires : tie.Need-merge-requires
 merge-requires c κs =
     omega (arith, moved-count (c .before .before .before .before .before), c .before .before .before .before .before .before .before .before .before .before .before .pre .room, c .before .before .before .before .before .before .before .before .before .before .before .pre .valid .most)
-
-add-t22 : tie.Need-add-t22
-add-t22 c = search needs
-
-same-length : tie.Need-same-length
-same-length c = search needs
 
 returns-3 : tie.Need-returns-3
 returns-3 c =
@@ -72,4 +48,7 @@ returns-3 c =
     (c .before .before .before .before .before .before .entering-key .ensures) (at-merge .merge .last .1 .1 .0) (at-merge .merge .ensures) (omega (arith, at-merge .merge .kept .1 .1 .0, start .pre .room))
 
 pub add-to-spec : {M : Type 1} → statement M
-add-to-spec = tie.close (tie.spec returns returns-2 sub-m slice-reshare-prefix-renumber slice-aggregate-renumber slice-aggregate-renumber-2 renumber-requires entering-key-requires slice-aggregate-merge array-share-prefix-moved slice-aggregate-merge-2 merge-requires add-t22 same-length returns-3)
+add-to-spec = tie.close
+    (tie.spec returns returns-2 (λ c. search needs) (λ c. search needs) slice-aggregate-renumber (λ c. search needs) renumber-requires
+    (λ c κs. search needs) (λ c. search needs) (λ c. search needs) slice-aggregate-merge-2 merge-requires (λ c. search needs) (λ c. search needs)
+    returns-3)

@@ -6,23 +6,11 @@ use Rattle.edit.proofs.Adding.{entering-root, entering-side}
 use Rattle.edit.proofs.held.entering_key.Statement.{statement}
 use Rattle.edit.proofs.held.entering_key.Tie as tie
 
-add-if1 : tie.Need-add-if1
-add-if1 c = search needs
-
-key-requires : tie.Need-key-requires
-key-requires c κs = search needs
-
 returns : tie.Need-returns
 returns c = c .key .ensures ∙ ap keyOf (sym (entering-root (c .before .before .args .n) (c .before .before .args .i) (c .before .if1 .taken)))
-
-add-key : tie.Need-add-key
-add-key c = search needs
-
-key-requires-2 : tie.Need-key-requires-2
-key-requires-2 c κs = search needs
 
 returns-2 : tie.Need-returns-2
 returns-2 c = c .key2 .ensures ∙ ap keyOf (sym (entering-side (c .before .before .args .n) (c .before .before .args .i) (c .before .if1 .left)))
 
 pub entering-key-spec : {M : Type 1} → statement M
-entering-key-spec = tie.close (tie.spec add-if1 key-requires returns add-key key-requires-2 returns-2)
+entering-key-spec = tie.close (tie.spec (λ c. search needs) (λ c κs. search needs) returns (λ c. search needs) (λ c κs. search needs) returns-2)

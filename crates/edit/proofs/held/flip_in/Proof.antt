@@ -13,25 +13,11 @@ returns c = refuses (turn-outside (c .before .before .pre) (c .before .before .a
 returns-2 : tie.Need-returns-2
 returns-2 c = refuses (turn-outside (c .before .before .before .pre) (c .before .before .before .args .a) (c .before .before .before .args .b) (λ t. omega arith))
 
-turn-requires : tie.Need-turn-requires
-turn-requires c κs = search needs
-
-turn-requires-2 : tie.Need-turn-requires-2
-turn-requires-2 c κs = search needs
-
-same-length : tie.Need-same-length
-same-length c = search needs
-
-returns-3 : tie.Need-returns-3
-returns-3 c = search needs
-
-same-length-2 : tie.Need-same-length-2
-same-length-2 c = search needs
-
 returns-4 : tie.Need-returns-4
 returns-4 c =
     let start = c .before .before .before .before .before .before .before .before in
     rw (flip-either (start .args .a) (start .args .b) (polygonOf (start .args .h) (start .args .keys .now))) (c .before .before .turn2 .ensures)
 
 pub flip-in-spec : {M : Type 1} → statement M
-flip-in-spec = tie.close (tie.spec returns returns-2 turn-requires turn-requires-2 same-length returns-3 same-length-2 returns-4)
+flip-in-spec = tie.close
+    (tie.spec returns returns-2 (λ c κs. search needs) (λ c κs. search needs) (λ c. search needs) (λ c. search needs) (λ c. search needs) returns-4)

@@ -36,43 +36,16 @@ returns c = refuses (remove-outside (c .before .before .pre) (c .before .before 
 returns-2 : tie.Need-returns-2
 returns-2 c = refuses (remove-triangle (c .before .before .before .pre) (c .before .before .before .args .corner) (omega arith) (c .if2 .taken))
 
-sub-m : tie.Need-sub-m
-sub-m c = search needs
-
-slice-reshare-prefix-is-ear : tie.Need-slice-reshare-prefix-is-ear
-slice-reshare-prefix-is-ear c = search needs
-
 slice-aggregate-is-ear : tie.Need-slice-aggregate-is-ear
 slice-aggregate-is-ear c = sym (keys-count (c .before .before .before .before .pre))
-
-is-ear-requires : tie.Need-is-ear-requires
-is-ear-requires c κs = search needs
-
-same-length : tie.Need-same-length
-same-length c = search needs
 
 returns-3 : tie.Need-returns-3
 returns-3 c =
     let start = c .before .before .before .before .before .before in
     refuses (remove-no-ear (start .pre) (start .args .corner) (omega arith) (c .before .before .before .if2 .left) (c .before .is-ear .ensures .1 (not-true _ (c .if3 .taken))))
 
-low-neighbour-requires : tie.Need-low-neighbour-requires
-low-neighbour-requires c κs = search needs
-
-high-neighbour-requires : tie.Need-high-neighbour-requires
-high-neighbour-requires c κs = search needs
-
-slice-reshare-prefix-remove : tie.Need-slice-reshare-prefix-remove
-slice-reshare-prefix-remove c = search needs
-
 slice-aggregate-remove : tie.Need-slice-aggregate-remove
 slice-aggregate-remove c = sym (keys-count (c .before .before .before .before .before .before .before .before .before .pre))
-
-key-requires : tie.Need-key-requires
-key-requires c κs = search needs
-
-slice-aggregate-remove-2 : tie.Need-slice-aggregate-remove-2
-slice-aggregate-remove-2 c = search needs
 
 remove-requires : tie.Need-remove-requires
 remove-requires c κs = omega (arith, keys-count (c .before .before .before .before .before .before .before .before .before .before .before .pre), c .before .before .before .before .before .before .before .before .before .before .before .pre .valid .most)
@@ -88,12 +61,6 @@ renumber-requires c κs =
     let start = c .before .before .before .before .before .before .before .before .before .before .before .before .before .before .before in
     (omega (arith, ear (c .before .before .before) .size, start .pre .room, start .pre .valid .most), can-fall (start .pre) (start .args .corner) (takes (c .before .before .before .before .before .before .before .before .before)) (ear (c .before .before .before)))
 
-sub-t25 : tie.Need-sub-t25
-sub-t25 c = search needs
-
-same-length-2 : tie.Need-same-length-2
-same-length-2 c = search needs
-
 returns-4 : tie.Need-returns-4
 returns-4 c =
     let at-renumber = c .before .before in
@@ -102,7 +69,7 @@ returns-4 c =
     (omega (arith, at-renumber .renumber .kept .1 .1 .0, start .pre .room))
 
 pub remove-from-spec : {M : Type 1} → statement M
-remove-from-spec =
-    tie.close (tie.spec returns returns-2 sub-m slice-reshare-prefix-is-ear slice-aggregate-is-ear is-ear-requires same-length returns-3 low-neighbour-requires
-    high-neighbour-requires slice-reshare-prefix-remove slice-aggregate-remove key-requires slice-aggregate-remove-2 remove-requires array-share-prefix-rest
-    slice-aggregate-renumber renumber-requires sub-t25 same-length-2 returns-4)
+remove-from-spec = tie.close
+    (tie.spec returns returns-2 (λ c. search needs) (λ c. search needs) slice-aggregate-is-ear (λ c κs. search needs) (λ c. search needs) returns-3
+    (λ c κs. search needs) (λ c κs. search needs) (λ c. search needs) slice-aggregate-remove (λ c κs. search needs) (λ c. search needs)
+    remove-requires array-share-prefix-rest slice-aggregate-renumber renumber-requires (λ c. search needs) (λ c. search needs) returns-4)

@@ -25,31 +25,13 @@ out c =
 count : (c : tie.After-remove) → c .remove .result ≡ length (take (c .remove .result) (c .remove .last .1 .1 .0))
 count c = c .remove .ensures .1 ∙ ap length (sym (c .remove .ensures .0))
 
-sub-m : tie.Need-sub-m
-sub-m c = search needs
-
-key-requires : tie.Need-key-requires
-key-requires c κs = search needs
-
-slice-reshare-prefix-has : tie.Need-slice-reshare-prefix-has
-slice-reshare-prefix-has c = search needs
-
 slice-aggregate-has : tie.Need-slice-aggregate-has
 slice-aggregate-has c = sym (keys-count (c .before .before .before .pre .0))
-
-has-requires : tie.Need-has-requires
-has-requires c κs = search needs
-
-same-length : tie.Need-same-length
-same-length c = search needs
 
 returns : tie.Need-returns
 returns c =
     let start = c .before .before .before .before .before in
     refuses (turn-lacks (start .pre .0) (start .args .a) (start .args .b) (start .pre .1 .0) (start .pre .1 .1) (c .before .before .before .key .ensures) (c .before .has .ensures .1 (not-true _ (c .if1 .taken))))
-
-slice-reshare-prefix-turned-key : tie.Need-slice-reshare-prefix-turned-key
-slice-reshare-prefix-turned-key c = search needs
 
 slice-aggregate-turned-key : tie.Need-slice-aggregate-turned-key
 slice-aggregate-turned-key c = sym (keys-count (c .before .before .before .before .before .before .pre .0))
@@ -59,20 +41,11 @@ turned-key-requires c κs =
     let start = c .before .before .before .before .before .before in
     (start .pre .0 .valid .least, start .pre .0 .valid .most, omega (arith, start .pre .1), start .pre .1 .1, keys-small (start .pre .0))
 
-slice-reshare-prefix-remove : tie.Need-slice-reshare-prefix-remove
-slice-reshare-prefix-remove c = search needs
-
 slice-aggregate-remove : tie.Need-slice-aggregate-remove
 slice-aggregate-remove c = sym (keys-count (c .before .before .before .before .before .before .before .before .pre .0))
 
-slice-aggregate-remove-2 : tie.Need-slice-aggregate-remove-2
-slice-aggregate-remove-2 c = search needs
-
 remove-requires : tie.Need-remove-requires
 remove-requires c κs = omega (arith, keys-count (c .before .before .before .before .before .before .before .before .before .pre .0), c .before .before .before .before .before .before .before .before .before .pre .0 .valid .most)
-
-slice-aggregate-merge : tie.Need-slice-aggregate-merge
-slice-aggregate-merge c = search needs
 
 array-share-prefix-rest : tie.Need-array-share-prefix-rest
 array-share-prefix-rest c = omega (arith, count (c .before .before), out (c .before .before) .size, c .before .before .remove .kept .1 .1 .0, c .before .before .before .before .before .before .before .before .before .before .before .before .pre .0 .valid .most)
@@ -85,9 +58,6 @@ merge-requires c κs =
     let begun = c .before .before .before .before .before .before .before .before .before .before .before .before .before .before in
     omega (arith, out (c .before .before .before .before) .size, begun .pre .0 .room, begun .pre .0 .valid .most)
 
-same-length-2 : tie.Need-same-length-2
-same-length-2 c = search needs
-
 returns-2 : tie.Need-returns-2
 returns-2 c =
     let at-merge = c .before .before in
@@ -97,7 +67,7 @@ returns-2 c =
     (omega (arith, at-merge .merge .kept .1 .1 .0, s .pre .0 .room))
 
 pub turn-spec : {M : Type 1} → statement M
-turn-spec =
-    tie.close (tie.spec sub-m key-requires slice-reshare-prefix-has slice-aggregate-has has-requires same-length returns slice-reshare-prefix-turned-key
-    slice-aggregate-turned-key turned-key-requires slice-reshare-prefix-remove slice-aggregate-remove slice-aggregate-remove-2 remove-requires slice-aggregate-merge
-    array-share-prefix-rest slice-aggregate-merge-2 merge-requires same-length-2 returns-2)
+turn-spec = tie.close
+    (tie.spec (λ c. search needs) (λ c κs. search needs) (λ c. search needs) slice-aggregate-has (λ c κs. search needs) (λ c. search needs) returns
+    (λ c. search needs) slice-aggregate-turned-key turned-key-requires (λ c. search needs) slice-aggregate-remove (λ c. search needs) remove-requires
+    (λ c. search needs) array-share-prefix-rest slice-aggregate-merge-2 merge-requires (λ c. search needs) returns-2)

@@ -10,23 +10,11 @@ use Rattle.edit.proofs.Turning.{first-found, second-found}
 use Rattle.edit.proofs.held.turned_key.Statement.{statement}
 use Rattle.edit.proofs.held.turned_key.Tie as tie
 
-slice-aggregate-mark : tie.Need-slice-aggregate-mark
-slice-aggregate-mark c = search needs
-
 mark-requires : tie.Need-mark-requires
 mark-requires c κs = ((c .before .before .pre .0, c .before .before .pre .1, c .before .before .pre .2, refl, c .before .before .pre .4), blank 1025)
 
-slice-aggregate-mark-2 : tie.Need-slice-aggregate-mark-2
-slice-aggregate-mark-2 c = search needs
-
 mark-requires-2 : tie.Need-mark-requires-2
 mark-requires-2 c κs = ((c .before .before .before .before .before .pre .0, c .before .before .before .before .before .pre .1, c .before .before .before .before .before .pre .3, refl, c .before .before .before .before .before .pre .4), blank 1025)
-
-slice-aggregate-first-common : tie.Need-slice-aggregate-first-common
-slice-aggregate-first-common c = search needs
-
-slice-aggregate-first-common-2 : tie.Need-slice-aggregate-first-common-2
-slice-aggregate-first-common-2 c = search needs
 
 first-common-requires : tie.Need-first-common-requires
 first-common-requires c κs = omega (arith, c .before .before .before .before .before .before .mark .kept .1 .1 .1 .0, c .before .before .before .mark2 .kept .1 .1 .1 .0, c .before .before .before .before .before .before .before .before .before .pre .1)
@@ -38,12 +26,6 @@ returns c =
     let start = at-mark .before .before .before in
     λ x y e. absurd
     (omega (arith, c .if1 .taken, first-found (start .args .n) (start .args .a) (start .args .b) (edgesOf (start .args .keys .now)) (at-mark .mark .last .1 .1 .1 .0) (at-mark2 .mark2 .last .1 .1 .1 .0) (at-mark .mark .ensures) (at-mark2 .mark2 .ensures) x y e _ (c .before .first-common .ensures)))
-
-slice-aggregate-first-common-3 : tie.Need-slice-aggregate-first-common-3
-slice-aggregate-first-common-3 c = search needs
-
-slice-aggregate-first-common-4 : tie.Need-slice-aggregate-first-common-4
-slice-aggregate-first-common-4 c = search needs
 
 add-first-common : tie.Need-add-first-common
 add-first-common c = omega (arith, c .before .before .before .before .before .before .before .before .before .before .before .before .before .pre .1, c .before .before .before .first-common .ensures, c .before .before .if1 .left)
@@ -83,7 +65,6 @@ returns-3 c =
     (F .0, second-found (start .args .n) (start .args .a) (start .args .b) (edgesOf (start .args .keys .now)) (at-mark .mark .last .1 .1 .1 .0) (at-mark2 .mark2 .last .1 .1 .1 .0) (at-mark .mark .ensures) (at-mark2 .mark2 .ensures) x y e _ C .0)
 
 pub turned-key-spec : {M : Type 1} → statement M
-turned-key-spec =
-    tie.close (tie.spec slice-aggregate-mark mark-requires slice-aggregate-mark-2 mark-requires-2 slice-aggregate-first-common slice-aggregate-first-common-2
-    first-common-requires returns slice-aggregate-first-common-3 slice-aggregate-first-common-4 add-first-common first-common-requires-2 returns-2 key-requires
-    returns-3)
+turned-key-spec = tie.close
+    (tie.spec (λ c. search needs) mark-requires (λ c. search needs) mark-requires-2 (λ c. search needs) (λ c. search needs) first-common-requires
+    returns (λ c. search needs) (λ c. search needs) add-first-common first-common-requires-2 returns-2 key-requires returns-3)

@@ -20,39 +20,15 @@ abbrev μ-loop : tie.MeasureT-loop
 loop-holds : tie.Need-loop-holds Inv-loop μ-loop
 loop-holds c = (omega arith, λ i h. absurd (omega arith))
 
-mul-low : tie.Need-mul-low Inv-loop μ-loop
-mul-low c = omega arith
-
-shared-slice-read-low : tie.Need-shared-slice-read-low Inv-loop μ-loop
-shared-slice-read-low c = omega arith
-
-low-requires : tie.Need-low-requires Inv-loop μ-loop
-low-requires c κs = omega arith
-
 returns : tie.Need-returns Inv-loop μ-loop
 returns c =
     let start = c .before .before .before .before .before .before in
     (λ h. absurd (false≢true h), λ h a. all-away (start .args .k) (start .args .keys .now) a (c .before .before .before .before .loop .j) (c .before .before .before .loop-test .taken) .0 (sym (c .before .low .ensures) ∙ c .if1 .taken))
 
-mul-high : tie.Need-mul-high Inv-loop μ-loop
-mul-high c = omega arith
-
-shared-slice-read-high : tie.Need-shared-slice-read-high Inv-loop μ-loop
-shared-slice-read-high c = omega arith
-
-high-requires : tie.Need-high-requires Inv-loop μ-loop
-high-requires c κs = omega arith
-
 returns-2 : tie.Need-returns-2 Inv-loop μ-loop
 returns-2 c =
     let at-loop = c .before .before .before .before .before .before .before in
     (λ h. absurd (false≢true h), λ h a. all-away (at-loop .before .before .args .k) (at-loop .before .before .args .keys .now) a (at-loop .loop .j) (c .before .before .before .before .before .before .loop-test .taken) .1 (sym (c .before .high .ensures .0) ∙ c .if2 .taken))
-
-add-j : tie.Need-add-j Inv-loop μ-loop
-add-j c = omega arith
-
-loop-less : tie.Need-loop-less Inv-loop μ-loop
-loop-less c = omega arith
 
 loop-again : tie.Need-loop-again Inv-loop μ-loop
 loop-again c = (omega arith, below-more _ _ (c .before .before .before .before .before .before .before .loop .inv .1) ((λ e. c .before .before .before .if1 .left (c .before .before .before .before .low .ensures ∙ e)), (λ e. c .if2 .left (c .before .high .ensures .0 ∙ e))))
@@ -61,4 +37,6 @@ returns-3 : tie.Need-returns-3 Inv-loop μ-loop
 returns-3 c = (λ h. away-all (c .before .before .before .args .k) (c .before .before .before .args .keys .now) (λ i l. c .before .loop .inv .1 i (omega arith)), λ h. absurd (true≢false h))
 
 pub is-ear-spec : {M : Type 1} → statement M
-is-ear-spec = tie.close (tie.spec Inv-loop μ-loop loop-holds mul-low shared-slice-read-low low-requires returns mul-high shared-slice-read-high high-requires returns-2 add-j loop-less loop-again returns-3)
+is-ear-spec = tie.close
+    (tie.spec Inv-loop μ-loop loop-holds (λ c. omega arith) (λ c. omega arith) (λ c κs. omega arith) returns (λ c. omega arith) (λ c. omega arith)
+    (λ c κs. omega arith) returns-2 (λ c. omega arith) (λ c. omega arith) loop-again returns-3)

@@ -9,17 +9,11 @@ use Rattle.edit.proofs.near.low_neighbour.Tie as tie
 returns : tie.Need-returns
 returns c = (ap (λ (e : Edge). e .0) (sym (neighbours-first (c .before .args .n) (c .before .args .k) (c .if1 .taken))), omega arith)
 
-add-if2 : tie.Need-add-if2
-add-if2 c = omega arith
-
 returns-2 : tie.Need-returns-2
 returns-2 c = (ap (λ (e : Edge). e .0) (sym (neighbours-last (c .before .before .args .n) (c .before .before .args .k) (c .before .if1 .left) (c .if2 .taken))), omega arith)
-
-sub-result : tie.Need-sub-result
-sub-result c = omega arith
 
 returns-3 : tie.Need-returns-3
 returns-3 c = (ap (λ (e : Edge). e .0) (sym (neighbours-inside (c .before .before .args .n) (c .before .before .args .k) (c .before .if1 .left) (c .if2 .left))), omega arith)
 
 pub low-neighbour-spec : {M : Type 1} → statement M
-low-neighbour-spec = tie.close (tie.spec returns add-if2 returns-2 sub-result returns-3)
+low-neighbour-spec = tie.close (tie.spec returns (λ c. omega arith) returns-2 (λ c. omega arith) returns-3)

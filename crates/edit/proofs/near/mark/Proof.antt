@@ -17,14 +17,8 @@ Inv-loop keys n c near₀ a b j₀ near j = (j ≤ length keys) × (length near 
 abbrev μ-loop : tie.MeasureT-loop
 μ-loop keys n c near₀ a b j₀ near j = length keys - j
 
-low-neighbour-requires : tie.Need-low-neighbour-requires Inv-loop μ-loop
-low-neighbour-requires c κs = omega arith
-
 slice-write-near : tie.Need-slice-write-near Inv-loop μ-loop
 slice-write-near c = omega (arith, c .low-neighbour .ensures, c .before .before .before .pre .0)
-
-high-neighbour-requires : tie.Need-high-neighbour-requires Inv-loop μ-loop
-high-neighbour-requires c κs = omega arith
 
 slice-write-near-2 : tie.Need-slice-write-near-2 Inv-loop μ-loop
 slice-write-near-2 c = simp length-set (omega (arith, c .high-neighbour .ensures, c .before .before .before .before .pre .0))
@@ -38,12 +32,6 @@ loop-holds c =
           (near-begin (start .args .n) (start .args .c) (start .args .near .now) (start .pre .0 .0) (start .pre .0 .1) (start .pre .0 .2) (start .pre .0 .3) (start .pre .1)),
     )
 
-mul-other-end : tie.Need-mul-other-end Inv-loop μ-loop
-mul-other-end c = omega arith
-
-shared-slice-read-other-end : tie.Need-shared-slice-read-other-end Inv-loop μ-loop
-shared-slice-read-other-end c = omega arith
-
 other-end-requires : tie.Need-other-end-requires Inv-loop μ-loop
 other-end-requires c κs = c .before .before .before .before .before .before .before .pre .0 .4 (c .before .before .loop .j) (c .before .loop-test .taken)
 
@@ -52,12 +40,6 @@ slice-write-near-3 c =
     let at-loop = c .before .before .before in
     let start = at-loop .before .before .before .before .before in
     omega (arith, at-loop .loop .inv .1, end-below (start .args .c) (getD (start .args .keys .now) (at-loop .loop .j) 0) (c .other-end .result) (start .pre .0 .4 (at-loop .loop .j) (c .before .before .loop-test .taken)) (c .other-end .ensures))
-
-add-j : tie.Need-add-j Inv-loop μ-loop
-add-j c = omega arith
-
-loop-less : tie.Need-loop-less Inv-loop μ-loop
-loop-less c = omega arith
 
 loop-again : tie.Need-loop-again Inv-loop μ-loop
 loop-again c =
@@ -78,4 +60,6 @@ returns : tie.Need-returns Inv-loop μ-loop
 returns c = rw (take-all (c .before .loop .j) (c .before .before .before .before .before .before .args .keys .now) (c .loop-test .left)) at (c .before .loop .inv .2)
 
 pub mark-spec : {M : Type 1} → statement M
-mark-spec = tie.close (tie.spec Inv-loop μ-loop low-neighbour-requires slice-write-near high-neighbour-requires slice-write-near-2 loop-holds mul-other-end shared-slice-read-other-end other-end-requires slice-write-near-3 add-j loop-less loop-again same-length returns)
+mark-spec = tie.close
+    (tie.spec Inv-loop μ-loop (λ c κs. omega arith) slice-write-near (λ c κs. omega arith) slice-write-near-2 loop-holds (λ c. omega arith)
+    (λ c. omega arith) other-end-requires slice-write-near-3 (λ c. omega arith) (λ c. omega arith) loop-again same-length returns)

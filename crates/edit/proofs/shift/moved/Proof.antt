@@ -15,14 +15,8 @@ up c = rw (c .shift .given .1) at (c .before .before .pre)
 down : (c : tie.After-shift2) → Movable (Down (c .shift2 .given .0 .0) (c .shift2 .given .0 .1 .0)) (c .before .before .args .x)
 down c = rw (c .shift2 .given .1) at (c .before .before .pre)
 
-enum-known-shift : tie.Need-enum-known-shift
-enum-known-shift c = search needs
-
 add-result : tie.Need-add-result
 add-result c = omega (arith, up (c .before .before) .1 (c .if1 .taken))
-
-enum-known-shift-2 : tie.Need-enum-known-shift-2
-enum-known-shift-2 c = search needs
 
 sub-result : tie.Need-sub-result
 sub-result c = down (c .before .before) .1 (c .if2 .taken)
@@ -40,4 +34,4 @@ returns-4 : tie.Need-returns-4
 returns-4 c = rw (c .before .before .shift2 .given .1) (sym (choose-no (decLt _ _) _ (λ h. omega arith)), down (c .before .before) .0)
 
 pub moved-spec : {M : Type 1} → statement M
-moved-spec = tie.close (tie.spec enum-known-shift add-result enum-known-shift-2 sub-result returns returns-2 returns-3 returns-4)
+moved-spec = tie.close (tie.spec (λ c. search needs) add-result (λ c. search needs) sub-result returns returns-2 returns-3 returns-4)

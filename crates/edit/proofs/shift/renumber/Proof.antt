@@ -18,14 +18,8 @@ abbrev μ-loop : tie.MeasureT-loop
 loop-holds : tie.Need-loop-holds Inv-loop μ-loop
 loop-holds c = record { upto = omega arith; kept = refl; done = refl }
 
-mul-low : tie.Need-mul-low Inv-loop μ-loop
-mul-low c = omega arith
-
 shared-slice-read-low : tie.Need-shared-slice-read-low Inv-loop μ-loop
 shared-slice-read-low c = omega (arith, c .before .before .loop .inv .kept)
-
-low-requires : tie.Need-low-requires Inv-loop μ-loop
-low-requires c κs = omega arith
 
 moved-requires : tie.Need-moved-requires Inv-loop μ-loop
 moved-requires c κs =
@@ -33,14 +27,8 @@ moved-requires c κs =
     let start = at-test .before .before .before .before in
     rw (c .low .ensures) (edges-at {Q = λ e. Movable (start .args .shift) (e .0) × Movable (start .args .shift) (e .1)} (start .args .keys .now) (start .pre .1) (at-test .before .loop .j) (at-test .loop-test .taken) .0)
 
-mul-high : tie.Need-mul-high Inv-loop μ-loop
-mul-high c = omega arith
-
 shared-slice-read-high : tie.Need-shared-slice-read-high Inv-loop μ-loop
 shared-slice-read-high c = omega (arith, c .before .before .before .before .before .loop .inv .kept)
-
-high-requires : tie.Need-high-requires Inv-loop μ-loop
-high-requires c κs = omega arith
 
 moved-requires-2 : tie.Need-moved-requires-2 Inv-loop μ-loop
 moved-requires-2 c κs =
@@ -48,20 +36,8 @@ moved-requires-2 c κs =
     let start = at-test .before .before .before .before in
     rw (c .high .ensures .0) (edges-at {Q = λ e. Movable (start .args .shift) (e .0) × Movable (start .args .shift) (e .1)} (start .args .keys .now) (start .pre .1) (at-test .before .loop .j) (at-test .loop-test .taken) .1)
 
-key-requires : tie.Need-key-requires Inv-loop μ-loop
-key-requires c κs = omega arith
-
-mul-out : tie.Need-mul-out Inv-loop μ-loop
-mul-out c = omega arith
-
 slice-write-out : tie.Need-slice-write-out Inv-loop μ-loop
 slice-write-out c = omega (arith, c .before .before .before .before .before .before .before .before .loop .inv .kept)
-
-add-j : tie.Need-add-j Inv-loop μ-loop
-add-j c = omega arith
-
-loop-less : tie.Need-loop-less Inv-loop μ-loop
-loop-less c = omega arith
 
 loop-again : tie.Need-loop-again Inv-loop μ-loop
 loop-again c =
@@ -79,4 +55,7 @@ returns : tie.Need-returns Inv-loop μ-loop
 returns c = mapping-end (c .before .loop .inv) (c .loop-test .left)
 
 pub renumber-spec : {M : Type 1} → statement M
-renumber-spec = tie.close (tie.spec Inv-loop μ-loop loop-holds mul-low shared-slice-read-low low-requires moved-requires mul-high shared-slice-read-high high-requires moved-requires-2 key-requires mul-out slice-write-out add-j loop-less loop-again same-length returns)
+renumber-spec = tie.close
+    (tie.spec Inv-loop μ-loop loop-holds (λ c. omega arith) shared-slice-read-low (λ c κs. omega arith) moved-requires (λ c. omega arith)
+    shared-slice-read-high (λ c κs. omega arith) moved-requires-2 (λ c κs. omega arith) (λ c. omega arith) slice-write-out (λ c. omega arith)
+    (λ c. omega arith) loop-again same-length returns)

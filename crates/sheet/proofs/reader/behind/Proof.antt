@@ -11,9 +11,6 @@ cast-result c = omega (arith, fields (c .args .map) (c .pre .0))
 sub-result : tie.Need-sub-result
 sub-result c = omega (arith, fields (c .args .map) (c .pre .0))
 
-cast-result-2 : tie.Need-cast-result-2
-cast-result-2 c = search needs
-
 sub-result-2 : tie.Need-sub-result-2
 sub-result-2 c = omega (arith, fields (c .args .map) (c .pre .0))
 
@@ -21,4 +18,4 @@ returns : tie.Need-returns
 returns c = omega (arith, fields (c .args .map) (c .pre .0))
 
 pub behind-spec : {M : Type 1} → statement M
-behind-spec = tie.close (tie.spec cast-result sub-result cast-result-2 sub-result-2 returns)
+behind-spec = tie.close (tie.spec cast-result sub-result (λ c. search needs) sub-result-2 returns)

@@ -6,21 +6,6 @@ use Rattle.sheet.proofs.Pairs.{lower-above}
 use Rattle.sheet.proofs.reader.pair_key.Statement.{statement}
 use Rattle.sheet.proofs.reader.pair_key.Tie as tie
 
-get16-requires : tie.Need-get16-requires
-get16-requires c κs = search needs
-
-add-get16 : tie.Need-add-get16
-add-get16 c = search needs
-
-get16-requires-2 : tie.Need-get16-requires-2
-get16-requires-2 c κs = search needs
-
-edge-key-requires : tie.Need-edge-key-requires
-edge-key-requires c κs = search needs
-
-edge-key-requires-2 : tie.Need-edge-key-requires-2
-edge-key-requires-2 c κs = search needs
-
 returns : tie.Need-returns
 returns c = rw (← c .before .before .before .get16 .ensures .0, ← c .before .before .get162 .ensures .0, lower-first-same (c .before .before .before .get16 .result, c .before .before .get162 .result) (omega (arith, c .before .if1 .taken))) (c .edge-key .ensures)
 
@@ -28,4 +13,5 @@ returns-2 : tie.Need-returns-2
 returns-2 c = rw (← c .before .before .before .get16 .ensures .0, ← c .before .before .get162 .ensures .0, lower-above _ _ (c .before .if1 .left)) (c .edge-key2 .ensures)
 
 pub pair-key-spec : {M : Type 1} → statement M
-pair-key-spec = tie.close (tie.spec get16-requires add-get16 get16-requires-2 edge-key-requires edge-key-requires-2 returns returns-2)
+pair-key-spec = tie.close
+    (tie.spec (λ c κs. search needs) (λ c. search needs) (λ c κs. search needs) (λ c κs. search needs) (λ c κs. search needs) returns returns-2)

@@ -10,9 +10,6 @@ use Rattle.sheet.proofs.reader.read_head.Tie as tie
 returns : tie.Need-returns
 returns c = refused-1a (c .before .before .args .sheet .now) (omega arith)
 
-shared-slice-read-map : tie.Need-shared-slice-read-map
-shared-slice-read-map c = search needs
-
 returns-2 : tie.Need-returns-2
 returns-2 c = refused-1b (c .before .before .before .before .args .sheet .now) (omega arith)
 
@@ -22,46 +19,22 @@ returns-3 c = refused-1c (c .before .before .before .before .before .args .sheet
 returns-4 : tie.Need-returns-4
 returns-4 c = refused-2a (c .before .before .before .before .before .before .args .sheet .now) (omega arith) (omega arith) (omega arith) (omega arith)
 
-get16-requires : tie.Need-get16-requires
-get16-requires c κs = search needs
-
 returns-5 : tie.Need-returns-5
 returns-5 c = refused-3a (c .before .before .before .before .before .before .before .before .args .sheet .now) (omega arith) (omega arith) (omega arith) (omega arith) (omega (arith, c .before .get16 .ensures))
 
 returns-6 : tie.Need-returns-6
 returns-6 c = refused-3b (c .before .before .before .before .before .before .before .before .before .args .sheet .now) (omega arith) (omega arith) (omega arith) (omega arith) (omega (arith, c .before .before .get16 .ensures))
 
-agrees-requires : tie.Need-agrees-requires
-agrees-requires c κs = search needs
-
 returns-7 : tie.Need-returns-7
 returns-7 c =
     let start = c .before .before .before .before .before .before .before .before .before .before .before in
     disagrees (start .args .sheet .now) (c .before .before .before .before .get16 .result) (omega arith) (omega arith) (omega arith) (omega arith) (c .before .before .before .before .get16 .ensures .0) (omega arith) (omega arith) (c .before .agrees .ensures .1 (not-true _ (c .if7 .taken)))
-
-behind-requires : tie.Need-behind-requires
-behind-requires c κs = search needs
-
-mul-end : tie.Need-mul-end
-mul-end c = search needs
-
-add-end : tie.Need-add-end
-add-end c = search needs
-
-mul-if8 : tie.Need-mul-if8
-mul-if8 c = search needs
-
-add-if8 : tie.Need-add-if8
-add-if8 c = search needs
 
 returns-8 : tie.Need-returns-8
 returns-8 c =
     inexact (c .before .before .before .before .before .before .before .before .before .before .before .before .before .args .sheet .now) (c .before .before .before .before .before .before .get16 .result)
     (omega arith) (omega arith) (omega arith) (omega arith) (c .before .before .before .before .before .before .get16 .ensures .0) (omega arith) (omega arith)
     (c .before .before .before .agrees .ensures .0 (not-false _ (c .before .before .if7 .left))) (c .before .behind .result) (c .before .behind .ensures .0) (c .if8 .taken)
-
-get32-requires : tie.Need-get32-requires
-get32-requires c κs = search needs
 
 returns-9 : tie.Need-returns-9
 returns-9 c =
@@ -82,4 +55,7 @@ returns-10 c =
     (at-behind .behind .ensures .0) (c .before .if8 .left) (c .if9 .left) (at-behind .behind .ensures .1)
 
 pub read-head-spec : {M : Type 1} → statement M
-read-head-spec = tie.close (tie.spec returns shared-slice-read-map returns-2 returns-3 returns-4 get16-requires returns-5 returns-6 agrees-requires returns-7 behind-requires mul-end add-end mul-if8 add-if8 returns-8 get32-requires returns-9 returns-10)
+read-head-spec = tie.close
+    (tie.spec returns (λ c. search needs) returns-2 returns-3 returns-4 (λ c κs. search needs) returns-5 returns-6 (λ c κs. search needs) returns-7
+    (λ c κs. search needs) (λ c. search needs) (λ c. search needs) (λ c. search needs) (λ c. search needs) returns-8 (λ c κs. search needs) returns-9
+    returns-10)

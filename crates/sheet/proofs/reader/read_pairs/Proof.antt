@@ -15,20 +15,8 @@ Inv-loop sheet n keys₀ m i₀ keys i = (m ≡ n - 3) × Listed sheet n (length
 abbrev μ-loop : tie.MeasureT-loop
 μ-loop sheet n keys₀ m i₀ keys i = m - i
 
-sub-m : tie.Need-sub-m Inv-loop μ-loop
-sub-m c = omega arith
-
 loop-holds : tie.Need-loop-holds Inv-loop μ-loop
 loop-holds c = (omega arith, listed-none _ _ _)
-
-mul-pair-key : tie.Need-mul-pair-key Inv-loop μ-loop
-mul-pair-key c = omega arith
-
-add-pair-key : tie.Need-add-pair-key Inv-loop μ-loop
-add-pair-key c = omega arith
-
-pair-key-requires : tie.Need-pair-key-requires Inv-loop μ-loop
-pair-key-requires c κs = omega arith
 
 same-length : tie.Need-same-length Inv-loop μ-loop
 same-length c = c .before .before .before .loop .inv .1 .size
@@ -38,17 +26,8 @@ returns c =
     let start = c .before .before .before .before .before .before in
     (λ h. absurd (false≢true h), λ h a. c .before .pair-key .ensures .none (c .if1 .taken) (all-mem a (pairs-at (start .args .sheet .now) 3 (start .args .n - 3) (c .before .before .before .loop .i) (omega arith))))
 
-mul-keys : tie.Need-mul-keys Inv-loop μ-loop
-mul-keys c = omega arith
-
 slice-write-keys : tie.Need-slice-write-keys Inv-loop μ-loop
 slice-write-keys c = omega (arith, c .before .before .before .loop .inv .1 .size)
-
-add-i : tie.Need-add-i Inv-loop μ-loop
-add-i c = omega arith
-
-loop-less : tie.Need-loop-less Inv-loop μ-loop
-loop-less c = omega arith
 
 loop-again : tie.Need-loop-again Inv-loop μ-loop
 loop-again c =
@@ -64,4 +43,6 @@ returns-2 : tie.Need-returns-2 Inv-loop μ-loop
 returns-2 c = let e : c .before .loop .i ≡ c .before .before .before .before .args .n - 3 = omega (arith, c .before .loop .inv .1 .upto) in (λ h. rw (← e) (c .before .loop .inv .1 .diagonals, c .before .loop .inv .1 .edges), λ h. absurd (true≢false h))
 
 pub read-pairs-spec : {M : Type 1} → statement M
-read-pairs-spec = tie.close (tie.spec Inv-loop μ-loop sub-m loop-holds mul-pair-key add-pair-key pair-key-requires same-length returns mul-keys slice-write-keys add-i loop-less loop-again same-length-2 returns-2)
+read-pairs-spec = tie.close
+    (tie.spec Inv-loop μ-loop (λ c. omega arith) loop-holds (λ c. omega arith) (λ c. omega arith) (λ c κs. omega arith) same-length returns
+    (λ c. omega arith) slice-write-keys (λ c. omega arith) (λ c. omega arith) loop-again same-length-2 returns-2)

@@ -30,23 +30,11 @@ ordered c =
       order = c .order .ensures .0;
     }
 
-read-head-requires : tie.Need-read-head-requires
-read-head-requires c κs = search needs
-
-enum-known-k : tie.Need-enum-known-k
-enum-known-k c = search needs
-
-enum-known-h : tie.Need-enum-known-h
-enum-known-h c = search needs
-
 sub-m : tie.Need-sub-m
 sub-m c = omega (arith, room (head (c .before)))
 
 read-pairs-requires : tie.Need-read-pairs-requires
 read-pairs-requires c κs = let R = room (head (c .before .before)) in omega arith
-
-same-length : tie.Need-same-length
-same-length c = search needs
 
 returns : tie.Need-returns
 returns c =
@@ -72,9 +60,6 @@ order-requires c κs =
     let e = length-take-le (at-h .h .given .0 .0 .n - 3) (at-read-pairs .read-pairs .last .1 .1 .0) (omega (arith, at-read-pairs .read-pairs .kept .1 .1 .0)) in
     (omega (arith, e), small-all (at-h .h .given .0 .0 .n) _ (R .1) (rw (pairs .1) (pairs .0)))
 
-same-length-2 : tie.Need-same-length-2
-same-length-2 c = search needs
-
 returns-2 : tie.Need-returns-2
 returns-2 c =
     let at-order = c .before .before .before in
@@ -94,9 +79,6 @@ crosses-requires c κs =
     let F = ordered at-order in
     (in-order F (sym (not-false _ (c .before .if2 .left)) ∙ at-order .order .ensures .1), omega (arith, room (F .head), first-count F))
 
-same-length-3 : tie.Need-same-length-3
-same-length-3 c = search needs
-
 returns-3 : tie.Need-returns-3
 returns-3 c =
     let at-if2 = c .before .before .before in
@@ -106,9 +88,6 @@ returns-3 c =
 returns-4 : tie.Need-returns-4
 returns-4 c = refuses (says-refused (c .before .before .before .before .before .before .args .sheet .now) _ _ (c .before .before .before .read-head .ensures) (c .before .k .given .1))
 
-same-length-4 : tie.Need-same-length-4
-same-length-4 c = search needs
-
 returns-5 : tie.Need-returns-5
 returns-5 c =
     let at-if2 = c .before .before .before in
@@ -116,7 +95,7 @@ returns-5 c =
     read (ordered at-order) (sym (not-false _ (at-if2 .if2 .left)) ∙ at-order .order .ensures .1) (c .before .crosses .ensures .0 (c .if3 .left))
 
 pub read-sheet-spec : {M : Type 1} → statement M
-read-sheet-spec =
-    tie.close (tie.spec read-head-requires enum-known-k enum-known-h sub-m read-pairs-requires same-length returns slice-relend-prefix-order slice-aggregate-order
-    order-requires same-length-2 returns-2 slice-reshare-prefix-crosses slice-aggregate-crosses crosses-requires same-length-3 returns-3 returns-4 same-length-4
-    returns-5)
+read-sheet-spec = tie.close
+    (tie.spec (λ c κs. search needs) (λ c. search needs) (λ c. search needs) sub-m read-pairs-requires (λ c. search needs) returns
+    slice-relend-prefix-order slice-aggregate-order order-requires (λ c. search needs) returns-2 slice-reshare-prefix-crosses slice-aggregate-crosses
+    crosses-requires (λ c. search needs) returns-3 returns-4 (λ c. search needs) returns-5)

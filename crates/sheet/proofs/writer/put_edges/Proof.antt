@@ -20,44 +20,11 @@ loop-holds : tie.Need-loop-holds Inv-loop μ-loop
 unfolding pairBytes
 loop-holds c = (omega arith, refl, refl)
 
-mul-k : tie.Need-mul-k Inv-loop μ-loop
-mul-k c = omega arith
-
-shared-slice-read-k : tie.Need-shared-slice-read-k Inv-loop μ-loop
-shared-slice-read-k c = omega arith
-
-mul-put16 : tie.Need-mul-put16 Inv-loop μ-loop
-mul-put16 c = omega arith
-
-add-put16 : tie.Need-add-put16 Inv-loop μ-loop
-add-put16 c = omega arith
-
-low-requires : tie.Need-low-requires Inv-loop μ-loop
-low-requires c κs = omega arith
-
 put16-requires : tie.Need-put16-requires Inv-loop μ-loop
 put16-requires c κs = omega (arith, c .low .ensures, c .before .before .before .before .before .before .before .pre .1 (c .before .before .before .before .loop .i) (c .before .before .before .loop-test .taken))
 
-mul-put16-2 : tie.Need-mul-put16-2 Inv-loop μ-loop
-mul-put16-2 c = omega arith
-
-add-put16-2 : tie.Need-add-put16-2 Inv-loop μ-loop
-add-put16-2 c = omega arith
-
-add-put16-3 : tie.Need-add-put16-3 Inv-loop μ-loop
-add-put16-3 c = omega arith
-
-high-requires : tie.Need-high-requires Inv-loop μ-loop
-high-requires c κs = omega arith
-
 put16-requires-2 : tie.Need-put16-requires-2 Inv-loop μ-loop
 put16-requires-2 c κs = omega (arith, c .before .before .before .before .put16 .kept .0, c .high .ensures)
-
-add-i : tie.Need-add-i Inv-loop μ-loop
-add-i c = omega arith
-
-loop-less : tie.Need-loop-less Inv-loop μ-loop
-loop-less c = omega arith
 
 loop-again : tie.Need-loop-again Inv-loop μ-loop
 loop-again c =
@@ -80,4 +47,7 @@ returns : tie.Need-returns Inv-loop μ-loop
 returns c = c .before .loop .inv .2 ∙ rw (take-all (c .before .loop .i) (c .before .before .before .before .args .keys .now) (omega arith))
 
 pub put-edges-spec : {M : Type 1} → statement M
-put-edges-spec = tie.close (tie.spec Inv-loop μ-loop loop-holds mul-k shared-slice-read-k mul-put16 add-put16 low-requires put16-requires mul-put16-2 add-put16-2 add-put16-3 high-requires put16-requires-2 add-i loop-less loop-again same-length returns)
+put-edges-spec = tie.close
+    (tie.spec Inv-loop μ-loop loop-holds (λ c. omega arith) (λ c. omega arith) (λ c. omega arith) (λ c. omega arith) (λ c κs. omega arith)
+    put16-requires (λ c. omega arith) (λ c. omega arith) (λ c. omega arith) (λ c κs. omega arith) put16-requires-2 (λ c. omega arith)
+    (λ c. omega arith) loop-again same-length returns)

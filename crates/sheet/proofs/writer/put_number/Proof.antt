@@ -8,9 +8,6 @@ put32-requires : tie.Need-put32-requires
 unfolding numberBytes
 put32-requires c κs = rw (c .before .if1 .taken) at (c .before .before .before .pre)
 
-same-length : tie.Need-same-length
-same-length c = search needs
-
 returns : tie.Need-returns
 unfolding numberBytes
 returns c = rw (c .before .before .before .before .if1 .taken) (c .before .before .put32 .ensures)
@@ -20,4 +17,4 @@ unfolding numberBytes
 returns-2 c = rw (c .if1 .left)
 
 pub put-number-spec : {M : Type 1} → statement M
-put-number-spec = tie.close (tie.spec put32-requires same-length returns returns-2)
+put-number-spec = tie.close (tie.spec put32-requires (λ c. search needs) returns returns-2)

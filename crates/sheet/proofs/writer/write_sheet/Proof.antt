@@ -9,18 +9,6 @@ use Rattle.sheet.proofs.Writing.{too-short, finished}
 use Rattle.sheet.proofs.writer.write_sheet.Statement.{statement}
 use Rattle.sheet.proofs.writer.write_sheet.Tie as tie
 
-sub-m : tie.Need-sub-m
-sub-m c = search needs
-
-mul-end : tie.Need-mul-end
-mul-end c = search needs
-
-add-end : tie.Need-add-end
-add-end c = search needs
-
-number-size-requires : tie.Need-number-size-requires
-number-size-requires c κs = search needs
-
 add-size : tie.Need-add-size
 add-size c = omega (arith, c .number-size .ensures .0, c .before .before .before .pre .valid .most)
 
@@ -28,12 +16,6 @@ returns : tie.Need-returns
 returns c =
     let start = c .before .before .before .before in
     too-short (start .pre) (start .args .out .now) (c .before .number-size .result) (c .before .number-size .ensures .1 (start .args .h .number)) (c .if1 .taken)
-
-map-byte-requires : tie.Need-map-byte-requires
-map-byte-requires c κs = search needs
-
-slice-write-out : tie.Need-slice-write-out
-slice-write-out c = search needs
 
 put16-requires : tie.Need-put16-requires
 put16-requires c κs = simp length-set (omega (arith, c .before .before .before .before .before .before .pre .valid .most))
@@ -79,4 +61,6 @@ returns-2 c =
     (c .before .before .put-number .ensures ∙ rw (at-put-edges .put-edges .ensures, at-put16 .put16 .ensures, at-map-byte .map-byte .ensures (start .args .h .number)))
 
 pub write-sheet-spec : {M : Type 1} → statement M
-write-sheet-spec = tie.close (tie.spec sub-m mul-end add-end number-size-requires add-size returns map-byte-requires slice-write-out put16-requires slice-aggregate-put-edges put-edges-requires put-number-requires same-length returns-2)
+write-sheet-spec = tie.close
+    (tie.spec (λ c. search needs) (λ c. search needs) (λ c. search needs) (λ c κs. search needs) add-size returns (λ c κs. search needs)
+    (λ c. search needs) put16-requires slice-aggregate-put-edges put-edges-requires put-number-requires same-length returns-2)

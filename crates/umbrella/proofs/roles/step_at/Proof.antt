@@ -5,9 +5,6 @@ use Rattle.umbrella.specs.Roles.{stepAt}
 use Rattle.umbrella.proofs.roles.step_at.Statement.{statement}
 use Rattle.umbrella.proofs.roles.step_at.Tie as tie
 
-enum-told : tie.Need-enum-told
-enum-told c = search needs
-
 returns : tie.Need-returns
 unfolding stepAt
 returns c = rw (c .enum-told .given .1)
@@ -29,6 +26,7 @@ unfolding stepAt
 returns-5 c = rw (c .before .before .enum-told5 .given .1) (c .stem-step2 .ensures ∙ rw (c .before .goes-left2 .ensures, c .before .before .enum-told5 .given .1))
 
 pub step-at-spec : {M : Type 1} → statement M
-step-at-spec =
-    tie.close (tie.spec enum-told (λ c. search needs) (λ c κs. search needs) (λ c. search needs) (λ c κs. search needs) (λ c. search needs) (λ c κs. search needs) (λ c κs. search needs)
-    (λ c. search needs) (λ c κs. search needs) (λ c κs. search needs) returns returns-2 returns-3 returns-4 returns-5)
+step-at-spec = tie.close
+    (tie.spec (λ c. search needs) (λ c. search needs) (λ c κs. search needs) (λ c. search needs) (λ c κs. search needs) (λ c. search needs)
+    (λ c κs. search needs) (λ c κs. search needs) (λ c. search needs) (λ c κs. search needs) (λ c κs. search needs) returns returns-2 returns-3
+    returns-4 returns-5)
