@@ -32,16 +32,16 @@ fn pack(w: Written) -> u64
 // Set in order.
 #[no_mangle]
 pub extern "C" fn bend_normalize(sheet: &[u8], out: &mut [u8]) -> u64
-    ensures { λ r. ⌜ r ≡ packed (written (ordered (now (sheet .entry))) (now (out .entry))) ⌝ }
-    ensures { λ r. ⌜ now (out .exit) ≡ written (ordered (now (sheet .entry))) (now (out .entry)) .bytes ⌝ }
+    ensures answer { λ r. ⌜ r ≡ packed (written (ordered (now (sheet .entry))) (now (out .entry))) ⌝ }
+    ensures bytes { λ r. ⌜ now (out .exit) ≡ written (ordered (now (sheet .entry))) (now (out .entry)) .bytes ⌝ }
 {
     pack(sheet::normalize(sheet, out))
 }
 
 // An edit.
 fn pack_edit(sheet: &[u8], e: Edit, out: &mut [u8]) -> u64
-    ensures { λ r. ⌜ r ≡ packed (written (edited (editOf e) (now (sheet .entry))) (now (out .entry))) ⌝ }
-    ensures { λ r. ⌜ now (out .exit) ≡ written (edited (editOf e) (now (sheet .entry))) (now (out .entry)) .bytes ⌝ }
+    ensures answer { λ r. ⌜ r ≡ packed (written (edited (editOf e) (now (sheet .entry))) (now (out .entry))) ⌝ }
+    ensures bytes { λ r. ⌜ now (out .exit) ≡ written (edited (editOf e) (now (sheet .entry))) (now (out .entry)) .bytes ⌝ }
 {
     pack(edit::edit(sheet, e, out))
 }
@@ -49,8 +49,8 @@ fn pack_edit(sheet: &[u8], e: Edit, out: &mut [u8]) -> u64
 // Add a corner on a side.
 #[no_mangle]
 pub extern "C" fn bend_add_ear(sheet: &[u8], side: usize, out: &mut [u8]) -> u64
-    ensures { λ r. ⌜ r ≡ packed (written (edited (addEar side) (now (sheet .entry))) (now (out .entry))) ⌝ }
-    ensures { λ r. ⌜ now (out .exit) ≡ written (edited (addEar side) (now (sheet .entry))) (now (out .entry)) .bytes ⌝ }
+    ensures answer { λ r. ⌜ r ≡ packed (written (edited (addEar side) (now (sheet .entry))) (now (out .entry))) ⌝ }
+    ensures bytes { λ r. ⌜ now (out .exit) ≡ written (edited (addEar side) (now (sheet .entry))) (now (out .entry)) .bytes ⌝ }
 {
     pack_edit(sheet, Edit::AddEar(side), out)
 }
@@ -58,8 +58,8 @@ pub extern "C" fn bend_add_ear(sheet: &[u8], side: usize, out: &mut [u8]) -> u64
 // Take off a corner.
 #[no_mangle]
 pub extern "C" fn bend_remove_ear(sheet: &[u8], corner: usize, out: &mut [u8]) -> u64
-    ensures { λ r. ⌜ r ≡ packed (written (edited (removeEar corner) (now (sheet .entry))) (now (out .entry))) ⌝ }
-    ensures { λ r. ⌜ now (out .exit) ≡ written (edited (removeEar corner) (now (sheet .entry))) (now (out .entry)) .bytes ⌝ }
+    ensures answer { λ r. ⌜ r ≡ packed (written (edited (removeEar corner) (now (sheet .entry))) (now (out .entry))) ⌝ }
+    ensures bytes { λ r. ⌜ now (out .exit) ≡ written (edited (removeEar corner) (now (sheet .entry))) (now (out .entry)) .bytes ⌝ }
 {
     pack_edit(sheet, Edit::RemoveEar(corner), out)
 }
@@ -67,8 +67,8 @@ pub extern "C" fn bend_remove_ear(sheet: &[u8], corner: usize, out: &mut [u8]) -
 // Turn a diagonal, named in either order.
 #[no_mangle]
 pub extern "C" fn bend_flip(sheet: &[u8], a: usize, b: usize, out: &mut [u8]) -> u64
-    ensures { λ r. ⌜ r ≡ packed (written (edited (flip a b) (now (sheet .entry))) (now (out .entry))) ⌝ }
-    ensures { λ r. ⌜ now (out .exit) ≡ written (edited (flip a b) (now (sheet .entry))) (now (out .entry)) .bytes ⌝ }
+    ensures answer { λ r. ⌜ r ≡ packed (written (edited (flip a b) (now (sheet .entry))) (now (out .entry))) ⌝ }
+    ensures bytes { λ r. ⌜ now (out .exit) ≡ written (edited (flip a b) (now (sheet .entry))) (now (out .entry)) .bytes ⌝ }
 {
     pack_edit(sheet, Edit::Flip(a, b), out)
 }
@@ -98,12 +98,13 @@ pub extern "C" fn bend_run_edits(
     back: &mut [u8],
     numbers: &mut [u8],
 ) -> u64
-    ensures { λ r. ⌜ r ≡ packedRun (resultOf (now (first .entry)) (now (list .entry)) (now (front .entry)) (now (back .entry)) (now (numbers .entry))) ⌝ }
-    ensures { λ r. ⌜ now (front .exit)
+    ensures answer { λ r. ⌜ r
+        ≡ packedRun (resultOf (now (first .entry)) (now (list .entry)) (now (front .entry)) (now (back .entry)) (now (numbers .entry))) ⌝ }
+    ensures front { λ r. ⌜ now (front .exit)
         ≡ resultOf (now (first .entry)) (now (list .entry)) (now (front .entry)) (now (back .entry)) (now (numbers .entry)) .front ⌝ }
-    ensures { λ r. ⌜ now (back .exit)
+    ensures back { λ r. ⌜ now (back .exit)
         ≡ resultOf (now (first .entry)) (now (list .entry)) (now (front .entry)) (now (back .entry)) (now (numbers .entry)) .back ⌝ }
-    ensures { λ r. ⌜ now (numbers .exit)
+    ensures numbers { λ r. ⌜ now (numbers .exit)
         ≡ resultOf (now (first .entry)) (now (list .entry)) (now (front .entry)) (now (back .entry)) (now (numbers .entry)) .outs ⌝ }
 {
     pack_run(edit_list::run(first, list, front, back, numbers))
@@ -132,8 +133,8 @@ pub extern "C" fn bend_plan(sheet: &[u8]) -> u64
 // Draw, without the bar list.
 #[no_mangle]
 pub extern "C" fn bend_draw(sheet: &[u8], out: &mut [u8]) -> u64
-    ensures { λ r. ⌜ r ≡ packed (written (drawn (now (sheet .entry))) (now (out .entry))) ⌝ }
-    ensures { λ r. ⌜ now (out .exit) ≡ written (drawn (now (sheet .entry))) (now (out .entry)) .bytes ⌝ }
+    ensures answer { λ r. ⌜ r ≡ packed (written (drawn (now (sheet .entry))) (now (out .entry))) ⌝ }
+    ensures bytes { λ r. ⌜ now (out .exit) ≡ written (drawn (now (sheet .entry))) (now (out .entry)) .bytes ⌝ }
 {
     pack(draw::draw(sheet, out))
 }
@@ -141,8 +142,8 @@ pub extern "C" fn bend_draw(sheet: &[u8], out: &mut [u8]) -> u64
 // Read a chart.
 #[no_mangle]
 pub extern "C" fn bend_read_chart(chart: &[u8], out: &mut [u8]) -> u64
-    ensures { λ r. ⌜ r ≡ packed (written (chartRead (now (chart .entry))) (now (out .entry))) ⌝ }
-    ensures { λ r. ⌜ now (out .exit) ≡ written (chartRead (now (chart .entry))) (now (out .entry)) .bytes ⌝ }
+    ensures answer { λ r. ⌜ r ≡ packed (written (chartRead (now (chart .entry))) (now (out .entry))) ⌝ }
+    ensures bytes { λ r. ⌜ now (out .exit) ≡ written (chartRead (now (chart .entry))) (now (out .entry)) .bytes ⌝ }
 {
     pack(chart_reader::read_chart(chart, out))
 }

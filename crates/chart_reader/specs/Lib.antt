@@ -4,6 +4,6 @@ pub mod Formed
 pub mod Rules
 pub mod Reader
 pub mod Charts
--- For the contracts and the code.
+-- What serves these, the contracts and the code.
 pub mod Areas
 pub mod Held

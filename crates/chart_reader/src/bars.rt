@@ -13,8 +13,8 @@ use codec::get16;
 
 // Whether a bar has its left column at most its right, and lies within rows and columns.
 fn lies(b: Bar, rows: usize, columns: usize) -> bool
-    ensures { λ r. ⌜ (r ≡ true → LiesIn rows columns (barOf b)) ⌝ }
-    ensures { λ r. ⌜ (r ≡ false → LiesIn rows columns (barOf b) → ⊥) ⌝ }
+    ensures yes { λ r. ⌜ (r ≡ true → LiesIn rows columns (barOf b)) ⌝ }
+    ensures no { λ r. ⌜ (r ≡ false → LiesIn rows columns (barOf b) → ⊥) ⌝ }
 {
     if b.left > b.right {
         return false;
@@ -28,8 +28,8 @@ fn lies(b: Bar, rows: usize, columns: usize) -> bool
 // Whether each bar does.
 fn all_lie(chart: &[u8], n: usize) -> bool
     requires { ⌜ Bars (now chart) n ⌝ }
-    ensures { λ r. ⌜ (r ≡ true → All (Lies (chartIn (now (chart .entry)))) (below n)) ⌝ }
-    ensures { λ r. ⌜ (r ≡ false → All (Lies (chartIn (now (chart .entry)))) (below n) → ⊥) ⌝ }
+    ensures yes { λ r. ⌜ (r ≡ true → All (Lies (chartIn (now (chart .entry)))) (below n)) ⌝ }
+    ensures no { λ r. ⌜ (r ≡ false → All (Lies (chartIn (now (chart .entry)))) (below n) → ⊥) ⌝ }
 {
     let rows = get16(chart, 0);
     let columns = get16(chart, 2);
@@ -46,8 +46,8 @@ fn all_lie(chart: &[u8], n: usize) -> bool
 // Whether no two bars share a cell: each is held against those before it.
 fn all_apart(chart: &[u8], n: usize) -> bool
     requires { ⌜ Bars (now chart) n ⌝ }
-    ensures { λ r. ⌜ (r ≡ true → Sorted (Apart (chartIn (now (chart .entry)))) (below n)) ⌝ }
-    ensures { λ r. ⌜ (r ≡ false → Sorted (Apart (chartIn (now (chart .entry)))) (below n) → ⊥) ⌝ }
+    ensures yes { λ r. ⌜ (r ≡ true → Sorted (Apart (chartIn (now (chart .entry)))) (below n)) ⌝ }
+    ensures no { λ r. ⌜ (r ≡ false → Sorted (Apart (chartIn (now (chart .entry)))) (below n) → ⊥) ⌝ }
 {
     let mut x = 0;
     while x < n {
@@ -62,8 +62,8 @@ fn all_apart(chart: &[u8], n: usize) -> bool
 // Whether the bars keep their rule.
 pub fn bars_keep(chart: &[u8], n: usize) -> bool
     requires { ⌜ Bars (now chart) n ⌝ }
-    ensures { λ r. ⌜ (r ≡ true → BarRule (chartIn (now (chart .entry)))) ⌝ }
-    ensures { λ r. ⌜ (r ≡ false → BarRule (chartIn (now (chart .entry))) → ⊥) ⌝ }
+    ensures yes { λ r. ⌜ (r ≡ true → BarRule (chartIn (now (chart .entry)))) ⌝ }
+    ensures no { λ r. ⌜ (r ≡ false → BarRule (chartIn (now (chart .entry))) → ⊥) ⌝ }
 {
     if !all_lie(chart, n) {
         return false;

@@ -12,9 +12,9 @@ use keys::CORNERS;
 // Finds the places of the strokes from `from` on, as many as there is room for, if their map bytes have at most bit 0 and they end where the bytes end.
 fn stroke_places(chart: &[u8], from: usize, at: &mut [usize]) -> bool
     requires { ⌜ (from ≤ 6150) × (length (now at) ≤ 2045) ⌝ }
-    ensures { λ r. ⌜ (r ≡ true → (now (at .exit) ≡ places (now (chart .entry)) from (length (now (at .entry))))
+    ensures yes { λ r. ⌜ (r ≡ true → (now (at .exit) ≡ places (now (chart .entry)) from (length (now (at .entry))))
         × Ending (now (chart .entry)) from (length (now (at .entry)))) ⌝ }
-    ensures { λ r. ⌜ (r ≡ false → Ending (now (chart .entry)) from (length (now (at .entry))) → ⊥) ⌝ }
+    ensures no { λ r. ⌜ (r ≡ false → Ending (now (chart .entry)) from (length (now (at .entry))) → ⊥) ⌝ }
 {
     let mut i = 0;
     let mut p = from;
@@ -36,8 +36,8 @@ fn stroke_places(chart: &[u8], from: usize, at: &mut [usize]) -> bool
 // How many corners the chart has, with the places of its strokes in the table; 0 if the bytes are not those of a chart.
 pub fn frame(chart: &[u8], at: &mut [usize]) -> usize
     requires { ⌜ length (now at) ≡ 2045 ⌝ }
-    ensures { λ r. ⌜ (r ≡ 0 → Formed (now (chart .entry)) → ⊥) ⌝ }
-    ensures { λ r. ⌜ ((r ≡ 0 → ⊥) → StrokesFound (now (chart .entry)) r (take (2 * r - 3) (now (at .exit)))) ⌝ }
+    ensures none { λ r. ⌜ (r ≡ 0 → Formed (now (chart .entry)) → ⊥) ⌝ }
+    ensures found { λ r. ⌜ ((r ≡ 0 → ⊥) → StrokesFound (now (chart .entry)) r (take (2 * r - 3) (now (at .exit)))) ⌝ }
 {
     if chart.len() < 6 {
         return 0;

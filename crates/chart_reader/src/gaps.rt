@@ -32,8 +32,8 @@ fn put_gap(gaps: &mut [u8], at: usize, e: Ends)
 // Writes the gap of a stroke behind g others, if it is level and its gap has a cell, and says how many there are then.
 fn put_gap_of(chart: &[u8], s: Stroke, n: usize, gaps: &mut [u8], g: usize) -> usize
     requires { ⌜ StrokeIn n s × Bars (now chart) n × (6 * g + 6 ≤ length (now gaps)) ⌝ }
-    ensures { λ r. ⌜ (r ≡ g + length (gapOf (chartIn (now (chart .entry))) (strokeOf s))) ⌝ }
-    ensures { λ r. ⌜ now (gaps .exit) ≡ sets (now (gaps .entry)) (6 * g) (flatMap barBytes (gapOf (chartIn (now (chart .entry))) (strokeOf s))) ⌝ }
+    ensures count { λ r. ⌜ (r ≡ g + length (gapOf (chartIn (now (chart .entry))) (strokeOf s))) ⌝ }
+    ensures bytes { λ r. ⌜ now (gaps .exit) ≡ sets (now (gaps .entry)) (6 * g) (flatMap barBytes (gapOf (chartIn (now (chart .entry))) (strokeOf s))) ⌝ }
 {
     if s.upright {
         return g;
@@ -67,8 +67,8 @@ fn put_gaps(chart: &[u8], at: &[usize], n: usize, gaps: &mut [u8]) -> usize
 // Whether a stroke is no upright, or passes through none of the gaps.
 fn clear(chart: &[u8], s: Stroke, n: usize, gaps: &[u8], g: usize) -> bool
     requires { ⌜ StrokeIn n s × Bars (now chart) n × (6 * g ≤ length (now gaps)) ⌝ }
-    ensures { λ r. ⌜ (r ≡ true → Clear (chartIn (now (chart .entry))) (now (gaps .entry)) g (strokeOf s)) ⌝ }
-    ensures { λ r. ⌜ (r ≡ false → Clear (chartIn (now (chart .entry))) (now (gaps .entry)) g (strokeOf s) → ⊥) ⌝ }
+    ensures yes { λ r. ⌜ (r ≡ true → Clear (chartIn (now (chart .entry))) (now (gaps .entry)) g (strokeOf s)) ⌝ }
+    ensures no { λ r. ⌜ (r ≡ false → Clear (chartIn (now (chart .entry))) (now (gaps .entry)) g (strokeOf s) → ⊥) ⌝ }
 {
     if !s.upright {
         return true;
@@ -80,8 +80,8 @@ fn clear(chart: &[u8], s: Stroke, n: usize, gaps: &[u8], g: usize) -> bool
 // Whether each stroke is.
 fn all_clear(chart: &[u8], at: &[usize], n: usize, gaps: &[u8], g: usize) -> bool
     requires { ⌜ StrokesFound (now chart) n (now at) × All (Named (chartIn (now chart))) (chartIn (now chart) .strokes) × (6 * g ≤ length (now gaps)) ⌝ }
-    ensures { λ r. ⌜ (r ≡ true → All (Clear (chartIn (now (chart .entry))) (now (gaps .entry)) g) (chartIn (now (chart .entry)) .strokes)) ⌝ }
-    ensures { λ r. ⌜ (r ≡ false → All (Clear (chartIn (now (chart .entry))) (now (gaps .entry)) g) (chartIn (now (chart .entry)) .strokes) → ⊥) ⌝ }
+    ensures yes { λ r. ⌜ (r ≡ true → All (Clear (chartIn (now (chart .entry))) (now (gaps .entry)) g) (chartIn (now (chart .entry)) .strokes)) ⌝ }
+    ensures no { λ r. ⌜ (r ≡ false → All (Clear (chartIn (now (chart .entry))) (now (gaps .entry)) g) (chartIn (now (chart .entry)) .strokes) → ⊥) ⌝ }
 {
     let mut i = 0;
     while i < at.len() {
@@ -97,8 +97,8 @@ fn all_clear(chart: &[u8], at: &[usize], n: usize, gaps: &[u8], g: usize) -> boo
 // Whether no upright passes through the gap of a level stroke, for a chart that keeps the rules of bars and strokes.
 pub fn gaps_keep(chart: &[u8], at: &[usize], n: usize) -> bool
     requires { ⌜ StrokesFound (now chart) n (now at) × BarRule (chartIn (now chart)) × StrokeRule (chartIn (now chart)) ⌝ }
-    ensures { λ r. ⌜ (r ≡ true → GapRule (chartIn (now (chart .entry)))) ⌝ }
-    ensures { λ r. ⌜ (r ≡ false → GapRule (chartIn (now (chart .entry))) → ⊥) ⌝ }
+    ensures yes { λ r. ⌜ (r ≡ true → GapRule (chartIn (now (chart .entry)))) ⌝ }
+    ensures no { λ r. ⌜ (r ≡ false → GapRule (chartIn (now (chart .entry))) → ⊥) ⌝ }
 {
     let mut gaps = [0u8; 12270];
     let g = put_gaps(chart, at, n, &mut gaps);

@@ -16,8 +16,8 @@ use keys::low;
 // Whether a key is that of a diagonal of n corners.
 pub fn is_diagonal(k: u32, n: usize) -> bool
     requires { ⌜ n ≤ 1024 ⌝ }
-    ensures { λ r. ⌜ (r ≡ true → Diagonal n (edgeOf k)) ⌝ }
-    ensures { λ r. ⌜ (r ≡ false → Diagonal n (edgeOf k) → ⊥) ⌝ }
+    ensures yes { λ r. ⌜ (r ≡ true → Diagonal n (edgeOf k)) ⌝ }
+    ensures no { λ r. ⌜ (r ≡ false → Diagonal n (edgeOf k) → ⊥) ⌝ }
 {
     let a = low(k);
     let b = high(k);
@@ -33,8 +33,8 @@ pub fn is_diagonal(k: u32, n: usize) -> bool
 // Copies the keys of the diagonals, and says how many there are.
 fn diagonals(edges: &[u32], n: usize, keys: &mut [u32]) -> usize
     requires { ⌜ (length (now edges) ≤ length (now keys)) × (n ≤ 1024) ⌝ }
-    ensures { λ r. ⌜ r ≤ length (now (edges .entry)) ⌝ }
-    ensures { λ r. ⌜ edgesOf (take r (now (keys .exit))) ≡ keep (diagonal? n) (edgesOf (now (edges .entry))) ⌝ }
+    ensures within { λ r. ⌜ r ≤ length (now (edges .entry)) ⌝ }
+    ensures kept { λ r. ⌜ edgesOf (take r (now (keys .exit))) ≡ keep (diagonal? n) (edgesOf (now (edges .entry))) ⌝ }
 {
     let mut m = 0;
     let mut i = 0;
@@ -52,9 +52,9 @@ fn diagonals(edges: &[u32], n: usize, keys: &mut [u32]) -> usize
 // Whether 2n - 3 ascending edges are all sides and diagonals that do not cross, with the keys of the diagonals in the table if they are.
 pub fn part(edges: &[u32], n: usize, keys: &mut [u32]) -> bool
     requires { ⌜ EdgesOf n (edgesOf (now edges)) × (n ≤ 1024) × (length (now edges) ≤ length (now keys)) ⌝ }
-    ensures { λ r. ⌜ (r ≡ true → PartOf n (edgesOf (now (edges .entry)))
+    ensures yes { λ r. ⌜ (r ≡ true → PartOf n (edgesOf (now (edges .entry)))
         × (edgesOf (take (n - 3) (now (keys .exit))) ≡ keep (diagonal? n) (edgesOf (now (edges .entry))))) ⌝ }
-    ensures { λ r. ⌜ (r ≡ false → PartOf n (edgesOf (now (edges .entry))) → ⊥) ⌝ }
+    ensures no { λ r. ⌜ (r ≡ false → PartOf n (edgesOf (now (edges .entry))) → ⊥) ⌝ }
 {
     let m = diagonals(edges, n, keys);
     if m + 3 != n {

@@ -75,8 +75,8 @@ fn between(p: Cell, q: Cell) -> Area
 
 // Whether a bar has a cell of the area.
 fn meets(a: Area, b: Bar) -> bool
-    ensures { λ r. ⌜ (r ≡ true → CommonCell (InArea a) (HasCell (barOf b))) ⌝ }
-    ensures { λ r. ⌜ (r ≡ false → CommonCell (InArea a) (HasCell (barOf b)) → ⊥) ⌝ }
+    ensures yes { λ r. ⌜ (r ≡ true → CommonCell (InArea a) (HasCell (barOf b))) ⌝ }
+    ensures no { λ r. ⌜ (r ≡ false → CommonCell (InArea a) (HasCell (barOf b)) → ⊥) ⌝ }
 {
     let row = b.row as usize;
     let left = b.left as usize;
@@ -102,8 +102,8 @@ fn meets(a: Area, b: Bar) -> bool
 // Whether one of the m bars from `from` on has a cell of the area.
 pub fn any_within(bars: &[u8], from: usize, m: usize, a: Area) -> bool
     requires { ⌜ from + 6 * m ≤ length (now bars) ⌝ }
-    ensures { λ r. ⌜ (r ≡ true → SomeBar (now (bars .entry)) from m (InArea a)) ⌝ }
-    ensures { λ r. ⌜ (r ≡ false → NoBar (now (bars .entry)) from m (InArea a)) ⌝ }
+    ensures yes { λ r. ⌜ (r ≡ true → SomeBar (now (bars .entry)) from m (InArea a)) ⌝ }
+    ensures no { λ r. ⌜ (r ≡ false → NoBar (now (bars .entry)) from m (InArea a)) ⌝ }
 {
     if a.top >= a.bottom {
         return false;
@@ -124,8 +124,8 @@ pub fn any_within(bars: &[u8], from: usize, m: usize, a: Area) -> bool
 // Whether one of the m bars from `from` on stands between two cells of a row or of a column: the question that the whole reader asks.
 pub fn bar_between(bars: &[u8], from: usize, m: usize, p: Cell, q: Cell) -> bool
     requires { ⌜ (from + 6 * m ≤ length (now bars)) × SmallCell p × SmallCell q ⌝ }
-    ensures { λ r. ⌜ (r ≡ true → SomeBar (now (bars .entry)) from m (Inside (p, q))) ⌝ }
-    ensures { λ r. ⌜ (r ≡ false → NoBar (now (bars .entry)) from m (Inside (p, q))) ⌝ }
+    ensures yes { λ r. ⌜ (r ≡ true → SomeBar (now (bars .entry)) from m (Inside (p, q))) ⌝ }
+    ensures no { λ r. ⌜ (r ≡ false → NoBar (now (bars .entry)) from m (Inside (p, q))) ⌝ }
 {
     any_within(bars, from, m, between(p, q))
 }

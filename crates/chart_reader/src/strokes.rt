@@ -23,9 +23,9 @@ use keys::sort::ascends;
 // Reads the edges of the strokes, as keys, if each is of two corners, the lower first.
 fn edge_keys(chart: &[u8], at: &[usize], n: usize, keys: &mut [u32]) -> bool
     requires { ⌜ StrokesFound (now chart) n (now at) × (length (now at) ≤ length (now keys)) ⌝ }
-    ensures { λ r. ⌜ (r ≡ true → All (Named (chartIn (now (chart .entry)))) (chartIn (now (chart .entry)) .strokes)
+    ensures yes { λ r. ⌜ (r ≡ true → All (Named (chartIn (now (chart .entry)))) (chartIn (now (chart .entry)) .strokes)
         × (edgesOf (take (length (now (at .entry))) (now (keys .exit))) ≡ edgesIn (chartIn (now (chart .entry))))) ⌝ }
-    ensures { λ r. ⌜ (r ≡ false → All (Named (chartIn (now (chart .entry)))) (chartIn (now (chart .entry)) .strokes) → ⊥) ⌝ }
+    ensures no { λ r. ⌜ (r ≡ false → All (Named (chartIn (now (chart .entry)))) (chartIn (now (chart .entry)) .strokes) → ⊥) ⌝ }
 {
     let mut i = 0;
     while i < at.len() {
@@ -44,8 +44,8 @@ fn edge_keys(chart: &[u8], at: &[usize], n: usize, keys: &mut [u32]) -> bool
 
 // Whether a bar has a cell in column j.
 fn spans(b: Bar, j: u16) -> bool
-    ensures { λ r. ⌜ (r ≡ true → HasColumn (barOf b) j) ⌝ }
-    ensures { λ r. ⌜ (r ≡ false → HasColumn (barOf b) j → ⊥) ⌝ }
+    ensures yes { λ r. ⌜ (r ≡ true → HasColumn (barOf b) j) ⌝ }
+    ensures no { λ r. ⌜ (r ≡ false → HasColumn (barOf b) j → ⊥) ⌝ }
 {
     if b.left > j {
         return false;
@@ -56,8 +56,8 @@ fn spans(b: Bar, j: u16) -> bool
 // Whether a level stroke joins bars of one row, and an upright bars of different rows, both with a cell in its column.
 fn joins(chart: &[u8], s: Stroke, n: usize) -> bool
     requires { ⌜ StrokeIn n s × Bars (now chart) n ⌝ }
-    ensures { λ r. ⌜ (r ≡ true → Joins (chartIn (now (chart .entry))) (strokeOf s)) ⌝ }
-    ensures { λ r. ⌜ (r ≡ false → Joins (chartIn (now (chart .entry))) (strokeOf s) → ⊥) ⌝ }
+    ensures yes { λ r. ⌜ (r ≡ true → Joins (chartIn (now (chart .entry))) (strokeOf s)) ⌝ }
+    ensures no { λ r. ⌜ (r ≡ false → Joins (chartIn (now (chart .entry))) (strokeOf s) → ⊥) ⌝ }
 {
     let a = corner_bar(chart, s.a as usize);
     let b = corner_bar(chart, s.b as usize);
@@ -112,8 +112,8 @@ pub fn stroke_ends(chart: &[u8], s: Stroke, n: usize) -> Ends
 // Whether the bars of a stroke fit: they are joined, with no bar between.
 fn fits(chart: &[u8], s: Stroke, n: usize) -> bool
     requires { ⌜ StrokeIn n s × Bars (now chart) n ⌝ }
-    ensures { λ r. ⌜ (r ≡ true → BarsFit (chartIn (now (chart .entry))) (strokeOf s)) ⌝ }
-    ensures { λ r. ⌜ (r ≡ false → BarsFit (chartIn (now (chart .entry))) (strokeOf s) → ⊥) ⌝ }
+    ensures yes { λ r. ⌜ (r ≡ true → BarsFit (chartIn (now (chart .entry))) (strokeOf s)) ⌝ }
+    ensures no { λ r. ⌜ (r ≡ false → BarsFit (chartIn (now (chart .entry))) (strokeOf s) → ⊥) ⌝ }
 {
     if !joins(chart, s, n) {
         return false;
@@ -125,8 +125,8 @@ fn fits(chart: &[u8], s: Stroke, n: usize) -> bool
 // Whether the bars of each stroke do.
 fn all_fit(chart: &[u8], at: &[usize], n: usize) -> bool
     requires { ⌜ StrokesFound (now chart) n (now at) × All (Named (chartIn (now chart))) (chartIn (now chart) .strokes) ⌝ }
-    ensures { λ r. ⌜ (r ≡ true → All (BarsFit (chartIn (now (chart .entry)))) (chartIn (now (chart .entry)) .strokes)) ⌝ }
-    ensures { λ r. ⌜ (r ≡ false → All (BarsFit (chartIn (now (chart .entry)))) (chartIn (now (chart .entry)) .strokes) → ⊥) ⌝ }
+    ensures yes { λ r. ⌜ (r ≡ true → All (BarsFit (chartIn (now (chart .entry)))) (chartIn (now (chart .entry)) .strokes)) ⌝ }
+    ensures no { λ r. ⌜ (r ≡ false → All (BarsFit (chartIn (now (chart .entry)))) (chartIn (now (chart .entry)) .strokes) → ⊥) ⌝ }
 {
     let mut i = 0;
     while i < at.len() {
@@ -142,9 +142,9 @@ fn all_fit(chart: &[u8], at: &[usize], n: usize) -> bool
 // Whether the strokes keep their rule, with the keys of their edges in the table if they do.
 pub fn strokes_keep(chart: &[u8], at: &[usize], n: usize, keys: &mut [u32]) -> bool
     requires { ⌜ StrokesFound (now chart) n (now at) × (length (now at) ≤ length (now keys)) ⌝ }
-    ensures { λ r. ⌜ (r ≡ true → StrokeRule (chartIn (now (chart .entry)))
+    ensures yes { λ r. ⌜ (r ≡ true → StrokeRule (chartIn (now (chart .entry)))
         × (edgesOf (take (length (now (at .entry))) (now (keys .exit))) ≡ edgesIn (chartIn (now (chart .entry))))) ⌝ }
-    ensures { λ r. ⌜ (r ≡ false → StrokeRule (chartIn (now (chart .entry))) → ⊥) ⌝ }
+    ensures no { λ r. ⌜ (r ≡ false → StrokeRule (chartIn (now (chart .entry))) → ⊥) ⌝ }
 {
     if !edge_keys(chart, at, n, keys) {
         return false;

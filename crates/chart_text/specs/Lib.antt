@@ -1,4 +1,4 @@
 -- Read beside document 01.
 pub mod Text
--- For the contracts and the code.
+-- What serves these, the contracts and the code.
 pub mod Ordered

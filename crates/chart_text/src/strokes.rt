@@ -36,7 +36,8 @@ fn stroke_key(chart: &[u8], s: Stroke, n: usize, i: usize) -> u32
 
 // Writes the keys of the strokes at these places.
 fn stroke_keys(chart: &[u8], at: &[usize], n: usize, keys: &mut [u32])
-    requires { ⌜ StrokesFound (now chart) n (now at) × All (Named (chartIn (now chart))) (chartIn (now chart) .strokes) × (length (now at) ≤ length (now keys)) ⌝ }
+    requires { ⌜ StrokesFound (now chart) n (now at) × All (Named (chartIn (now chart))) (chartIn (now chart) .strokes)
+        × (length (now at) ≤ length (now keys)) ⌝ }
     ensures { λ _. ⌜ take (length (now (at .entry))) (now (keys .exit)) ≡ strokeKeys (now (chart .entry)) (now (at .entry)) ⌝ }
 {
     let mut i = 0;
@@ -49,8 +50,8 @@ fn stroke_keys(chart: &[u8], at: &[usize], n: usize, keys: &mut [u32])
 
 // Writes them in order; `spare` is overwritten.
 fn order(chart: &[u8], at: &[usize], n: usize, keys: &mut [u32], spare: &mut [u32])
-    requires { ⌜ StrokesFound (now chart) n (now at) × All (Named (chartIn (now chart))) (chartIn (now chart) .strokes) ⌝ }
-    requires { ⌜ (length (now at) ≤ length (now keys)) × (length (now at) ≤ length (now spare)) ⌝ }
+    requires strokes { ⌜ StrokesFound (now chart) n (now at) × All (Named (chartIn (now chart))) (chartIn (now chart) .strokes) ⌝ }
+    requires room { ⌜ (length (now at) ≤ length (now keys)) × (length (now at) ≤ length (now spare)) ⌝ }
     ensures { λ _. ⌜ take (length (now (at .entry))) (now (keys .exit)) ≡ sortKeys (strokeKeys (now (chart .entry)) (now (at .entry))) ⌝ }
 {
     stroke_keys(chart, at, n, keys);
@@ -61,8 +62,8 @@ fn order(chart: &[u8], at: &[usize], n: usize, keys: &mut [u32], spare: &mut [u3
 // Writes how a stroke is found on the tape.
 fn put_name(out: &mut [u8], from: usize, chart: &[u8], s: Stroke, n: usize) -> usize
     requires { ⌜ StrokeIn n s × Bars (now chart) n × (from + 50 ≤ length (now out)) ⌝ }
-    ensures { λ r. ⌜ Put (strokeName (chartIn (now (chart .entry))) (strokeOf s)) (now (out .entry)) from (now (out .exit)) r ⌝ }
-    ensures { λ r. ⌜ r ≤ from + 20 ⌝ }
+    ensures text { λ r. ⌜ Put (strokeName (chartIn (now (chart .entry))) (strokeOf s)) (now (out .entry)) from (now (out .exit)) r ⌝ }
+    ensures within { λ r. ⌜ r ≤ from + 20 ⌝ }
 {
     let e = stroke_ends(chart, s, n);
     let first = e.first;
@@ -77,8 +78,8 @@ fn put_name(out: &mut [u8], from: usize, chart: &[u8], s: Stroke, n: usize) -> u
 // Writes the corners a and b of a stroke, and whether it is a bend or a side of n corners.
 fn put_edge(out: &mut [u8], from: usize, a: usize, b: usize, n: usize) -> usize
     requires { ⌜ (from + 56 ≤ length (now out)) × (a < 1024) × (b < 1024) × (n ≤ 1024) ⌝ }
-    ensures { λ r. ⌜ Put (edgeName n (a — b)) (now (out .entry)) from (now (out .exit)) r ⌝ }
-    ensures { λ r. ⌜ r ≤ from + 24 ⌝ }
+    ensures text { λ r. ⌜ Put (edgeName n (a — b)) (now (out .entry)) from (now (out .exit)) r ⌝ }
+    ensures within { λ r. ⌜ r ≤ from + 24 ⌝ }
 {
     let c = put_field(out, from, b" corners ", a);
     let d = put_field(out, c, b" ", b);
@@ -91,8 +92,8 @@ fn put_edge(out: &mut [u8], from: usize, a: usize, b: usize, n: usize) -> usize
 // Writes the line of a stroke.
 fn put_stroke(out: &mut [u8], from: usize, chart: &[u8], s: Stroke, n: usize) -> usize
     requires { ⌜ StrokeIn n s × Bars (now chart) n × (n ≤ 1024) × (from + 128 ≤ length (now out)) ⌝ }
-    ensures { λ r. ⌜ Put (strokeLine (chartIn (now (chart .entry))) (strokeOf s)) (now (out .entry)) from (now (out .exit)) r ⌝ }
-    ensures { λ r. ⌜ r ≤ from + 44 ⌝ }
+    ensures text { λ r. ⌜ Put (strokeLine (chartIn (now (chart .entry))) (strokeOf s)) (now (out .entry)) from (now (out .exit)) r ⌝ }
+    ensures within { λ r. ⌜ r ≤ from + 44 ⌝ }
 {
     let next = put_name(out, from, chart, s, n);
     put_edge(out, next, s.a as usize, s.b as usize, n)
@@ -107,10 +108,10 @@ fn put_lines(
     n: usize,
     keys: &[u32],
 ) -> usize
-    requires { ⌜ StrokesFound (now chart) n (now at) × All (Named (chartIn (now chart))) (chartIn (now chart) .strokes) ⌝ }
-    requires { ⌜ All (λ k. k % 2048 < length (now at)) (now keys) × (from + 44 * length (now keys) + 128 ≤ length (now out)) ⌝ }
-    ensures { λ r. ⌜ Put (keyLines (now (chart .entry)) (now (at .entry)) (now (keys .entry))) (now (out .entry)) from (now (out .exit)) r ⌝ }
-    ensures { λ r. ⌜ r ≤ from + 44 * length (now (keys .entry)) ⌝ }
+    requires strokes { ⌜ StrokesFound (now chart) n (now at) × All (Named (chartIn (now chart))) (chartIn (now chart) .strokes) ⌝ }
+    requires room { ⌜ All (λ k. k % 2048 < length (now at)) (now keys) × (from + 44 * length (now keys) + 128 ≤ length (now out)) ⌝ }
+    ensures text { λ r. ⌜ Put (keyLines (now (chart .entry)) (now (at .entry)) (now (keys .entry))) (now (out .entry)) from (now (out .exit)) r ⌝ }
+    ensures within { λ r. ⌜ r ≤ from + 44 * length (now (keys .entry)) ⌝ }
 {
     let mut end = from;
     let mut k = 0;
@@ -125,10 +126,10 @@ fn put_lines(
 
 // Writes the lines of the strokes, from left to right.
 pub fn put_strokes(out: &mut [u8], from: usize, chart: &[u8], at: &[usize], n: usize) -> usize
-    requires { ⌜ StrokesFound (now chart) n (now at) × All (Named (chartIn (now chart))) (chartIn (now chart) .strokes) ⌝ }
-    requires { ⌜ from + 44 * length (now at) + 128 ≤ length (now out) ⌝ }
-    ensures { λ r. ⌜ Put (strokeLines (chartIn (now (chart .entry)))) (now (out .entry)) from (now (out .exit)) r ⌝ }
-    ensures { λ r. ⌜ r ≤ from + 44 * length (now (at .entry)) ⌝ }
+    requires strokes { ⌜ StrokesFound (now chart) n (now at) × All (Named (chartIn (now chart))) (chartIn (now chart) .strokes) ⌝ }
+    requires room { ⌜ from + 44 * length (now at) + 128 ≤ length (now out) ⌝ }
+    ensures text { λ r. ⌜ Put (strokeLines (chartIn (now (chart .entry)))) (now (out .entry)) from (now (out .exit)) r ⌝ }
+    ensures within { λ r. ⌜ r ≤ from + 44 * length (now (at .entry)) ⌝ }
 {
     let mut keys = [0u32; EDGES];
     let mut spare = [0u32; EDGES];

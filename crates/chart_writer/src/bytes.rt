@@ -69,8 +69,8 @@ fn put_last(out: &mut [u8], at: usize, k: u32, c: u16)
 // How many bytes the strokes of m edges take.
 pub fn strokes_size(stands: &[u16], m: usize) -> usize
     requires { ⌜ (m ≤ length (now stands)) × (m ≤ 2045) ⌝ }
-    ensures { λ r. ⌜ ((tr : List ℕ) → r ≡ length (strokeRun tr (now (stands .entry)) m)) ⌝ }
-    ensures { λ r. ⌜ r ≤ 7 * m ⌝ }
+    ensures size { λ r. ⌜ ((tr : List ℕ) → r ≡ length (strokeRun tr (now (stands .entry)) m)) ⌝ }
+    ensures within { λ r. ⌜ r ≤ 7 * m ⌝ }
 {
     let mut size = 0;
     let mut i = 0;

@@ -1,2 +1,2 @@
--- For the contracts and the code.
+-- What serves the contracts and the code.
 pub mod Within

@@ -2,7 +2,7 @@
 pub mod Answer
 pub mod Printed
 pub mod Program
--- For the contracts and the code.
+-- What serves these, the contracts and the code.
 pub mod WithBars
 pub mod Told
 pub mod Charted

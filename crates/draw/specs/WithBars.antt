@@ -12,6 +12,6 @@ filledBy (Lengths k n) chart bars = filled chart n bars
 filledBy (Refused k) chart bars = bars
 
 -- as many records as `room` hold the bars, and m bytes hold them too
-abbrev pub BarsFit : BothWritten → ℕ → ℕ → Type 0
-BarsFit (Lengths k n) room m = (n ≤ room) × (6 + 6 * n ≤ m)
-BarsFit (Refused k) room m = Unit {0}
+abbrev pub RecordsFit : BothWritten → ℕ → ℕ → Type 0
+RecordsFit (Lengths k n) room m = (n ≤ room) × (6 + 6 * n ≤ m)
+RecordsFit (Refused k) room m = Unit {0}

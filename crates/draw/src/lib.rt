@@ -15,7 +15,7 @@ ghost use Rattle.chart.specs.Bytes.{bytesOf};
 ghost use Rattle.chart.specs.declared.Bar.{Bar};
 ghost use Rattle.chart.specs.Decode.{barOf};
 ghost use Rattle.draw.specs.Answer.{drawn, drawnWithBars};
-ghost use Rattle.draw.specs.WithBars.{filledBy, BarsFit};
+ghost use Rattle.draw.specs.WithBars.{filledBy, RecordsFit};
 ghost use Rattle.draw.specs.Charted.{Wrote};
 use bar_list::fill_bars;
 use chart::Bar;
@@ -84,7 +84,7 @@ pub fn draw_for(sheet: &[u8], out: &mut [u8], room: usize) -> BothWritten
     ensures answer { λ r. ⌜ ((bars : List Bar) → length bars ≡ room
         → answeredBoth r (now (out .exit)) (map barOf (filledBy r (now (out .exit)) bars))
         ≡ drawnWithBars (now (sheet .entry)) (now (out .entry)) (map barOf bars)) ⌝ }
-    ensures fits { λ r. ⌜ BarsFit r room (length (now (out .entry))) ⌝ }
+    ensures fits { λ r. ⌜ RecordsFit r room (length (now (out .entry))) ⌝ }
 {
     let mut keys = [0u32; DIAGONALS];
     match read_sheet(sheet, &mut keys) {

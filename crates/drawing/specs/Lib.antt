@@ -1,4 +1,4 @@
--- For the contracts and the code.
+-- What serves the contracts and the code.
 pub mod Columns
 pub mod Lines
 pub mod Walk

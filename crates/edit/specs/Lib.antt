@@ -2,5 +2,5 @@
 pub mod Rules
 pub mod Model
 pub mod Calls
--- For the contracts and the code.
+-- What serves these, the contracts and the code.
 pub mod Tables

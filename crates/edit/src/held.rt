@@ -116,8 +116,8 @@ fn turned_key(keys: &[u32], n: usize, a: usize, b: usize) -> u32
 
 // Turns the diagonal (a,b), a below b.
 fn turn(h: Head, keys: &mut [u32], a: usize, b: usize) -> Read
-    requires { ⌜ InHand h (now keys) ⌝ }
-    requires { ⌜ (a ≤ b) × (b < h .n) ⌝ }
+    requires part { ⌜ InHand h (now keys) ⌝ }
+    requires corners { ⌜ (a ≤ b) × (b < h .n) ⌝ }
     ensures { λ r. ⌜ Reads (rule (flip a b) (polygonOf h (now (keys .entry)))) r (now (keys .exit)) ⌝ }
 {
     let n = h.n;

@@ -45,8 +45,8 @@ pub fn high_neighbour(n: usize, k: usize) -> usize
 
 // Whether no diagonal ends at k.
 pub fn is_ear(keys: &[u32], k: usize) -> bool
-    ensures { λ r. ⌜ (r ≡ true → All (Away k) (edgesOf (now (keys .entry)))) ⌝ }
-    ensures { λ r. ⌜ (r ≡ false → All (Away k) (edgesOf (now (keys .entry))) → ⊥) ⌝ }
+    ensures yes { λ r. ⌜ (r ≡ true → All (Away k) (edgesOf (now (keys .entry)))) ⌝ }
+    ensures no { λ r. ⌜ (r ≡ false → All (Away k) (edgesOf (now (keys .entry))) → ⊥) ⌝ }
 {
     let mut j = 0;
     while j < keys.len() {
@@ -77,8 +77,8 @@ fn other_end(k: u32, c: usize) -> usize
 
 // Marks by 1 the corners that a side or a diagonal joins to c. The last place of the table is for the edges that do not end at c.
 pub fn mark(keys: &[u32], n: usize, c: usize, near: &mut [u8])
-    requires { ⌜ (3 ≤ n) × (n ≤ 1024) × (c < n) × (length (now near) ≡ 1025) × SmallKeys (now keys) ⌝ }
-    requires { ⌜ ((x : ℕ) → getD (now near) x 0 ≡ 0) ⌝ }
+    requires sizes { ⌜ (3 ≤ n) × (n ≤ 1024) × (c < n) × (length (now near) ≡ 1025) × SmallKeys (now keys) ⌝ }
+    requires fresh { ⌜ ((x : ℕ) → getD (now near) x 0 ≡ 0) ⌝ }
     ensures { λ _. ⌜ Near n (edgesOf (now (keys .entry))) c (now (near .exit)) ⌝ }
 {
     let a = low_neighbour(n, c);

@@ -2,5 +2,5 @@
 pub mod Script
 pub mod Desk
 pub mod Result
--- For the contracts and the code.
+-- What serves these, the contracts and the code.
 pub mod Steps

@@ -91,8 +91,8 @@ fn lend(
     e: Edit,
     room: usize,
 ) -> Written
-    requires { ⌜ SheetLies (deskOf place size (now front) (now back)) ⌝ }
-    requires { ⌜ Spacious room (deskOf place size (now front) (now back)) ⌝ }
+    requires lies { ⌜ SheetLies (deskOf place size (now front) (now back)) ⌝ }
+    requires room { ⌜ Spacious room (deskOf place size (now front) (now back)) ⌝ }
     ensures { λ r. ⌜ Lent (now (first .entry)) (deskOf place size (now (front .entry)) (now (back .entry)))
         (editOf e, room) r (now (front .exit)) (now (back .exit)) ⌝ }
 {
@@ -143,9 +143,9 @@ fn step(
     place: usize,
     size: usize,
 ) -> Stand
-    requires { ⌜ i < count (now list) ⌝ }
-    requires { ⌜ SheetLies (deskOf place size (now front) (now back)) ⌝ }
-    requires { ⌜ Spacious (roomAt (now list) i) (deskOf place size (now front) (now back)) ⌝ }
+    requires listed { ⌜ i < count (now list) ⌝ }
+    requires lies { ⌜ SheetLies (deskOf place size (now front) (now back)) ⌝ }
+    requires room { ⌜ Spacious (roomAt (now list) i) (deskOf place size (now front) (now back)) ⌝ }
     ensures { λ r. ⌜ Stepped (now (first .entry)) (deskOf place size (now (front .entry)) (now (back .entry)))
         (editAt (now (list .entry)) i) r (now (front .exit)) (now (back .exit)) ⌝ }
 {
@@ -175,11 +175,12 @@ fn run_all(
     back: &mut [u8],
     numbers: &mut [u8],
 ) -> Stand
-    requires { ⌜ Rooms (now list) (length (now front)) (length (now back)) ⌝ }
-    requires { ⌜ count (now list) * 2 ≤ length (now numbers) ⌝ }
-    ensures { λ r. ⌜ deskOf (r .place) (r .size) (now (front .exit)) (now (back .exit))
+    requires rooms { ⌜ Rooms (now list) (length (now front)) (length (now back)) ⌝ }
+    requires numbers { ⌜ count (now list) * 2 ≤ length (now numbers) ⌝ }
+    ensures desk { λ r. ⌜ deskOf (r .place) (r .size) (now (front .exit)) (now (back .exit))
         ≡ deskAfter (now (first .entry)) (begin (now (first .entry)) (now (front .entry)) (now (back .entry))) (scriptOf (now (list .entry))) ⌝ }
-    ensures { λ r. ⌜ now (numbers .exit) ≡ numbered (numbersOf (now (first .entry)) (begin (now (first .entry)) (now (front .entry)) (now (back .entry)))
+    ensures numbers { λ r. ⌜ now (numbers .exit)
+        ≡ numbered (numbersOf (now (first .entry)) (begin (now (first .entry)) (now (front .entry)) (now (back .entry)))
         (scriptOf (now (list .entry)))) (now (numbers .entry)) ⌝ }
 {
     let m = list.len() / 13;
@@ -202,7 +203,7 @@ fn run_all(
 
 // Runs a list of edits from the sheet `first`. The number of each edit is written to `numbers`, in two bytes.
 pub fn run(first: &[u8], list: &[u8], front: &mut [u8], back: &mut [u8], numbers: &mut [u8]) -> Ran
-    ensures { λ r. ⌜ ranOf r (now (front .exit)) (now (back .exit)) (now (numbers .exit))
+    ensures answer { λ r. ⌜ ranOf r (now (front .exit)) (now (back .exit)) (now (numbers .exit))
         ≡ resultOf (now (first .entry)) (now (list .entry)) (now (front .entry)) (now (back .entry)) (now (numbers .entry)) ⌝ }
     ensures model { λ r. ⌜ ((p : Polygon) → readSheet (now (first .entry)) ≡ held p
         → ranOf r (now (front .exit)) (now (back .exit)) (now (numbers .exit)) .number ≡ 0

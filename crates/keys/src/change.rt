@@ -26,8 +26,8 @@ pub fn remove(keys: &[u32], k: u32, out: &mut [u32]) -> usize
 
 // Whether k is among the keys.
 pub fn has(keys: &[u32], k: u32) -> bool
-    ensures { λ r. ⌜ (r ≡ true → Mem k (now (keys .entry))) ⌝ }
-    ensures { λ r. ⌜ (r ≡ false → Mem k (now (keys .entry)) → ⊥) ⌝ }
+    ensures yes { λ r. ⌜ (r ≡ true → Mem k (now (keys .entry))) ⌝ }
+    ensures no { λ r. ⌜ (r ≡ false → Mem k (now (keys .entry)) → ⊥) ⌝ }
 {
     let mut j = 0;
     while j < keys.len() {

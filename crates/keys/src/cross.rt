@@ -26,10 +26,10 @@ fn begin(top: &mut [u16])
 
 // The apex of the triangle below each diagonal, and for each corner the farthest corner that it is joined to from below.
 pub fn apexes(keys: &[u32], n: usize, top: &mut [u16], apex: &mut [u16])
-    requires { ⌜ Diagonals n (edgesOf (now keys)) ⌝ }
-    requires { ⌜ (n ≤ 1024) × (length (now top) ≡ 1024) × (length (now keys) ≤ length (now apex)) ⌝ }
-    ensures { λ _. ⌜ Tops n (edgesOf (now (keys .entry))) (now (top .exit)) ⌝ }
-    ensures { λ _. ⌜ Apexes (edgesOf (now (keys .entry))) (now (apex .exit)) ⌝ }
+    requires part { ⌜ Diagonals n (edgesOf (now keys)) ⌝ }
+    requires sizes { ⌜ (n ≤ 1024) × (length (now top) ≡ 1024) × (length (now keys) ≤ length (now apex)) ⌝ }
+    ensures tops { λ _. ⌜ Tops n (edgesOf (now (keys .entry))) (now (top .exit)) ⌝ }
+    ensures apexes { λ _. ⌜ Apexes (edgesOf (now (keys .entry))) (now (apex .exit)) ⌝ }
 {
     begin(top);
     let mut j = 0;
@@ -43,10 +43,10 @@ pub fn apexes(keys: &[u32], n: usize, top: &mut [u16], apex: &mut [u16])
 
 // Whether each apex reaches as far as its diagonal's higher corner.
 fn reaches(keys: &[u32], top: &[u16], apex: &[u16]) -> bool
-    requires { ⌜ ((j : ℕ) → j < length (now keys) → getD (now apex) j 0 < length (now top)) ⌝ }
-    requires { ⌜ length (now keys) ≤ length (now apex) ⌝ }
-    ensures { λ r. ⌜ (r ≡ true → Reaches (now (keys .entry)) (now (top .entry)) (now (apex .entry))) ⌝ }
-    ensures { λ r. ⌜ (r ≡ false → Fails (now (keys .entry)) (now (top .entry)) (now (apex .entry))) ⌝ }
+    requires apexes { ⌜ ((j : ℕ) → j < length (now keys) → getD (now apex) j 0 < length (now top)) ⌝ }
+    requires sizes { ⌜ length (now keys) ≤ length (now apex) ⌝ }
+    ensures yes { λ r. ⌜ (r ≡ true → Reaches (now (keys .entry)) (now (top .entry)) (now (apex .entry))) ⌝ }
+    ensures no { λ r. ⌜ (r ≡ false → Fails (now (keys .entry)) (now (top .entry)) (now (apex .entry))) ⌝ }
 {
     let mut j = 0;
     while j < keys.len() {
@@ -61,10 +61,10 @@ fn reaches(keys: &[u32], top: &[u16], apex: &[u16]) -> bool
 
 // Whether two of the n - 3 diagonals cross.
 pub fn crosses(keys: &[u32], n: usize) -> bool
-    requires { ⌜ Diagonals n (edgesOf (now keys)) ⌝ }
-    requires { ⌜ (n ≤ 1024) × (length (now keys) + 3 ≡ n) ⌝ }
-    ensures { λ r. ⌜ (r ≡ false → NoneCross (edgesOf (now (keys .entry)))) ⌝ }
-    ensures { λ r. ⌜ (r ≡ true → NoneCross (edgesOf (now (keys .entry))) → ⊥) ⌝ }
+    requires part { ⌜ Diagonals n (edgesOf (now keys)) ⌝ }
+    requires sizes { ⌜ (n ≤ 1024) × (length (now keys) + 3 ≡ n) ⌝ }
+    ensures no { λ r. ⌜ (r ≡ false → NoneCross (edgesOf (now (keys .entry)))) ⌝ }
+    ensures yes { λ r. ⌜ (r ≡ true → NoneCross (edgesOf (now (keys .entry))) → ⊥) ⌝ }
 {
     let mut top = [0u16; CORNERS];
     let mut apex = [0u16; DIAGONALS];

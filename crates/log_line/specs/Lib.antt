@@ -1,4 +1,4 @@
 -- Read beside document 01.
 pub mod Line
--- For the contracts and the code.
+-- What serves these, the contracts and the code.
 pub mod Put

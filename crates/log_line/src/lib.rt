@@ -47,8 +47,8 @@ pub fn put_word(out: &mut [u8], at: usize, word: &[u8]) -> usize
 // Writes a word and a number behind it.
 pub fn put_field(out: &mut [u8], at: usize, word: &[u8], n: usize) -> usize
     requires { ⌜ at + length (now word) + 20 ≤ length (now out) ⌝ }
-    ensures { λ r. ⌜ Put (now (word .entry) ++ decimal n) (now (out .entry)) at (now (out .exit)) r ⌝ }
-    ensures { λ r. ⌜ r ≤ at + length (now (word .entry)) + 20 ⌝ }
+    ensures text { λ r. ⌜ Put (now (word .entry) ++ decimal n) (now (out .entry)) at (now (out .exit)) r ⌝ }
+    ensures within { λ r. ⌜ r ≤ at + length (now (word .entry)) + 20 ⌝ }
 {
     let next = put_word(out, at, word);
     put_digits(out, next, n)
@@ -57,8 +57,8 @@ pub fn put_field(out: &mut [u8], at: usize, word: &[u8], n: usize) -> usize
 // Writes the part number, or "-".
 fn put_number(out: &mut [u8], at: usize, numbered: bool, number: usize) -> usize
     requires { ⌜ at + 20 ≤ length (now out) ⌝ }
-    ensures { λ r. ⌜ Put (numberWord (numberIf numbered number)) (now (out .entry)) at (now (out .exit)) r ⌝ }
-    ensures { λ r. ⌜ r ≤ at + 20 ⌝ }
+    ensures text { λ r. ⌜ Put (numberWord (numberIf numbered number)) (now (out .entry)) at (now (out .exit)) r ⌝ }
+    ensures within { λ r. ⌜ r ≤ at + 20 ⌝ }
 {
     if numbered {
         return put_digits(out, at, number);

@@ -1,4 +1,4 @@
 -- Read beside document 01.
 pub mod Answer
--- For the contracts and the code.
+-- What serves these, the contracts and the code.
 pub mod Counts

@@ -1,6 +1,6 @@
 -- Read beside document 01.
 pub mod Polygon
 pub mod Tree
--- For the contracts and the code.
+-- What serves these, the contracts and the code.
 pub mod Order
 pub mod Edges

@@ -1,6 +1,6 @@
 -- Demand 1: every answer is a finished result or one refusal. "A refusal gives its number and zeros, and changes no lent memory. Success gives 0; bytes or records beyond the result stay."
 -- One claim about every public operation, every input and everything lent to it.
--- `Finished`, `Refusal` and `Settled` are the two cases for an operation that writes bytes (crate sheet, specs/Refusals.antt). The lists of numbers are document 01's, under each operation.
+-- `Finished`, `Refusal` and `Settled` are the two cases for an operation that writes bytes (crate codec, specs/Refusals.antt). The lists of numbers are document 01's, under each operation.
 use mathlib.Core.Path.{_≡_}
 use mathlib.Core.Logic.{_⊎_}
 use mathlib.Core.List.{List, [], _∷_}

@@ -2,6 +2,6 @@
 pub mod Sheet
 pub mod Listing
 pub mod Refusals
--- For the contracts and the code.
+-- What serves these, the contracts and the code.
 pub mod Framed
 pub mod Held

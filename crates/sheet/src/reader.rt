@@ -19,8 +19,8 @@ use keys::sort::order;
 
 // Whether bit 1 of the map stands exactly when there are more than 3 corners.
 fn agrees(map: u8, n: usize) -> bool
-    ensures { λ r. ⌜ (r ≡ true → bit1 map ≡ more n) ⌝ }
-    ensures { λ r. ⌜ (r ≡ false → bit1 map ≡ more n → ⊥) ⌝ }
+    ensures yes { λ r. ⌜ (r ≡ true → bit1 map ≡ more n) ⌝ }
+    ensures no { λ r. ⌜ (r ≡ false → bit1 map ≡ more n → ⊥) ⌝ }
 {
     if n > 3 {
         map / 2 % 2 == 1
@@ -119,9 +119,9 @@ fn pair_key(sheet: &[u8], at: usize, n: usize) -> u32
 // Reads the pairs, as keys, if all are diagonals.
 fn read_pairs(sheet: &[u8], n: usize, keys: &mut [u32]) -> bool
     requires { ⌜ (3 ≤ n) × (n ≤ 1024) × (3 + 4 * (n - 3) ≤ length (now sheet)) × (1021 ≤ length (now keys)) ⌝ }
-    ensures { λ r. ⌜ (r ≡ true → All (Diagonal n) (pairs (now (sheet .entry)) 3 (n - 3))
+    ensures yes { λ r. ⌜ (r ≡ true → All (Diagonal n) (pairs (now (sheet .entry)) 3 (n - 3))
         × (edgesOf (take (n - 3) (now (keys .exit))) ≡ pairs (now (sheet .entry)) 3 (n - 3))) ⌝ }
-    ensures { λ r. ⌜ (r ≡ false → All (Diagonal n) (pairs (now (sheet .entry)) 3 (n - 3)) → ⊥) ⌝ }
+    ensures no { λ r. ⌜ (r ≡ false → All (Diagonal n) (pairs (now (sheet .entry)) 3 (n - 3)) → ⊥) ⌝ }
 {
     let m = n - 3;
     let mut i = 0;

@@ -28,8 +28,8 @@ fn map_byte(n: usize, numbered: bool) -> u8
 
 // How many bytes the part number takes.
 fn number_size(numbered: bool) -> usize
-    ensures { λ r. ⌜ r ≤ 4 ⌝ }
-    ensures { λ r. ⌜ ((k : ℕ) → r ≡ length (numberBytes (numberOf numbered k))) ⌝ }
+    ensures within { λ r. ⌜ r ≤ 4 ⌝ }
+    ensures size { λ r. ⌜ ((k : ℕ) → r ≡ length (numberBytes (numberOf numbered k))) ⌝ }
 {
     if numbered { 4 } else { 0 }
 }
@@ -46,8 +46,8 @@ fn put_number(out: &mut [u8], at: usize, numbered: bool, number: usize)
 
 // Writes the corners of each key's edge.
 fn put_edges(out: &mut [u8], at: usize, keys: &[u32])
-    requires { ⌜ at + length (now keys) * 4 ≤ length (now out) ⌝ }
-    requires { ⌜ SmallKeys (now keys) ⌝ }
+    requires room { ⌜ at + length (now keys) * 4 ≤ length (now out) ⌝ }
+    requires keys { ⌜ SmallKeys (now keys) ⌝ }
     ensures { λ _. ⌜ now (out .exit) ≡ sets (now (out .entry)) at (pairBytes (edgesOf (now (keys .entry)))) ⌝ }
 {
     let mut i = 0;

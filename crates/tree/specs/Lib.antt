@@ -1,3 +1,3 @@
--- For the contracts and the code.
+-- What serves the contracts and the code.
 pub mod Table
 pub mod Outline

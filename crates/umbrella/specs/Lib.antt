@@ -5,6 +5,6 @@ pub mod Drawn
 pub mod Triangles
 pub mod Rim
 pub mod Border
--- For the contracts and the code.
+-- What serves these, the contracts and the code.
 pub mod Best
 pub mod Roles
