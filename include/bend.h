@@ -5,6 +5,10 @@
  * cut into triangles by n - 3 diagonals. A sheet is a part in bytes; a chart is
  * its drawing in bytes.
  *
+ * A sheet that has bit 2 in its map byte, once the part number's, is read: its
+ * last four bytes count for its length, and are skipped. No sheet that is written
+ * has bit 2, and no answer depends on it or on the four bytes.
+ *
  * Every function returns one number of 64 bits. Its low 16 bits are 0 if the
  * operation was done, or the number of the refusal:
  *
@@ -54,7 +58,7 @@ extern "C" {
 
 /*
  * Set in order: writes the sheet in normal order, each pair lower corner first
- * and the pairs ascending. Gives the length written.
+ * and the pairs ascending, without bit 2. Gives the length written, 3 + 4(n - 3).
  * Refusals: 1, 2, 3, 4, 2, 5, 6, 7; 8.
  */
 uint64_t bend_normalize(const uint8_t *sheet, size_t sheet_len,
@@ -101,8 +105,8 @@ uint64_t bend_flip(const uint8_t *sheet, size_t sheet_len, size_t a, size_t b,
  * The number of each edit, 0 or the refusal as for bend_add_ear,
  * bend_remove_ear and bend_flip, is written to `numbers` in two bytes, high byte
  * first. A refused edit changes nothing else and the list goes on. Gives the
- * place of the sheet left: 0 the first sheet, 1 the front buffer, 2 the back
- * buffer; and for 1 and 2 its length.
+ * place of the sheet left: 0 the first sheet, as it was lent, bit 2 and all, 1 the
+ * front buffer, 2 the back buffer; and for 1 and 2 its length.
  * Refusals of the list, before any edit is done: 32; 33; 34; 35.
  */
 uint64_t bend_run_edits(const uint8_t *first, size_t first_len,
@@ -126,8 +130,8 @@ uint64_t bend_draw(const uint8_t *sheet, size_t sheet_len,
                    uint8_t *out, size_t out_len);
 
 /*
- * Read a chart: writes the sheet, in normal order and without part number, of
- * the part that the chart shows, and gives its length.
+ * Read a chart: writes the sheet, in normal order, of the part that the chart
+ * shows, and gives its length.
  * Refusals: 14; 15; 16; 17; 18; 8.
  */
 uint64_t bend_read_chart(const uint8_t *chart, size_t chart_len,

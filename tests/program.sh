@@ -1,6 +1,6 @@
 #!/usr/bin/env bash
-# Runs the programs bend and unbend from end to end: the line, the file, the status and the way back; refusals; the longest inputs; what the system refuses;
-# many runs at once. The last line is 'N passed, M failed'.
+# Runs the programs bend and unbend from end to end: the line, the file, the status and the way back; sheets with bit 2; refusals; the longest inputs; what
+# the system refuses; many runs at once. The last line is 'N passed, M failed'.
 set -u
 root=$(cd "$(dirname "$0")/.." && pwd)
 bend="$root/bend"
@@ -27,14 +27,14 @@ hex() { od -An -v -tx1 "$1" | tr -d ' \n'; }
 bytes() { printf "$(printf '%s' "$1" | sed 's/../\\x&/g')"; }
 
 # line SAMPLE LINE: the sample's line, a chart with the rows, columns and corners that the line names,
-# and back from the chart the same line without the number, then a line for each corner and each stroke
+# and back from the chart the same line, then a line for each corner and each stroke
 line() {
     rm -f bend.chart
     is "$1" "$("$bend" <"$root/samples/$1.sheet")" "$2"
     is "$1, head of the chart" "$(hex bend.chart | head -c 12)" \
         "$(printf '%s\n' "$2" | awk '{ printf "%04x%04x%04x", $12, $14, $4 }')"
     "$unbend" <bend.chart >text
-    is "$1, back" "$(head -n 1 text)" "$(printf '%s\n' "$2" | sed 's/^part [^ ]*/part -/')"
+    is "$1, back" "$(head -n 1 text)" "$2"
     is "$1, corners, strokes and bends" "$(grep -c '^corner ' text) $(grep -cE '^(line|level) ' text) $(grep -c ' bend$' text) $(wc -l <text)" \
         "$(printf '%s\n' "$2" | awk '{ print $4, 2 * $4 - 3, $4 - 3, 3 * $4 - 2 }')"
     rm text
@@ -43,7 +43,8 @@ line() {
 line triangle 'part - corners 3 levels 1 umbrellas 1 stems 0 rows 3 columns 2'
 is 'triangle, every byte' "$(hex bend.chart)" \
     00030002000300000000000000020000000100000001000101000000010000000000000201000100020001
-line square 'part 4711 corners 4 levels 1 umbrellas 1 stems 0 rows 3 columns 3'
+triangle=$(hex bend.chart)
+line square 'part - corners 4 levels 1 umbrellas 1 stems 0 rows 3 columns 3'
 square=$(hex bend.chart)
 is 'square, every word' "$("$unbend" <bend.chart)" 'part - corners 4 levels 1 umbrellas 1 stems 0 rows 3 columns 3
 corner 0 row 0 columns 0 to 1
@@ -57,7 +58,7 @@ level 1 to 2 corners 0 3 side
 line 2 corners 2 3 side'
 line stem 'part - corners 5 levels 1 umbrellas 1 stems 1 rows 3 columns 5'
 line stem_left 'part - corners 5 levels 1 umbrellas 1 stems 1 rows 3 columns 5'
-line star 'part 17 corners 6 levels 1 umbrellas 1 stems 1 rows 3 columns 6'
+line star 'part - corners 6 levels 1 umbrellas 1 stems 1 rows 3 columns 6'
 is 'star, every word' "$("$unbend" <bend.chart)" 'part - corners 6 levels 1 umbrellas 1 stems 1 rows 3 columns 6
 corner 0 row 0 columns 0 to 4
 corner 1 row 1 columns 3 to 3
@@ -75,7 +76,20 @@ line 4 corners 0 4 bend
 level 4 to 5 corners 0 5 side
 line 5 corners 4 5 side'
 line two_levels 'part - corners 7 levels 2 umbrellas 2 stems 0 rows 5 columns 7'
-line boot 'part 90210 corners 12 levels 1 umbrellas 1 stems 1 rows 3 columns 12'
+line boot 'part - corners 12 levels 1 umbrellas 1 stems 1 rows 3 columns 12'
+
+# a sheet that still has bit 2 (request (xii)): its four bytes are skipped, whatever they are, and line and chart are those of the sheet without it
+line square_numbered 'part - corners 4 levels 1 umbrellas 1 stems 0 rows 3 columns 3'
+is 'square_numbered, every byte' "$(hex bend.chart)" "$square"
+for four in 00000000 00000001 00000009 00010003 7fffffff 80000000 ffffffff; do
+    rm bend.chart
+    is "bit 2 with $four" "$(bytes "050003$four" | "$bend")" 'part - corners 3 levels 1 umbrellas 1 stems 0 rows 3 columns 2'
+    is "bit 2 with $four, chart" "$(hex bend.chart)" "$triangle"
+done
+for short in 050003 05000300 050003000000; do is "bit 2 with too few bytes, $short" "$(bytes "$short" | "$bend")" 'refused 2'; done
+is 'bit 2 with a byte over' "$(bytes 0500030000000900 | "$bend")" 'refused 2'
+is 'four bytes without bit 2' "$(bytes 01000300000009 | "$bend")" 'refused 2'
+is 'bits 2 and 3' "$(bytes 0d000300000009 | "$bend")" 'refused 1'
 
 # a refusal leaves the chart that is there, and writes none
 before=$(hex bend.chart)
@@ -135,7 +149,7 @@ done
 is 'most charts are read' "$((read >= 65))" 1
 rm -r text texts
 
-# the longest sheet, 1,024 corners with a part number, and one byte more; the longest chart, a fan with every stroke upright, and one byte more
+# the longest sheet, 1,024 corners with bit 2, and one byte more; the longest chart, a fan with every stroke upright, and one byte more
 hex16() { printf '%04x' "$@"; }
 fan() { hex16 1024; for ((k = 2; k < 1023; k++)); do hex16 0 $k; done; }
 stairs() {
@@ -164,7 +178,10 @@ rm -r sheets fan.sheet fan_above.sheet zigzag.sheet bend.chart
 
 bytes "07$(fan)0000002a" >longest.sheet
 is 'longest sheet, bytes' "$(wc -c <longest.sheet)" 4091
-is 'longest sheet' "$("$bend" <longest.sheet)" 'part 42 corners 1024 levels 1 umbrellas 1 stems 0 rows 3 columns 1023'
+is 'longest sheet' "$("$bend" <longest.sheet)" 'part - corners 1024 levels 1 umbrellas 1 stems 0 rows 3 columns 1023'
+mv bend.chart longest.chart
+is 'longest sheet without bit 2' "$(bytes "03$(fan)" | "$bend")" 'part - corners 1024 levels 1 umbrellas 1 stems 0 rows 3 columns 1023'
+is 'longest sheet with and without bit 2, chart' "$(cmp longest.chart bend.chart 2>&1)" ''
 is 'longest sheet and a byte' "$( (cat longest.sheet; printf x) | "$bend")" 'refused 2'
 bytes "$(stairs)" >longest.chart
 is 'longest chart, bytes' "$(wc -c <longest.chart)" 20465
@@ -183,7 +200,7 @@ ends() {
     is "$what" "$found" "$text"$'\n'"status $status"
 }
 sheet="$root/samples/square.sheet"
-said='part 4711 corners 4 levels 1 umbrellas 1 stems 0 rows 3 columns 3'
+said='part - corners 4 levels 1 umbrellas 1 stems 0 rows 3 columns 3'
 ends 'a line' 0 "$said" "$bend" <"$sheet"
 ends 'a text' 0 "$(bytes "$square" | "$unbend")" "$unbend" <bend.chart
 ends 'a refusal' 1 'refused 7' "$bend" <"$root/samples/crossing.sheet"
@@ -191,7 +208,7 @@ ends 'a refused chart' 1 'refused 14' "$unbend" <"$sheet"
 
 # an input that comes in pieces is read to its end
 pieces() { head -c 2 "$1"; sleep 0.1; tail -c +3 "$1" | head -c 7; sleep 0.1; tail -c +10 "$1"; }
-is 'a sheet in pieces' "$(pieces "$sheet" | "$bend")" "$said"
+is 'a sheet in pieces' "$(pieces "$root/samples/square_numbered.sheet" | "$bend")" "$said"
 is 'a chart in pieces' "$(pieces bend.chart | "$unbend" | tail -n 1)" "$("$unbend" <bend.chart | tail -n 1)"
 rm bend.chart
 

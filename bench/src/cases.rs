@@ -39,15 +39,12 @@ pub struct Case {
 /// Room for the longest result of any operation.
 pub const ROOM: usize = 32_000;
 
-/// A part of each shape, with part number.
+/// A part of each shape.
 fn parts(corners: Corner) -> Vec<Part> {
     let mut random = Random::new(u64::from(corners));
     SHAPES
         .iter()
-        .map(|&shape| Part {
-            number: Some(42),
-            ..part(shape, corners, &mut random)
-        })
+        .map(|&shape| part(shape, corners, &mut random))
         .collect()
 }
 
@@ -55,6 +52,13 @@ fn parts(corners: Corner) -> Vec<Part> {
 #[cfg(any(feature = "normalize", feature = "plan", feature = "draw"))]
 fn normal_sheets(corners: Corner) -> Vec<Vec<u8>> {
     parts(corners).iter().map(sheet::normal).collect()
+}
+
+/// The same with bit 2 and its four bytes, which are skipped.
+#[cfg(feature = "normalize")]
+fn sheets_with_bit_2(corners: Corner) -> Vec<Vec<u8>> {
+    let with = |part: &Part| sheet::with_pairs(part.n, &part.diagonals, Some([0, 0, 0, 42]));
+    parts(corners).iter().map(with).collect()
 }
 
 /// The parts' sheets with pairs in any order, either corner first.
@@ -67,7 +71,7 @@ fn shuffled_sheets(corners: Corner) -> Vec<Vec<u8>> {
         for pair in pairs.iter_mut().step_by(2) {
             *pair = (pair.1, pair.0);
         }
-        sheet::with_pairs(part.n, &pairs, part.number)
+        sheet::with_pairs(part.n, &pairs, None)
     };
     parts(corners).iter().map(&mut shuffled).collect()
 }
@@ -172,26 +176,20 @@ pub fn all() -> Vec<Case> {
     let sizes = [128, 1024];
     #[cfg(feature = "normalize")]
     {
-        cases.extend(sizes.map(|n| {
-            let sheets = normal_sheets(n);
+        let normalize_case = |operation, n, sheets: Vec<Vec<u8>>| {
             case(
-                "normalize, in order",
+                operation,
                 n,
                 sheets,
                 |sheet, out| library::normalize(sheet, out),
                 |sheet, out| sheet::set_in_order(sheet, out),
             )
-        }));
-        cases.extend(sizes.map(|n| {
-            let sheets = shuffled_sheets(n);
-            case(
-                "normalize, shuffled",
-                n,
-                sheets,
-                |sheet, out| library::normalize(sheet, out),
-                |sheet, out| sheet::set_in_order(sheet, out),
-            )
-        }));
+        };
+        cases.extend(sizes.map(|n| normalize_case("normalize, in order", n, normal_sheets(n))));
+        cases.extend(
+            sizes.map(|n| normalize_case("normalize, in order, bit 2", n, sheets_with_bit_2(n))),
+        );
+        cases.extend(sizes.map(|n| normalize_case("normalize, shuffled", n, shuffled_sheets(n))));
     }
     #[cfg(feature = "edits")]
     {

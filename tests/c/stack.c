@@ -23,12 +23,13 @@ static unsigned number16(const uint8_t *at)
     return at[0] * 256u + at[1];
 }
 
-/* A list of one edit that turns the first diagonal, with 4,091 bytes lent. */
+/* A list of one edit that turns the first diagonal and is taken, with 4,087 bytes lent: no sheet that is written is longer. */
 static int run_list(unsigned a, unsigned b)
 {
-    const uint8_t list[13] = {2, 0, 0, (uint8_t)(a / 256), (uint8_t)a, 0, 0, (uint8_t)(b / 256), (uint8_t)b, 0, 0, 4091 / 256, 4091 % 256};
+    const uint8_t list[13] = {2, 0, 0, (uint8_t)(a / 256), (uint8_t)a, 0, 0, (uint8_t)(b / 256), (uint8_t)b, 0, 0, 4087 / 256, 4087 % 256};
     uint8_t numbers[2];
-    return bend_number(bend_run_edits(sheet, sheet_len, list, sizeof list, out, sizeof out, back, sizeof back, numbers, sizeof numbers)) == 0;
+    uint64_t ran = bend_run_edits(sheet, sheet_len, list, sizeof list, out, sizeof out, back, sizeof back, numbers, sizeof numbers);
+    return bend_number(ran) == 0 && number16(numbers) == 0;
 }
 
 /* Whether one corner or another can be taken off: every part has an ear. */

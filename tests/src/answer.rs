@@ -7,7 +7,8 @@
 pub enum Refusal {
     /// The sheet is empty, or its map byte lacks bit 0 or has one of bits 3 to 7.
     MapByte = 1,
-    /// The sheet is under 3 bytes, or not as long as its fields.
+    /// The sheet is under 3 bytes, or not as long as its fields, the bytes of bit 2
+    /// among them.
     SheetLength = 2,
     /// The corner count is outside 3 to 1,024.
     CornerCount = 3,

@@ -1,6 +1,7 @@
 //! The three edits, on parts and on sheets, and lists of edits.
 //! Follows "The plain part and demand 3" of document 01, and the edits under
-//! "Operations and their refusals".
+//! "Operations and their refusals". By request (xii) "the rule .. that a number
+//! is kept lapses, and the plain part keeps none".
 
 use crate::answer::{Refusal, Written};
 use crate::part::{is_side, lower_first, Corner, Pair, Part, FEWEST, MOST};
@@ -126,7 +127,7 @@ pub fn edit_sheet(sheet: &[u8], edit: Edit, out: &mut [u8]) -> Written {
 }
 
 /// The plain part: what the edit rules give, fed nothing but the edits and the
-/// lengths of the outputs lent.
+/// lengths of the outputs lent. It keeps n and the set of diagonals.
 #[derive(Clone, Debug)]
 pub struct PlainPart {
     pub part: Part,
@@ -157,7 +158,8 @@ impl PlainPart {
         }
     }
 
-    /// The sheet left after the list.
+    /// The sheet left after the list: the first one, bit 2 and all, if no edit was
+    /// taken.
     pub fn sheet(&self) -> Vec<u8> {
         if self.taken == 0 {
             self.first_sheet.clone()
@@ -179,14 +181,30 @@ mod tests {
 
     #[test]
     fn known_parts() {
-        let turned = after(&Part::new(4, &[(0, 2)], None), Edit::Turn { a: 2, b: 0 });
-        assert_eq!(turned, Ok(Part::new(4, &[(1, 3)], None)));
+        let turned = after(&Part::new(4, &[(0, 2)]), Edit::Turn { a: 2, b: 0 });
+        assert_eq!(turned, Ok(Part::new(4, &[(1, 3)])));
         let again = after(&turned.unwrap(), Edit::Turn { a: 1, b: 3 });
-        assert_eq!(again, Ok(Part::new(4, &[(0, 2)], None)));
+        assert_eq!(again, Ok(Part::new(4, &[(0, 2)])));
         let fan: Vec<Pair> = (2..1022).map(|b| (0, b)).collect();
-        let more = after(&Part::new(1023, &fan, None), Edit::Add { side: 1022 }).unwrap();
+        let more = after(&Part::new(1023, &fan), Edit::Add { side: 1022 }).unwrap();
         assert!(more.n == 1024 && more.is_valid());
         assert_eq!(after(&more, Edit::Add { side: 0 }), Err(Refusal::Full));
+    }
+
+    #[test]
+    fn the_first_sheet_is_left_with_bit_2_until_an_edit_is_taken() {
+        let first = [5, 0, 3, 0, 0, 0, 9];
+        let mut plain = PlainPart::new(&first).unwrap();
+        let add = Edit::Add { side: 0 };
+        for (lent, number, left) in [
+            (6, 8, &first[..]),
+            (7, 0, &[3, 0, 4, 0, 0, 0, 2]),
+            (10, 8, &[3, 0, 4, 0, 0, 0, 2]),
+            (11, 0, &[3, 0, 5, 0, 0, 0, 2, 0, 0, 0, 3]),
+        ] {
+            assert_eq!(plain.edit(add, lent), number);
+            assert_eq!(plain.sheet(), left);
+        }
     }
 
     #[test]

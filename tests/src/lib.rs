@@ -1,7 +1,9 @@
-//! A model of the operations on bend charts, written from document 01 sentence
-//! by sentence. It shares nothing with the library that it is compared with.
+//! A model of the operations on bend charts, written sentence by sentence from
+//! document 01 and from request (xii) of document 02. It shares nothing with the
+//! library that it is compared with.
 //!
-//! Each module's header names the heading of document 01 that it follows.
+//! Each module's header names the heading of document 01 that it follows, and the
+//! request where it rules instead.
 
 pub mod answer;
 pub mod changes;

@@ -1,5 +1,6 @@
 //! The program's log line. Follows "Operations and their refusals" and the first
-//! of the "Known parts" of document 01.
+//! of the "Known parts" of document 01, and request (xii): "the log prints `-`
+//! always".
 
 use crate::plan::Pieces;
 use crate::sheet;
@@ -10,12 +11,9 @@ pub fn line(sheet: &[u8]) -> String {
         Ok(part) => part,
         Err(refusal) => return format!("refused {}", refusal.number()),
     };
-    let number = part
-        .number
-        .map_or("-".to_string(), |number| number.to_string());
     let counts = Pieces::of(&part).counts();
     format!(
-        "part {number} corners {} levels {} umbrellas {} stems {} rows {} columns {}",
+        "part - corners {} levels {} umbrellas {} stems {} rows {} columns {}",
         part.n,
         counts.levels,
         counts.umbrellas,
@@ -31,14 +29,10 @@ mod tests {
 
     #[test]
     fn known_parts() {
-        assert_eq!(
-            line(&[1, 0, 3]),
-            "part - corners 3 levels 1 umbrellas 1 stems 0 rows 3 columns 2"
-        );
-        assert_eq!(
-            line(&[5, 0, 3, 255, 255, 255, 255]),
-            "part 4294967295 corners 3 levels 1 umbrellas 1 stems 0 rows 3 columns 2"
-        );
+        let triangle = "part - corners 3 levels 1 umbrellas 1 stems 0 rows 3 columns 2";
+        assert_eq!(line(&[1, 0, 3]), triangle);
+        assert_eq!(line(&[5, 0, 3, 255, 255, 255, 255]), triangle);
+        assert_eq!(line(&[5, 0, 3]), "refused 2");
         assert_eq!(line(&[1, 0, 2]), "refused 3");
         assert_eq!(line(&[]), "refused 1");
     }

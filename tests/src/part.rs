@@ -1,5 +1,5 @@
 //! A part: an outline of corners cut into triangles by diagonals.
-//! Follows "The part" of document 01.
+//! Follows "The part" of document 01; by request (xii) a part has no number.
 
 /// A corner, numbered from 0 round the outline.
 pub type Corner = u16;
@@ -11,13 +11,12 @@ pub type Pair = (Corner, Corner);
 pub const FEWEST: Corner = 3;
 pub const MOST: Corner = 1024;
 
-/// n corners, n-3 diagonals, and the part number if there is one.
+/// n corners and n-3 diagonals.
 #[derive(Clone, Debug, PartialEq, Eq)]
 pub struct Part {
     pub n: Corner,
     /// Each with its lower corner first; ascending.
     pub diagonals: Vec<Pair>,
-    pub number: Option<u32>,
 }
 
 /// The pair with its lower corner first.
@@ -71,14 +70,10 @@ pub fn any_cross_ascending(diagonals: &[Pair]) -> bool {
 
 impl Part {
     /// A part from pairs in any order, either corner first.
-    pub fn new(n: Corner, pairs: &[Pair], number: Option<u32>) -> Part {
+    pub fn new(n: Corner, pairs: &[Pair]) -> Part {
         let mut diagonals: Vec<Pair> = pairs.iter().copied().map(lower_first).collect();
         sort(&mut diagonals);
-        Part {
-            n,
-            diagonals,
-            number,
-        }
+        Part { n, diagonals }
     }
 
     /// Whether this is a part at all: 3 to 1,024 corners and n-3 different

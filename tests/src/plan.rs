@@ -1,6 +1,5 @@
-//! Umbrella plans, and the plan that is drawn, in linear time.
-//! Follows "Umbrellas and levels" of document 01; `search` finds the same plan
-//! word by word.
+//! Umbrella plans, and the plan drawn, in linear time; `search` finds it word by
+//! word. Follows "Umbrellas and levels" of document 01.
 
 use crate::answer::Refusal;
 use crate::part::{Corner, Pair, Part};

@@ -147,11 +147,7 @@ fn part_of(chart: &Chart) -> Result<Part, Refusal> {
     if sides.len() != usize::from(n) || any_cross_ascending(&diagonals) {
         return Err(Refusal::NotAPart);
     }
-    Ok(Part {
-        n,
-        diagonals,
-        number: None,
-    })
+    Ok(Part { n, diagonals })
 }
 
 /// The part that a chart's bytes show, or the first refusal that applies.
@@ -163,7 +159,7 @@ pub fn read(bytes: &[u8]) -> Result<Part, Refusal> {
     part_of(&chart)
 }
 
-/// Read a chart: its bytes to the normal sheet without part number.
+/// Read a chart: its bytes to the normal sheet of its part.
 pub fn read_chart(bytes: &[u8], out: &mut [u8]) -> Written {
     write_normal(&read(bytes)?, out)
 }

@@ -191,7 +191,7 @@ mod tests {
     #[test]
     fn known_parts() {
         let counts = |n, pairs: &[Pair]| {
-            let part = Part::new(n, pairs, None);
+            let part = Part::new(n, pairs);
             let searched = plan_drawn(&part).counts;
             assert_eq!(searched, Pieces::of(&part).counts());
             let Counts {

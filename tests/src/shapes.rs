@@ -73,7 +73,7 @@ pub fn part(shape: Shape, n: Corner, random: &mut Random) -> Part {
     } else {
         random.below(usize::from(n)) as Corner
     };
-    rotated(&Part::new(n, &pairs, None), turn)
+    rotated(&Part::new(n, &pairs), turn)
 }
 
 /// The third corner of the triangle at the root edge of the piece (u,v).
@@ -107,14 +107,14 @@ pub fn rotated(part: &Part, turn: Corner) -> Part {
         .iter()
         .map(|&(a, b)| ((a + turn) % n, (b + turn) % n))
         .collect();
-    Part::new(n, &pairs, part.number)
+    Part::new(n, &pairs)
 }
 
-/// Every part with `n` corners, without part number.
+/// Every part with `n` corners.
 pub fn all_parts(n: Corner) -> Vec<Part> {
     inside(0, n - 1)
         .iter()
-        .map(|pairs| Part::new(n, pairs, None))
+        .map(|pairs| Part::new(n, pairs))
         .collect()
 }
 

@@ -125,7 +125,7 @@ pub fn part_shown(chart: &Chart) -> Result<Part, Refusal> {
     if !sides.all(|side| edges.contains(&side)) || any_cross(&diagonals) {
         return Err(Refusal::NotAPart);
     }
-    Ok(Part::new(n, &diagonals, None))
+    Ok(Part::new(n, &diagonals))
 }
 
 /// Whether each column is named by exactly one upright.
@@ -150,7 +150,7 @@ mod tests {
 
     /// The bars of the chart, each as row, left and right column.
     fn bars(n: u16, pairs: &[Pair]) -> Vec<(u16, u16, u16)> {
-        let chart = chart_of(&Part::new(n, pairs, None));
+        let chart = chart_of(&Part::new(n, pairs));
         let bars = chart.bars.iter();
         bars.map(|bar| (bar.row, bar.left, bar.right)).collect()
     }
@@ -161,7 +161,7 @@ mod tests {
             0, 3, 0, 2, 0, 3, 0, 0, 0, 0, 0, 0, 0, 2, 0, 0, 0, 1, 0, 0, 0, 1, 0, 1, 1, 0, 0, 0, 1,
             0, 0, 0, 0, 0, 0, 2, 1, 0, 1, 0, 2, 0, 1,
         ];
-        assert_eq!(chart_of(&Part::new(3, &[], None)).bytes(), triangle);
+        assert_eq!(chart_of(&Part::new(3, &[])).bytes(), triangle);
         assert_eq!(
             bars(4, &[(0, 2)]),
             [(0, 0, 1), (2, 0, 0), (2, 1, 2), (0, 2, 2)]
@@ -190,9 +190,9 @@ mod tests {
                 (0, 13, 13)
             ]
         );
-        let six = chart_of(&Part::new(6, &[(0, 2), (2, 4), (0, 4)], None));
+        let six = chart_of(&Part::new(6, &[(0, 2), (2, 4), (0, 4)]));
         assert_eq!((six.rows, six.columns), (3, 6));
-        let seven = chart_of(&Part::new(7, &[(0, 5), (1, 5), (1, 3), (3, 5)], None));
+        let seven = chart_of(&Part::new(7, &[(0, 5), (1, 5), (1, 3), (3, 5)]));
         assert_eq!((seven.rows, seven.columns), (5, 7));
     }
 

@@ -1,8 +1,7 @@
 -- The theorem of this crate: every answer is read back from the number that a C caller is given. To be read with specs/ReadBack.antt.
 use mathlib.Core.List.{List}
-use Prim.Native.Nat.{ℕ, _<_}
+use Prim.Native.Nat.{ℕ}
 use native.Mathlib.Omega.{arith}
-use Rattle.lists.specs.Lists.{All}
 use Rattle.codec.specs.Answer.{written}
 use Rattle.codec.specs.Unpacked.{ReadsBack}
 use Rattle.codec.proofs.Answers.{reads-back}
@@ -21,8 +20,8 @@ use Rattle.chart_reader.proofs.Refusals.{chart-settled}
 use Rattle.chart_reader.proofs.Size.{chart-read-size}
 use Rattle.bend_c.specs.ReadBack.{EveryAnswer}
 
-edit-reads-back : (e : Edit) (s out : List ℕ) → All (λ b. b < 256) s → ReadsBack (written (edited e s) out)
-edit-reads-back e s out bytes = reads-back _ (small-number (edited-settled e s out)) (omega (arith, edited-size e s out bytes))
+edit-reads-back : (e : Edit) (s out : List ℕ) → ReadsBack (written (edited e s) out)
+edit-reads-back e s out = reads-back _ (small-number (edited-settled e s out)) (omega (arith, edited-size e s out))
 
 pub every-answer : EveryAnswer
 every-answer = record {

@@ -1,4 +1,4 @@
--- What a C caller reads from the number that an operation returns is the answer: for every sheet or chart of bytes, every number handed in and every lent output. The contracts of src/lib.rt say that
+-- What a C caller reads from the number that an operation returns is the answer: for every sheet, list or chart, every number handed in and every lent output. The contracts of src/lib.rt say that
 -- the number returned is `packed`, `packedPlan` or `packedRun` of these answers; include/bend.h takes it apart as specs/Unpacked.antt of the crate codec says.
 use mathlib.Core.List.{List}
 use Prim.Native.Nat.{ℕ, _<_}
@@ -19,9 +19,9 @@ Bytes s = All (λ b. b < 256) s
 -- the number, the length, the counts and the place read are those of the answer, and the number returned is one of 64 bits
 pub record EveryAnswer : Type 0 where
   pub bend-normalize : (sheet out : List ℕ) → ReadsBack (written (ordered sheet) out)
-  pub bend-add-ear : (sheet : List ℕ) (side : ℕ) (out : List ℕ) → Bytes sheet → ReadsBack (written (edited (addEar side) sheet) out)
-  pub bend-remove-ear : (sheet : List ℕ) (corner : ℕ) (out : List ℕ) → Bytes sheet → ReadsBack (written (edited (removeEar corner) sheet) out)
-  pub bend-flip : (sheet : List ℕ) (a b : ℕ) (out : List ℕ) → Bytes sheet → ReadsBack (written (edited (flip a b) sheet) out)
+  pub bend-add-ear : (sheet : List ℕ) (side : ℕ) (out : List ℕ) → ReadsBack (written (edited (addEar side) sheet) out)
+  pub bend-remove-ear : (sheet : List ℕ) (corner : ℕ) (out : List ℕ) → ReadsBack (written (edited (removeEar corner) sheet) out)
+  pub bend-flip : (sheet : List ℕ) (a b : ℕ) (out : List ℕ) → ReadsBack (written (edited (flip a b) sheet) out)
   pub bend-run-edits : (first list front back numbers : List ℕ) → Bytes list → RunReadsBack (resultOf first list front back numbers)
   pub bend-plan : (sheet : List ℕ) → PlanReadsBack (planned sheet)
   pub bend-draw : (sheet out : List ℕ) → ReadsBack (written (drawn sheet) out)

@@ -1,7 +1,6 @@
 -- Which bytes are accepted: those of a true chart that shows a valid part.
 use mathlib.Core.Path.{_≡_, refl, ap, _∙_}
 use mathlib.Core.List.{List}
-use mathlib.Core.Option.{none}
 use Prim.Native.Nat.{ℕ, zero, suc, _+_, _*_, _-_, _≤_, _<_}
 use native.Mathlib.Omega.{arith}
 use lib.ListN.{length, length-map}
@@ -58,7 +57,6 @@ held-charts s p B H =
     let S = H .strokes in
     rw (← H .is) (record {
       valid = rule-valid c (F .least) (S .0) (S .1) (H .part) (F .most) (strokes-count s (F .least));
-      unnumbered = refl;
       chart = c;
       bytes = encoded B F;
       is-true = rules-true c (H .bars) S (H .gaps);
@@ -66,15 +64,15 @@ held-charts s p B H =
     })
 
 -- what is shown is held
-bytes-held : (c : Chart) (p : Polygon) → Valid p → p .number ≡ none → True c → Shows c p → readChart (bytesOf c) ≡ held p
-bytes-held c p v u T H =
+bytes-held : (c : Chart) (p : Polygon) → Valid p → True c → Shows c p → readChart (bytesOf c) ≡ held p
+bytes-held c p v T H =
     let s : List ℕ = bytesOf c in
     let n = H .corners in
     let count : length (c .strokes) + 3 ≡ 2 * c .n = rw n (shows-count c p v H) in
     let S : SameNumbers (chartIn s) c = decoded c count in
     let D : Shows (chartIn s) p = same-shows (chartIn s) c S p H in
     let R = true-rules (chartIn s) (same-true (chartIn s) c S T) (shows-named (chartIn s) p v D) (D .ascending) in
-    read-by s (taken (decoded-formed c (rw n (v .least)) (rw n (v .most)) count) (R .0) (R .1) (R .2) (shows-rule (chartIn s) p v D)) ∙ ap held (shows-part (chartIn s) p v D u)
+    read-by s (taken (decoded-formed c (rw n (v .least)) (rw n (v .most)) count) (R .0) (R .1) (R .2) (shows-rule (chartIn s) p v D)) ∙ ap held (shows-part (chartIn s) p v D)
 
 pub charts-held : {s : List ℕ} {p : Polygon} → Charts s p → readChart s ≡ held p
-charts-held {s} {p} C = rw (C .bytes) (bytes-held (C .chart) p (C .valid) (C .unnumbered) (C .is-true) (C .shows))
+charts-held {s} {p} C = rw (C .bytes) (bytes-held (C .chart) p (C .valid) (C .is-true) (C .shows))

@@ -1,7 +1,6 @@
 -- The part that a chart shows: its strokes are all sides and n - 3 diagonals that do not cross exactly if it shows a valid part, which is then the part that is held.
-use mathlib.Core.Path.{_≡_, refl, ap, sym}
+use mathlib.Core.Path.{_≡_, refl, ap}
 use mathlib.Core.Logic.{inl, inr}
-use mathlib.Core.Option.{none}
 use Prim.Native.Nat.{_+_, _*_, _≤_, _<_}
 use native.Mathlib.Omega.{arith}
 use lib.ListN.{length, length-map}
@@ -39,7 +38,6 @@ module _ (c : Chart) (least : 3 ≤ c .n) (N : All (Named c) (c .strokes)) (A : 
       none-cross = P .1;
       full = sides-full (c .n) least (edgesIn c) named-edges A (omega (arith, length-map (c .strokes) strokeEdge)) (P .0);
     };
-    numbered = tt;
   }
 
 -- a chart that shows a valid part
@@ -62,8 +60,8 @@ module _ (c : Chart) (p : Polygon) (v : Valid p) (S : Shows c p) where
       there e d (inl s) = absurd (diagonal-reads (p .n) (e .0) (e .1) .0 (rw (S .corners) at d) .2 s)
       there e d (inr m) = m
 
-  pub shows-part : p .number ≡ none → partIn c ≡ p
-  shows-part h = λ i. record { n = S .corners i; ds = diagonals-same i; number = sym h i }
+  pub shows-part : partIn c ≡ p
+  shows-part = λ i. record { n = S .corners i; ds = diagonals-same i }
 
   pub shows-rule : PartRule c
   shows-rule = (all-of (partSides (c .n)) (λ e m. S .edges e .1 (inl (rw (S .corners) at (all-mem (sides-are (c .n) (rw (S .corners) (v .least))) m)))), rw diagonals-same (v .triangulated .none-cross))

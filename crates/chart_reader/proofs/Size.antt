@@ -1,4 +1,4 @@
--- No sheet that is written is longer than 4,091 bytes.
+-- No sheet that is written is longer than 4,087 bytes.
 use mathlib.Core.List.{List}
 use Prim.Native.Nat.{ℕ, _≤_}
 use Rattle.codec.specs.Answer.{written}
@@ -18,6 +18,6 @@ counted s (by-17 a b c d) = tt
 counted s (by-18 a b c d e) = tt
 counted s (taken F B S G P) = let v = rule-valid (chartIn s) (F .least) (S .0) (S .1) P (F .most) (strokes-count s (F .least)) in (v .most, v .triangulated .full)
 
-pub chart-read-size : (s out : List ℕ) → written (chartRead s) out .size ≤ 4091
+pub chart-read-size : (s out : List ℕ) → written (chartRead s) out .size ≤ 4087
 unfolding chartRead
 chart-read-size s out = outcome-size _ out (counted s (verdict s))

@@ -12,11 +12,11 @@ use Rattle.chart.specs.Chart.{chartOf}
 use Rattle.chart.specs.Bytes.{bytesOf}
 use Rattle.chart.proofs.Theorems.{chart-is-true, chart-shows}
 use Rattle.chart_reader.specs.Reader.{readChart, chartRead}
-use Rattle.chart_reader.specs.Charts.{Charts, withoutNumber}
+use Rattle.chart_reader.specs.Charts.{Charts}
 use Rattle.chart_reader.proofs.Verdict.{Verdict, read-by, by-reading}
 use Rattle.chart_reader.proofs.Accepts.{held-keeps, held-charts, charts-held}
 
--- Bytes are accepted, but for 8, exactly if they are those of a true chart that shows a valid part; and they are read as that part, without a number.
+-- Bytes are accepted, but for 8, exactly if they are those of a true chart that shows a valid part; and they are read as that part.
 pub accepts : (s : List ℕ) (p : Polygon) → All (λ b. b < 256) s → (readChart s ≡ held p) ↔ Charts s p
 accepts s p B = (λ e. held-charts s p B (held-keeps s p (by-reading s e) refl), charts-held)
 
@@ -29,18 +29,9 @@ pub writes : (s : List ℕ) (p : Polygon) → Charts s p → chartRead s ≡ wri
 unfolding chartRead outcome
 writes s p C = ap outcome (charts-held C)
 
--- The chart of every valid part is a chart of it, and is read back as that part, without its number.
-unfoldable pub chart-charts : (p : Polygon) → Valid p → Charts (bytesOf (chartOf p)) (withoutNumber p)
-chart-charts p v =
-    let S = chart-shows p v in
-    record {
-      valid = record { least = v .least; most = v .most; triangulated = v .triangulated; numbered = tt };
-      unnumbered = refl;
-      chart = chartOf p;
-      bytes = refl;
-      is-true = chart-is-true p v;
-      shows = record { corners = S .corners; edges = S .edges; ascending = S .ascending };
-    }
+-- The chart of every valid part is a chart of it, and is read back as that part.
+unfoldable pub chart-charts : (p : Polygon) → Valid p → Charts (bytesOf (chartOf p)) p
+chart-charts p v = record { valid = v; chart = chartOf p; bytes = refl; is-true = chart-is-true p v; shows = chart-shows p v }
 
-pub reads-back : (p : Polygon) → Valid p → readChart (bytesOf (chartOf p)) ≡ held (withoutNumber p)
+pub reads-back : (p : Polygon) → Valid p → readChart (bytesOf (chartOf p)) ≡ held p
 reads-back p v = charts-held (chart-charts p v)

@@ -1,21 +1,15 @@
 -- A chart of a part, ours or another's, as one statement about its bytes and the part. It names no order of tests; proofs/Theorems.antt holds `readChart` against it.
 use mathlib.Core.Path.{_≡_}
 use mathlib.Core.List.{List}
-use mathlib.Core.Option.{none}
 use Prim.Native.Nat.{ℕ}
 use Rattle.polygon.specs.Polygon.{Polygon, Valid}
 use Rattle.chart.specs.Chart.{Chart, True, Shows}
 use Rattle.chart.specs.Bytes.{bytesOf}
 
--- the bytes are those of a true chart that shows the part, a valid one without a number
+-- the bytes are those of a true chart that shows the part, a valid one
 pub record Charts (s : List ℕ) (p : Polygon) : Type 0 where
   pub valid : Valid p
-  pub unnumbered : p .number ≡ none
   pub chart : Chart
   pub bytes : s ≡ bytesOf chart
   pub is-true : True chart
   pub shows : Shows chart p
-
--- the part without its number
-abbrev pub withoutNumber : Polygon → Polygon
-withoutNumber p = record { n = p .n; ds = p .ds; number = none }

@@ -2,7 +2,6 @@
 use mathlib.Core.Path.{_≡_}
 use mathlib.Core.Logic.{_≢_}
 use mathlib.Core.List.{List, _∷_, map}
-use mathlib.Core.Option.{none}
 use Prim.Native.Nat.{ℕ, suc, _-_, _≤_, _<_, min, max}
 use Rattle.lists.specs.Lists.{All, Mem, Sorted, below, keep, numbers}
 use Rattle.polygon.specs.Polygon.{Edge, _—_, Ascending, NoneCross, Polygon}
@@ -77,6 +76,6 @@ module _ (c : Chart) where
   abbrev pub PartRule : Type 0
   PartRule = PartOf (c .n) edgesIn
 
-  -- the part: "normal sheet without part number"
+  -- the part that is shown
   abbrev pub partIn : Polygon
-  partIn = record { n = c .n; ds = diagonalsIn; number = none }
+  partIn = record { n = c .n; ds = diagonalsIn }

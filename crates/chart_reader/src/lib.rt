@@ -68,14 +68,10 @@ pub fn read_part(chart: &[u8], keys: &mut [u32]) -> Read
     if !part(&edges[..m], n, keys) {
         return Read::Refused(18);
     }
-    Read::Held(Head {
-        n,
-        numbered: false,
-        number: 0,
-    })
+    Read::Held(Head { n })
 }
 
-// Read a chart: the normal sheet, without part number, of the part that it shows.
+// Read a chart: the normal sheet of the part that it shows.
 pub fn read_chart(chart: &[u8], out: &mut [u8]) -> Written
     ensures { λ r. ⌜ answered r (now (out .exit)) ≡ written (chartRead (now (chart .entry))) (now (out .entry)) ⌝ }
 {

@@ -14,7 +14,7 @@ use Rattle.sheet.specs.Sheet.{ask, count?}
 use Rattle.chart.specs.Chart.{strokeEdge, barsOf}
 use Rattle.chart.specs.Bytes.{barBytes, strokeBytes, bytesOf}
 use Rattle.chart.specs.Decode.{shaped, places, behind}
-use Rattle.log_line.specs.Line.{digits, decimal, numberWord, line}
+use Rattle.log_line.specs.Line.{digits, decimal, line}
 use Rattle.chart_reader.specs.Areas.{common?, common-of, between, stands?, shares?, crosses?}
 use Rattle.chart_reader.specs.Formed.{formed?}
 use Rattle.chart_reader.specs.Rules.{partSides}
@@ -71,7 +71,7 @@ pub record KnownTexts : Type 0 where
   pub square-text : described (drawn 3 3 squareBars squareStrokes) ≡ squareText
 
 pub known : KnownTexts
-unfolding described describedAs line numberWord digits decimal cornerLines cornerLine strokeLines leftToRight insertStroke strokeLine strokeName edgeName drawn readChart ask formed? recast?
+unfolding described describedAs line digits decimal cornerLines cornerLine strokeLines leftToRight insertStroke strokeLine strokeName edgeName drawn readChart ask formed? recast?
     three? count? places behind shaped bars? free? joins? strokes? passes? gaps? part? partSides common? common-of between stands? shares? crosses? bytesOf barBytes strokeBytes barsOf flatMap
     strokeEdge Dec·and choose put keep numbers below all? sorted? mem? not? same? before? either? none-cross? cross? diagonal? decLe decLt ℕ-discrete treeOf grow far farther near? best
     umbrella leftAt rightAt stemAt over-node ud fold

@@ -2,7 +2,6 @@
 -- Rests on reading the text (Told.antt), on the bounds of a plan (crate umbrella) and on what reading a chart accepts (crate chart_reader).
 use mathlib.Core.Path.{_≡_, ap, sym, _∙_}
 use mathlib.Core.List.{List, _++_}
-use mathlib.Core.Option.{none}
 use Prim.Native.Nat.{ℕ, zero, suc, _+_, _*_, _%_, _<_}
 use native.Mathlib.Omega.{arith}
 use lib.ListN.{getD}
@@ -38,11 +37,10 @@ facts-small c p F v =
       columns = omega (arith, F .columns);
     }
 
--- a chart with a part of as many corners, without a number
+-- a chart with a part of as many corners
 pub record ShownPart (c : Chart) (p : Polygon) : Type 0 where
   pub readable : Readable c
   pub valid : Valid p
-  pub unnumbered : p .number ≡ none
   pub corners : c .n ≡ p .n
 
 -- Two charts with the same text have the same numbers.
@@ -51,7 +49,7 @@ unfolding describedAs
 text-tells c d p q S T e =
     let f = facts-small c p (S .readable .fits) (S .valid) in
     let g = facts-small d q (T .readable .fits) (T .valid) in
-    let a = line-told (chartFacts c p) (chartFacts d q) (cornerLines c ++ strokeLines c) (cornerLines d ++ strokeLines d) f g (S .unnumbered) (T .unnumbered) e in
+    let a = line-told (chartFacts c p) (chartFacts d q) (cornerLines c ++ strokeLines c) (cornerLines d ++ strokeLines d) f g e in
     let n : c .n ≡ d .n = S .corners ∙ (a .corners ∙ sym (T .corners)) in
     let b = lines-tell c d (S .readable) (T .readable) n (a .rest) in
     record { rows = a .rows; columns = a .columns; corners = n; bars = b .0; strokes = b .1 }
@@ -82,6 +80,5 @@ module _ (s : List ℕ) (B : All Byte s) where
   bytes-shown p H v = record {
     readable = record { fits = bytes-fit; named = H .strokes .0; ascending = H .strokes .1 };
     valid = v;
-    unnumbered = ap (λ (q : Polygon). q .number) (sym (H .is));
     corners = ap (λ (q : Polygon). q .n) (H .is);
   }

@@ -14,7 +14,7 @@ use Rattle.chart.specs.Decode.{chartIn}
 use Rattle.draw.specs.Printed.{printedOf, printed}
 use Rattle.log_line.specs.Line.{line}
 use Rattle.chart_reader.specs.Reader.{readChart}
-use Rattle.chart_reader.specs.Charts.{Charts, withoutNumber}
+use Rattle.chart_reader.specs.Charts.{Charts}
 use Rattle.chart_reader.proofs.Same.{SameNumbers}
 use Rattle.chart_reader.proofs.Decoded.{decoded}
 use Rattle.chart_reader.proofs.Encoded.{encoded}
@@ -56,12 +56,10 @@ describes s p C =
     let S = decoded-same C in
     rw (charts-held C, same-corners (chartIn s) c S, same-strokes (chartIn s) c S (shows-named c p (C .valid) (C .shows)), S .rows, S .columns)
 
--- The way back: of the chart that is drawn of a valid part, the line that is printed of the part's sheet without its number, the bars drawn, and the strokes drawn.
-pub way-back : (p : Polygon) → Valid p → described (bytesOf (chartOf p)) ≡ printed (normalSheet (withoutNumber p)) ++ (cornerLines (chartOf p) ++ strokeLines (chartOf p))
+-- The way back: of the chart that is drawn of a valid part, the line that is printed of the part's sheet, the bars drawn, and the strokes drawn.
+pub way-back : (p : Polygon) → Valid p → described (bytesOf (chartOf p)) ≡ printed (normalSheet p) ++ (cornerLines (chartOf p) ++ strokeLines (chartOf p))
 unfolding chart-charts printed printedOf chartOf
-way-back p v =
-    let C = chart-charts p v in
-    describes (bytesOf (chartOf p)) (withoutNumber p) C ∙ rw (read-back (withoutNumber p) (C .valid))
+way-back p v = describes (bytesOf (chartOf p)) p (chart-charts p v) ∙ rw (read-back p v)
 
 -- The strokes stand in the text from left to right.
 pub left-to-right : (c : Chart) (ss : List Stroke) → Sorted (λ s t. standing c s ≤ standing c t) (leftToRight c ss)

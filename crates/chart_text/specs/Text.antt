@@ -16,7 +16,8 @@ use Rattle.umbrella.specs.Plan.{levels, umbrellas, stems}
 use Rattle.umbrella.specs.Best.{planOf}
 use Rattle.chart.specs.Chart.{Bar, Stroke, upright, level, strokeEdge, Chart}
 use Rattle.chart.specs.Decode.{chartIn}
-use Rattle.log_line.specs.Line.{decimal, cornersWord, columnsWord, Facts, line, refusedLine}
+use Rattle.log_line.specs.declared.Facts.{Facts}
+use Rattle.log_line.specs.Line.{decimal, cornersWord, columnsWord, line, refusedLine}
 use Rattle.chart_reader.specs.Reader.{readChart}
 
 -- the words, with the blanks around them
@@ -44,7 +45,6 @@ sideWord = 32 ∷ 115 ∷ 105 ∷ 100 ∷ 101 ∷ 10 ∷ []
 -- what the first line tells: the part that the chart shows, in the chart's own rows and columns
 abbrev pub chartFacts : Chart → Polygon → Facts
 chartFacts c p = record {
-  number = p .number;
   corners = p .n;
   levels = levels (planOf p);
   umbrellas = umbrellas (planOf p);

@@ -6,11 +6,11 @@ use Rattle.sheet.specs.Sheet.{Reading, refused, held, readSheet}
 use Rattle.umbrella.specs.Plan.{levels, umbrellas, stems}
 use Rattle.umbrella.specs.Best.{planOf}
 use Rattle.chart.specs.Chart.{chartOf}
-use Rattle.log_line.specs.Line.{Facts, line, refusedLine}
+use Rattle.log_line.specs.declared.Facts.{Facts}
+use Rattle.log_line.specs.Line.{line, refusedLine}
 
 abbrev pub factsOf : Polygon → Facts
 factsOf p = record {
-  number = p .number;
   corners = p .n;
   levels = levels (planOf p);
   umbrellas = umbrellas (planOf p);

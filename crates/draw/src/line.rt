@@ -15,8 +15,6 @@ pub fn counts_line(h: Head, c: Totals, rows: usize, columns: usize, out: &mut [u
     ensures { λ r. ⌜ Put (line (told h c rows columns)) (now (out .entry)) 0 (now (out .exit)) r ⌝ }
 {
     let f = Facts {
-        numbered: h.numbered,
-        number: h.number,
         corners: h.n,
         levels: c.levels as usize,
         umbrellas: c.umbrellas as usize,

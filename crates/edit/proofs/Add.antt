@@ -72,5 +72,4 @@ add-valid p i A (h, k) = record {
   least = omega (arith, A .least);
   most = omega (arith, A .most);
   triangulated = add-triangulated (p .n) i (p .ds) (A .triangulated) h;
-  numbered = A .numbered;
 }

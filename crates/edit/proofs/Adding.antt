@@ -68,5 +68,5 @@ module _ {h : Head} {ks : List ℕ} (P : InHand h ks) (i : ℕ) where
             let e : h .n + 1 - 3 ≡ 1 + length (take (h .n - 3) moved) = omega (arith, P .valid .least, length-take-le (h .n - 3) moved room) in
             rw (e, I, inserted k (entering (h .n) i) (take (h .n - 3) moved) E (entering-low (h .n) i inside small), rw (keys-count P) at R, up-one i)
 
-        pub added : Reads (rule (addEar i) (polygonOf h ks)) (Held (record { n = h .n + 1; numbered = h .numbered; number = h .number })) after
+        pub added : Reads (rule (addEar i) (polygonOf h ks)) (Held (record { n = h .n + 1 })) after
         added = edited (addEar i) P (inside, space) (rw (edges, add-one (h .n))) long

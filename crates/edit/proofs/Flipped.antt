@@ -12,7 +12,7 @@ use Rattle.polygon.specs.Order.{remove, insert, lower-first}
 use Rattle.polygon.proofs.Order.{low-of, high-of, remove-all, remove-other, remove-ascending, remove-length, remove-mem, insert-mem}
 use Rattle.sheet.specs.Sheet.{held}
 use Rattle.sheet.proofs.Normal.{lower-first-same}
-use Rattle.edit.specs.Rules.{flip, common, enter, flipped, renewed, rule}
+use Rattle.edit.specs.Rules.{flip, common, enter, flipped, rule}
 use Rattle.edit.proofs.Rule.{Takes, given, rule-takes, rule-taken}
 use Rattle.edit.proofs.Reading.{common-reads}
 use Rattle.edit.proofs.Enter.{ApartFrom, entered, remove-insert, insert-remove}
@@ -123,11 +123,10 @@ flip-valid p a b A (h, m) =
       least = A .least;
       most = A .most;
       triangulated = rw (flipped-is (p .n) (p .ds) (A .triangulated) e f X) (flip-triangulated (p .n) (p .ds) (A .triangulated) e f X m);
-      numbered = A .numbered;
     }
 
 -- the new diagonal, flipped
-flip-again : (p : Polygon) (e f : Edge) → Valid p → Across (p .n) (p .ds) e f → Mem e (p .ds) → rule (flip (f .0) (f .1)) (renewed p (p .n) (insert f (remove e (p .ds)))) ≡ held p
+flip-again : (p : Polygon) (e f : Edge) → Valid p → Across (p .n) (p .ds) e f → Mem e (p .ds) → rule (flip (f .0) (f .1)) (record { n = p .n; ds = insert f (remove e (p .ds)) }) ≡ held p
 flip-again p e f A X m =
     let P = A .triangulated in
     let l = lower-first-same f (omega (arith, corners (X .crossing) .order)) in
@@ -142,5 +141,5 @@ flip-back p a b {q} A r =
     let e = lower-first (a, b) in
     let ((h, m), g) = rule-taken (flip a b) p r in
     let (f, X) = across (p .n) (p .ds) P e m in
-    let s : q ≡ renewed p (p .n) (insert f (remove e (p .ds))) = g ∙ ap (renewed p (p .n)) (flipped-is (p .n) (p .ds) P e f X) in
+    let s : q ≡ record { n = p .n; ds = insert f (remove e (p .ds)) } = g ∙ (λ i. record { n = p .n; ds = flipped-is (p .n) (p .ds) P e f X i }) in
     (f, ap (λ (x : Polygon). x .ds) s, fresh (p .n) (p .ds) P e f X m, ap (rule (flip (f .0) (f .1))) s ∙ flip-again p e f A X m)

@@ -1,5 +1,5 @@
--- Each rule keeps a valid polygon valid (`rule-valid`), and keeps its part number.
-use mathlib.Core.Path.{_≡_, refl, ap, _∙_}
+-- Each rule keeps a valid polygon valid (`rule-valid`).
+use mathlib.Core.Path.{_≡_}
 use Rattle.polygon.specs.Polygon.{Polygon, Valid}
 use Rattle.sheet.specs.Sheet.{held}
 use Rattle.edit.specs.Rules.{Edit, addEar, removeEar, flip, rule}
@@ -13,14 +13,5 @@ given-valid (addEar i) p A t = add-valid p i A t
 given-valid (removeEar k) p A t = remove-valid p k A t
 given-valid (flip a b) p A t = flip-valid p a b A t
 
-given-number : (e : Edit) (p : Polygon) → given e p .number ≡ p .number
-given-number (addEar i) p = refl
-given-number (removeEar k) p = refl
-given-number (flip a b) p = refl
-
-module _ (e : Edit) (p : Polygon) {q : Polygon} (r : rule e p ≡ held q) where
-  pub rule-valid : Valid p → Valid q
-  rule-valid A = let (t, g) = rule-taken e p r in rw g (given-valid e p A t)
-
-  pub rule-number : q .number ≡ p .number
-  rule-number = ap (λ (x : Polygon). x .number) (rule-taken e p r .1) ∙ given-number e p
+pub rule-valid : (e : Edit) (p : Polygon) {q : Polygon} → rule e p ≡ held q → Valid p → Valid q
+rule-valid e p r A = let (t, g) = rule-taken e p r in rw g (given-valid e p A t)

@@ -2,7 +2,6 @@
 use mathlib.Core.Path.{_≡_, refl}
 use mathlib.Core.Logic.{Dec·and}
 use mathlib.Core.List.{List, [], _∷_, map}
-use mathlib.Core.Option.{some}
 use Prim.Native.Nat.{ℕ, _-_}
 use native.Mathlib.Decide.{decLt, ℕ-discrete}
 use Rattle.lists.specs.Lists.{All, all-cons, all-nil, all?, below, choose, either?, keep, mem?, not?, numbers, put}
@@ -11,9 +10,9 @@ use Rattle.polygon.specs.Order.{before?, same?, remove, place, insert, lower-fi
 use Rattle.sheet.specs.Sheet.{Reading, refused, held, ask}
 use Rattle.edit.specs.Rules.{Edit, addEar, removeEar, flip, up, down, both, entering, earAdded, neighbours, earRemoved, away?, side?, linked?, joined?, common, enter, flipped, rule}
 
--- a part with a part number
+-- a part with these diagonals
 abbrev part : ℕ → List Edge → Polygon
-part n ds = record { n = n; ds = ds; number = some 7 }
+part n ds = record { n = n; ds = ds }
 
 -- n corners, each diagonal at corner 0
 abbrev fan : ℕ → Polygon

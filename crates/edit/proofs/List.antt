@@ -7,7 +7,6 @@ use native.Mathlib.Decide.{decLe}
 use native.Mathlib.Omega.{arith}
 use lib.ListN.{length}
 use lib.Seq.{take-append-seam}
-use Rattle.lists.specs.Lists.{All}
 use Rattle.lists.proofs.Lists.{all-mem, choose-yes, choose-no}
 use Rattle.polygon.specs.Polygon.{Polygon, Valid}
 use Rattle.codec.specs.Answer.{Answer, fit, written}
@@ -103,5 +102,5 @@ follows (c ∷ cs) s p A e =
     rest (refused k) G ih = rw (G .sheet) (ih s p A e)
     rest (held q) G ih = rw (G .sheet) (ih (normalSheet q) q (G .fair) (read-back q (G .fair)))
 
-pub list-of-edits : (s : List ℕ) (p : Polygon) → All (λ b. b < 256) s → readSheet s ≡ held p → (cs : List Call) → Follows s p cs
-list-of-edits s p a e cs = follows cs s p (read-valid s p a e) e
+pub list-of-edits : (s : List ℕ) (p : Polygon) → readSheet s ≡ held p → (cs : List Call) → Follows s p cs
+list-of-edits s p e cs = follows cs s p (read-valid s p e) e

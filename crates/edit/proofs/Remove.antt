@@ -86,7 +86,6 @@ remove-valid p k A (h, f, a) = record {
   least = omega (arith, A .least);
   most = omega (arith, A .most);
   triangulated = remove-triangulated (p .n) k (p .ds) (A .triangulated) h (omega (arith, A .least)) a;
-  numbered = A .numbered;
 }
 
 pub ear-diagonal : (p : Polygon) (k : ℕ) → Valid p → Takes (removeEar k) p → Mem (neighbours (p .n) k) (p .ds)

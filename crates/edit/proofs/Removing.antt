@@ -53,7 +53,7 @@ module _ {h : Head} {ks : List ℕ} (P : InHand h ks) (c : ℕ) where
           falls e d = ((omega (arith, d .forth, d .corner, P .valid .most), λ l. omega arith), (omega (arith, d .corner, P .valid .most), λ l. omega arith))
 
       pub shrunk : (after : List ℕ) → edgesOf (take (length rest) after) ≡ map (both (moved (Down c 1))) (edgesOf rest) → 1021 ≤ length after
-          → Reads (rule (removeEar c) (polygonOf h ks)) (Held (record { n = h .n - 1; numbered = h .numbered; number = h .number })) after
+          → Reads (rule (removeEar c) (polygonOf h ks)) (Held (record { n = h .n - 1 })) after
       unfolding earRemoved down
       shrunk after S long =
           let e : h .n - 1 - 3 ≡ length rest = omega (arith, W .size) in

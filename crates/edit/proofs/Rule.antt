@@ -5,7 +5,7 @@ use Rattle.lists.specs.Lists.{Mem, All}
 use Rattle.polygon.specs.Polygon.{Polygon}
 use Rattle.polygon.specs.Order.{lower-first}
 use Rattle.sheet.specs.Sheet.{Reading, refused, held, ask}
-use Rattle.edit.specs.Rules.{Edit, addEar, removeEar, flip, Away, earAdded, earRemoved, flipped, renewed, rule}
+use Rattle.edit.specs.Rules.{Edit, addEar, removeEar, flip, Away, earAdded, earRemoved, flipped, rule}
 
 -- a test is passed, or it refuses
 ask-cases : {P : Type 0} (Q : Reading → Type 0) (k : ℕ) (d : Dec P) (r : Reading) → (¬ P → Q (refused k)) → (P → Q r) → Q (ask k d r)
@@ -21,9 +21,9 @@ Takes (flip a b) p = ((a < p .n) × (b < p .n)) × Mem (lower-first (a, b)) (p .
 
 -- what it then gives
 abbrev pub given : Edit → Polygon → Polygon
-given (addEar i) p = renewed p (suc (p .n)) (earAdded (p .n) i (p .ds))
-given (removeEar k) p = renewed p (p .n - 1) (earRemoved (p .n) k (p .ds))
-given (flip a b) p = renewed p (p .n) (flipped (p .n) (lower-first (a, b)) (p .ds))
+given (addEar i) p = record { n = suc (p .n); ds = earAdded (p .n) i (p .ds) }
+given (removeEar k) p = record { n = p .n - 1; ds = earRemoved (p .n) k (p .ds) }
+given (flip a b) p = record { n = p .n; ds = flipped (p .n) (lower-first (a, b)) (p .ds) }
 
 abbrev pub Ruled : Edit → Polygon → Reading → Type 0
 Ruled e p (refused k) = ¬ Takes e p

@@ -3,7 +3,7 @@ use mathlib.Core.Path.{_≡_}
 use mathlib.Core.Logic.{_⊎_, _↔_}
 use mathlib.Core.List.{List, [], _∷_}
 use Prim.Native.Nat.{ℕ, suc, _≤_, _<_}
-use Rattle.lists.specs.Lists.{All, Mem}
+use Rattle.lists.specs.Lists.{Mem}
 use Rattle.polygon.specs.Polygon.{Edge, Side, Joined, Polygon, Valid}
 use Rattle.polygon.specs.Order.{remove, insert, lower-first}
 use Rattle.sheet.specs.Sheet.{held, readSheet}
@@ -18,9 +18,9 @@ use Rattle.edit.proofs.Remove as ears
 use Rattle.edit.proofs.Flipped as flips
 use Rattle.edit.proofs.List as list
 
--- An edit that is taken gives a valid part, with the part number that it had.
-pub edit-keeps-valid : (e : Edit) (p q : Polygon) → Valid p → rule e p ≡ held q → Valid q × (q .number ≡ p .number)
-edit-keeps-valid e p q A r = (keeps.rule-valid e p r A, keeps.rule-number e p r)
+-- An edit that is taken gives a valid part.
+pub edit-keeps-valid : (e : Edit) (p q : Polygon) → Valid p → rule e p ≡ held q → Valid q
+edit-keeps-valid e p q A r = keeps.rule-valid e p r A
 
 -- An edit that is refused is refused by a number of its rule.
 pub rule-refuses : (e : Edit) (p : Polygon) → RefusedBy (ruleTests e) (rule e p)
@@ -56,5 +56,5 @@ flip-either = reading.flip-either
 
 -- THE LIST OF EDITS (demand 3, as far as it needs no chart). Calls of the three operations, from any accepted sheet, one after another, each on what the last taken one wrote:
 -- the numbers answered are the plain part's, and the sheet left is the plain part's normal sheet, or the first sheet if no edit was taken (`Follows` in List.antt).
-pub list-of-edits : (s : List ℕ) (p : Polygon) → All (λ b. b < 256) s → readSheet s ≡ held p → (cs : List Call) → list.Follows s p cs
+pub list-of-edits : (s : List ℕ) (p : Polygon) → readSheet s ≡ held p → (cs : List Call) → list.Follows s p cs
 list-of-edits = list.list-of-edits

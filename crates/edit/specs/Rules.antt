@@ -1,4 +1,4 @@
--- Document 01, "The plain part and demand 3": what the edit rules give, on n, the set of diagonals (kept as its ascending list) and the part number.
+-- Document 01, "The plain part and demand 3": what the edit rules give, on n and the set of diagonals (kept as its ascending list). Request (xii): "the plain part keeps none", no part number.
 -- An ear is a corner at which no diagonal ends, with its two sides.
 use mathlib.Core.Path.{_≡_}
 use mathlib.Core.Logic.{Dec·and}
@@ -75,10 +75,6 @@ enter (x ∷ (y ∷ (z ∷ zs))) ds = ds
 unfoldable pub flipped : ℕ → Edge → List Edge → List Edge
 flipped n e ds = enter (common n ds e) (remove e ds)
 
--- the part with n corners and these diagonals in place of its own: "Edits .. keep the part number"
-abbrev pub renewed : Polygon → ℕ → List Edge → Polygon
-renewed p n ds = record { n = n; ds = ds; number = p .number }
-
 -- The rules. Add on side i: "Refused by 9 if i ≥ n, by 10 if n is 1,024."
 -- Take off k: "Refused by 9 if k ≥ n, by 11 if n is 3, by 12 if a diagonal ends at k."
 -- Turn (a,b): "Refused by 9 if a or b ≥ n, by 13 if the pair, either way round, is not in the set."
@@ -86,17 +82,17 @@ unfoldable pub rule : Edit → Polygon → Reading
 rule (addEar i) p =
     ask 9 (decLt i (p .n))
     (ask 10 (not? (ℕ-discrete (p .n) 1024))
-    (held (renewed p (suc (p .n)) (earAdded (p .n) i (p .ds)))))
+    (held (record { n = suc (p .n); ds = earAdded (p .n) i (p .ds) })))
 rule (removeEar k) p =
     ask 9 (decLt k (p .n))
     (ask 11 (not? (ℕ-discrete (p .n) 3))
     (ask 12 (all? (away? k) (p .ds))
-    (held (renewed p (p .n - 1) (earRemoved (p .n) k (p .ds))))))
+    (held (record { n = p .n - 1; ds = earRemoved (p .n) k (p .ds) }))))
 rule (flip a b) p =
     let e = lower-first (a, b) in
     ask 9 (Dec·and (decLt a (p .n)) (decLt b (p .n)))
     (ask 13 (mem? same? e (p .ds))
-    (held (renewed p (p .n) (flipped (p .n) e (p .ds)))))
+    (held (record { n = p .n; ds = flipped (p .n) e (p .ds) })))
 
 -- the numbers that each rule refuses by
 abbrev pub ruleTests : Edit → List ℕ

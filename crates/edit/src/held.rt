@@ -59,11 +59,7 @@ fn add_to(h: Head, keys: &mut [u32], side: usize) -> Read
     renumber(&keys[..m], Shift::Up(side, 1), &mut moved);
     let new = [entering_key(n, side)];
     merge(&new, &moved[..m], keys);
-    Read::Held(Head {
-        n: n + 1,
-        numbered: h.numbered,
-        number: h.number,
-    })
+    Read::Held(Head { n: n + 1 })
 }
 
 // Takes off a corner.
@@ -87,11 +83,7 @@ fn remove_from(h: Head, keys: &mut [u32], corner: usize) -> Read
     let mut rest = [0u32; DIAGONALS];
     let left = remove(&keys[..m], key(a, b), &mut rest);
     renumber(&rest[..left], Shift::Down(corner, 1), keys);
-    Read::Held(Head {
-        n: n - 1,
-        numbered: h.numbered,
-        number: h.number,
-    })
+    Read::Held(Head { n: n - 1 })
 }
 
 // The key of the pair of corners that are joined to both a and b.

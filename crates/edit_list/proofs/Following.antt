@@ -1,7 +1,7 @@
 -- The calls that a run makes, and what follows of it from the list of edits (`list-of-edits` of the crate edit).
 use mathlib.Core.Path.{_≡_, refl, ap, ap₂, sym, _∙_}
 use mathlib.Core.List.{List, _∷_, map}
-use Prim.Native.Nat.{ℕ, _≤_, _<_}
+use Prim.Native.Nat.{ℕ, _≤_}
 use native.Mathlib.Decide.{ℕ-discrete}
 use lib.ListN.{length}
 use Rattle.lists.specs.Lists.{All, all-cons, all-nil, choose}
@@ -39,29 +39,29 @@ calling first d D (all-cons {x} {l} s a) =
       call-edits = ap₂ _∷_ (ap (λ (n : ℕ). (x .0, n)) (lent-asked first d x D s)) (C .call-edits);
     }
 
-finished-model : (first list front back outs : List ℕ) (p : Polygon) → All (λ b. b < 256) first → readSheet first ≡ held p → faultOf list (length front) (length back) (length outs) ≡ 0
+finished-model : (first list front back outs : List ℕ) (p : Polygon) → readSheet first ≡ held p → faultOf list (length front) (length back) (length outs) ≡ 0
     → AsModel first p list outs (finished first list front back outs)
 unfolding finished placed
-finished-model first list front back outs p bytes e f =
+finished-model first list front back outs p e f =
     let d = begin first front back in
     let C = calling first d (begin-sound first front back) (script-rooms list _ _ (fault-rooms list (length front) (length back) (length outs) f)) in
-    let F = list-of-edits first p bytes e (callsOf first d (scriptOf list)) in
+    let F = list-of-edits first p e (callsOf first d (scriptOf list)) in
     record {
       same-numbers = ap (λ (ns : List ℕ). numbered ns outs) (sym (C .call-numbers) ∙ (F .same-numbers ∙ ap (modelNumbers p) (C .call-edits)));
       same-sheet = sym (C .call-sheet) ∙ (F .same-sheet ∙ ap (modelSheet first p) (C .call-edits));
     }
 
--- THE LIST OF EDITS, RUN. From a first sheet of bytes that holds p, a run that is not refused writes the plain part's numbers and leaves the plain part's sheet.
-pub run-follows : (first list front back outs : List ℕ) (p : Polygon) → All (λ b. b < 256) first → readSheet first ≡ held p → resultOf first list front back outs .number ≡ 0
+-- THE LIST OF EDITS, RUN. From a first sheet that holds p, a run that is not refused writes the plain part's numbers and leaves the plain part's sheet.
+pub run-follows : (first list front back outs : List ℕ) (p : Polygon) → readSheet first ≡ held p → resultOf first list front back outs .number ≡ 0
     → AsModel first p list outs (resultOf first list front back outs)
 unfolding resultOf choose
-run-follows first list front back outs p bytes e = go _ (finished-model first list front back outs p bytes e) (ℕ-discrete _ 0)
+run-follows first list front back outs p e = go _ (finished-model first list front back outs p e) (ℕ-discrete _ 0)
   where
     go : (k : ℕ) → (k ≡ 0 → AsModel first p list outs (finished first list front back outs)) → (d : Dec (k ≡ 0))
         → choose d (finished first list front back outs) (unchanged k front back outs) .number ≡ 0 → AsModel first p list outs (choose d (finished first list front back outs) (unchanged k front back outs))
     go k f (yes z) h = f z
     go k f (no z) h = absurd (z h)
 
-pub ran-model : (first list front back outs : List ℕ) (r : Result) → r ≡ resultOf first list front back outs → All (λ b. b < 256) first
+pub ran-model : (first list front back outs : List ℕ) (r : Result) → r ≡ resultOf first list front back outs
     → (p : Polygon) → readSheet first ≡ held p → r .number ≡ 0 → AsModel first p list outs r
-ran-model first list front back outs r q bytes p e z = rw q (run-follows first list front back outs p bytes e (rw q at z))
+ran-model first list front back outs r q p e z = rw q (run-follows first list front back outs p e (rw q at z))

@@ -1,7 +1,7 @@
 -- Known lists of edits, byte by byte, and what running them gives, by computation.
 use mathlib.Core.Path.{_≡_, refl}
 use mathlib.Core.Logic.{Dec·and}
-use mathlib.Core.List.{List, [], _∷_}
+use mathlib.Core.List.{List, [], _∷_, _++_}
 use Prim.Native.Nat.{ℕ}
 use native.Mathlib.Decide.{decLe, decLt, ℕ-discrete}
 use lib.ListN.{replicate}
@@ -9,12 +9,12 @@ use Rattle.lists.specs.Lists.{All, all-cons, all-nil, all?, below, choose, eith
 use Rattle.polygon.specs.Order.{before?, same?, cross?, none-cross?, diagonal?, distinct?, place, insert, remove, sort, lower-first}
 use Rattle.codec.specs.Numbers.{run16}
 use Rattle.codec.specs.Answer.{fit, written}
-use Rattle.sheet.specs.Sheet.{ask, pairs, partNumber, count?, more, readSheet, pairBytes, numberBytes, numberBit, mapByte, normalSheet, outcome}
+use Rattle.sheet.specs.Sheet.{ask, pairs, count?, more, readSheet, pairBytes, mapByte, normalSheet, outcome}
 use Rattle.edit.specs.Rules.{up, both, entering, earAdded, away?, side?, linked?, joined?, common, enter, flipped, rule}
 use Rattle.edit.specs.Calls.{onHeld, edited, called}
 use Rattle.edit_list.specs.Script.{editBy, editAt, edits, scriptOf, kinds?, rooms?, test, faultOf}
 use Rattle.edit_list.specs.Desk.{placed, other, answerOf, answeredDesk, deskStep, deskAfter, numbersOf}
-use Rattle.edit_list.specs.Result.{numbered, finished, resultOf}
+use Rattle.edit_list.specs.Result.{Result, numbered, finished, resultOf}
 
 -- n = 4 with the diagonal (0,2)
 abbrev pub square : List ℕ
@@ -29,21 +29,54 @@ turns =
     ∷ 1 ∷ 0 ∷ 0 ∷ 0 ∷ 2 ∷ 0 ∷ 0 ∷ 0 ∷ 0 ∷ 0 ∷ 0 ∷ 0 ∷ 12
     ∷ []
 
--- the first three are taken and the last is refused by 12; the sheet left has 11 bytes and lies in front: n = 5 with (0,2) and (0,3)
-pub known-run : resultOf square turns (replicate 13 7) (replicate 14 8) (replicate 9 9)
-    ≡ record {
-      number = 0;
-      place = 1;
-      size = 11;
-      front = 3 ∷ 0 ∷ 5 ∷ 0 ∷ 0 ∷ 0 ∷ 2 ∷ 0 ∷ 0 ∷ 0 ∷ 3 ∷ 7 ∷ 7 ∷ [];
-      back = 3 ∷ 0 ∷ 4 ∷ 0 ∷ 0 ∷ 0 ∷ 2 ∷ 8 ∷ 8 ∷ 8 ∷ 8 ∷ 8 ∷ 8 ∷ 8 ∷ [];
-      outs = 0 ∷ 0 ∷ 0 ∷ 0 ∷ 0 ∷ 0 ∷ 0 ∷ 12 ∷ 9 ∷ [];
-    }
+-- the square with bit 2 and its four bytes; (0,2) turned, with so much room
+abbrev pub squareWithBit2 : List ℕ
+squareWithBit2 = 7 ∷ 0 ∷ 4 ∷ 0 ∷ 0 ∷ 0 ∷ 2 ∷ 0 ∷ 0 ∷ 0 ∷ 9 ∷ []
+
+abbrev pub turnIn : ℕ → List ℕ
+turnIn room = 2 ∷ 0 ∷ 0 ∷ 0 ∷ 0 ∷ 0 ∷ 0 ∷ 0 ∷ 2 ∷ 0 ∷ 0 ∷ 0 ∷ room ∷ []
+
+-- a first sheet, a list, the bytes of the front buffer, of the back buffer and of the output for the numbers, and what running the list gives
+abbrev pub Run : Type 0
+Run = List ℕ × List ℕ × List ℕ × List ℕ × List ℕ × Result
+
+abbrev pub runs : List Run
+runs =
+    -- the first three are taken and the last is refused by 12; the sheet left has 11 bytes and lies in front: n = 5 with (0,2) and (0,3)
+    (
+      square,
+      turns,
+      replicate 13 7,
+      replicate 14 8,
+      replicate 9 9,
+      record {
+        number = 0;
+        place = 1;
+        size = 11;
+        front = 3 ∷ 0 ∷ 5 ∷ 0 ∷ 0 ∷ 0 ∷ 2 ∷ 0 ∷ 0 ∷ 0 ∷ 3 ∷ 7 ∷ 7 ∷ [];
+        back = 3 ∷ 0 ∷ 4 ∷ 0 ∷ 0 ∷ 0 ∷ 2 ∷ 8 ∷ 8 ∷ 8 ∷ 8 ∷ 8 ∷ 8 ∷ 8 ∷ [];
+        outs = 0 ∷ 0 ∷ 0 ∷ 0 ∷ 0 ∷ 0 ∷ 0 ∷ 12 ∷ 9 ∷ [];
+      },
+    )
+    -- from a sheet with bit 2: (0,2) turned, with room for six bytes and for seven. The second is taken, and writes no bit 2
+    ∷ (
+      squareWithBit2,
+      turnIn 6 ++ turnIn 7,
+      replicate 7 7,
+      replicate 7 8,
+      replicate 4 9,
+      record { number = 0; place = 1; size = 7; front = 3 ∷ 0 ∷ 4 ∷ 0 ∷ 1 ∷ 0 ∷ 3 ∷ []; back = replicate 7 8; outs = 0 ∷ 8 ∷ 0 ∷ 0 ∷ [] },
+    )
+    -- with room for six only: none is taken, and the first sheet, of eleven bytes, is left as it is
+    ∷ (squareWithBit2, turnIn 6, replicate 7 7, replicate 7 8, replicate 4 9, record { number = 0; place = 0; size = 11; front = replicate 7 7; back = replicate 7 8; outs = 0 ∷ 8 ∷ 9 ∷ 9 ∷ [] })
+    ∷ []
+
+pub known-runs : All (λ (x : Run). resultOf (x .0) (x .1) (x .2) (x .3) (x .4) ≡ x .5) runs
 unfolding resultOf finished numbered scriptOf edits editAt editBy faultOf test kinds? rooms? deskAfter deskStep numbersOf answerOf answeredDesk placed other
-    called edited onHeld outcome written fit run16 rule ask up both entering earAdded away? side? linked? joined? common enter flipped readSheet pairs partNumber
-    count? more pairBytes numberBytes numberBit mapByte normalSheet Dec·and decLe decLt ℕ-discrete choose put keep numbers below not? either? all? sorted? mem?
+    called edited onHeld outcome written fit run16 rule ask up both entering earAdded away? side? linked? joined? common enter flipped readSheet pairs
+    count? more pairBytes mapByte normalSheet Dec·and decLe decLt ℕ-discrete choose put keep numbers below not? either? all? sorted? mem?
     before? same? cross? none-cross? diagonal? distinct? place insert remove sort lower-first
-known-run = refl
+known-runs = all-cons refl (all-cons refl (all-cons refl all-nil))
 
 -- a list, the lengths of the front buffer, the back buffer and the output for the numbers, and the number of the first test that fails, or 0
 abbrev pub Case : Type 0

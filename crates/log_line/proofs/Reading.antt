@@ -1,14 +1,14 @@
 -- Reading a number in decimal: what stands behind it, a blank or a line end, is no digit, and so the number and the rest are told.
 use mathlib.Core.Path.{_≡_, refl, ap, ap₂, sym, _∙_}
 use mathlib.Core.List.{List, [], _∷_, _++_, append-assoc}
-use mathlib.Core.Option.{none}
 use Prim.Native.Nat.{ℕ, zero, suc, _+_, _*_, _-_, _/_, _%_, _^_, _<_, _≤_}
 use native.Mathlib.Decide.{decLt}
 use native.Mathlib.Omega.{arith}
 use lib.ListN.{drop}
 use Rattle.lists.specs.Lists.{All, all-cons, all-nil}
 use Rattle.lists.proofs.Lists.{all-append}
-use Rattle.log_line.specs.Line.{digits, decimal, numberWord, Facts, line}
+use Rattle.log_line.specs.declared.Facts.{Facts}
+use Rattle.log_line.specs.Line.{digits, decimal, line}
 use Rattle.log_line.proofs.Digits.{digits-one, digits-last}
 
 -- a digit's byte is 48 or more
@@ -83,11 +83,10 @@ pub record LineTold (f g : Facts) (xs ys : List ℕ) : Type 0 where
   pub columns : f .columns ≡ g .columns
   pub rest : xs ≡ ys
 
-pub line-told : (f g : Facts) (xs ys : List ℕ) → SmallFacts f → SmallFacts g → f .number ≡ none → g .number ≡ none → line f ++ xs ≡ line g ++ ys → LineTold f g xs ys
-unfolding line numberWord
-line-told f g xs ys F G p q e =
-    let d = rw (p, q) at e in
-    let a = number-told (f .corners) (g .corners) (F .corners) (G .corners) 32 (omega arith) _ _ xs ys (ap (drop 15) d) in
+pub line-told : (f g : Facts) (xs ys : List ℕ) → SmallFacts f → SmallFacts g → line f ++ xs ≡ line g ++ ys → LineTold f g xs ys
+unfolding line
+line-told f g xs ys F G e =
+    let a = number-told (f .corners) (g .corners) (F .corners) (G .corners) 32 (omega arith) _ _ xs ys (ap (drop 15) e) in
     let b = number-told (f .levels) (g .levels) (F .levels) (G .levels) 32 (omega arith) _ _ xs ys (ap (drop 8) (a .1)) in
     let c = number-told (f .umbrellas) (g .umbrellas) (F .umbrellas) (G .umbrellas) 32 (omega arith) _ _ xs ys (ap (drop 11) (b .1)) in
     let h = number-told (f .stems) (g .stems) (F .stems) (G .stems) 32 (omega arith) _ _ xs ys (ap (drop 7) (c .1)) in

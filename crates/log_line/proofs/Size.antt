@@ -1,20 +1,15 @@
 -- How long a line is at most. Rests on the digits of a number: 20 at most, and fewer of a small number.
 use mathlib.Core.List.{List, [], _∷_, _++_}
-use mathlib.Core.Option.{Option, none, some}
 use Prim.Native.Nat.{ℕ, suc, _+_, _^_, _<_, _≤_}
 use native.Mathlib.Omega.{arith}
 use lib.ListN.{length, length-append}
-use Rattle.log_line.specs.Line.{decimal, cornersWord, levelsWord, umbrellasWord, stemsWord, rowsWord, columnsWord, numberWord, Facts, line, refusedLine}
+use Rattle.log_line.specs.declared.Facts.{Facts}
+use Rattle.log_line.specs.Line.{decimal, levelsWord, umbrellasWord, stemsWord, rowsWord, columnsWord, line, refusedLine}
 use Rattle.log_line.proofs.Digits.{digits-length, digits-short}
 
 before : (n : ℕ) (xs : List ℕ) → length (decimal n ++ xs) ≤ 20 + length xs
 unfolding decimal
 before n xs = omega (arith, length-append (decimal n) xs, digits-length 20 n)
-
-number-before : (k : Option ℕ) (xs : List ℕ) → length (numberWord k ++ xs) ≤ 20 + length xs
-unfolding numberWord
-number-before none xs = omega arith
-number-before (some k) xs = before k xs
 
 pub line-size : (f : Facts) → length (line f) ≤ 256
 unfolding line
@@ -24,8 +19,7 @@ line-size f =
     let c : List ℕ = stemsWord ++ (decimal (f .stems) ++ b) in
     let d : List ℕ = umbrellasWord ++ (decimal (f .umbrellas) ++ c) in
     let e : List ℕ = levelsWord ++ (decimal (f .levels) ++ d) in
-    let g : List ℕ = cornersWord ++ (decimal (f .corners) ++ e) in
-    omega (arith, number-before (f .number) g, before (f .corners) e, before (f .levels) d, before (f .umbrellas) c, before (f .stems) b, before (f .rows) a, before (f .columns) (10 ∷ []))
+    omega (arith, before (f .corners) e, before (f .levels) d, before (f .umbrellas) c, before (f .stems) b, before (f .rows) a, before (f .columns) (10 ∷ []))
 
 pub refused-size : (k : ℕ) → length (refusedLine k) ≤ 256
 unfolding refusedLine

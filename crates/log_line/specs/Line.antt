@@ -1,10 +1,10 @@
 -- The line that the program prints (document 01, "Known parts"), in bytes:
--- `part - corners 3 levels 1 umbrellas 1 stems 0 rows 3 columns 2` "(part number or `-`, the rest as named, in decimal)". "A refusal prints `refused` and its number, as `refused 3`".
+-- `part - corners 3 levels 1 umbrellas 1 stems 0 rows 3 columns 2`, the numbers "as named, in decimal"; request (xii): "the log prints `-` always". "A refusal prints `refused` and its number, as `refused 3`".
 use mathlib.Core.List.{List, [], _∷_, _++_}
-use mathlib.Core.Option.{Option, none, some}
 use Prim.Native.Nat.{ℕ, zero, suc, _+_, _/_, _%_}
 use native.Mathlib.Decide.{decLt}
 use Rattle.lists.specs.Lists.{choose}
+use Rattle.log_line.specs.declared.Facts.{Facts}
 
 -- a number in decimal; the first number bounds the digits
 unfoldable pub digits : ℕ → ℕ → List ℕ
@@ -19,7 +19,7 @@ decimal n = digits 20 n
 
 -- the words, with the blanks around them
 abbrev pub partWord : List ℕ
-partWord = 112 ∷ 97 ∷ 114 ∷ 116 ∷ 32 ∷ []
+partWord = 112 ∷ 97 ∷ 114 ∷ 116 ∷ 32 ∷ 45 ∷ []
 
 abbrev pub cornersWord : List ℕ
 cornersWord = 32 ∷ 99 ∷ 111 ∷ 114 ∷ 110 ∷ 101 ∷ 114 ∷ 115 ∷ 32 ∷ []
@@ -42,32 +42,16 @@ columnsWord = 32 ∷ 99 ∷ 111 ∷ 108 ∷ 117 ∷ 109 ∷ 110 ∷ 115 ∷ 32 �
 abbrev pub refusedWord : List ℕ
 refusedWord = 114 ∷ 101 ∷ 102 ∷ 117 ∷ 115 ∷ 101 ∷ 100 ∷ 32 ∷ []
 
--- the part number, or "-"
-unfoldable pub numberWord : Option ℕ → List ℕ
-numberWord none = 45 ∷ []
-numberWord (some k) = decimal k
-
--- what the line tells of a part
-pub record Facts : Type 0 where
-  pub number : Option ℕ
-  pub corners : ℕ
-  pub levels : ℕ
-  pub umbrellas : ℕ
-  pub stems : ℕ
-  pub rows : ℕ
-  pub columns : ℕ
-
--- the line, with its line end
+-- the line of what it tells of a part (`Facts` of src/lib.rt), with its line end
 unfoldable pub line : Facts → List ℕ
 line f =
-    partWord ++ (numberWord (f .number)
-    ++ (cornersWord ++ (decimal (f .corners)
+    partWord ++ (cornersWord ++ (decimal (f .corners)
     ++ (levelsWord ++ (decimal (f .levels)
     ++ (umbrellasWord ++ (decimal (f .umbrellas)
     ++ (stemsWord ++ (decimal (f .stems)
     ++ (rowsWord ++ (decimal (f .rows)
     ++ (columnsWord ++ (decimal (f .columns)
-    ++ (10 ∷ []))))))))))))))
+    ++ (10 ∷ [])))))))))))))
 
 unfoldable pub refusedLine : ℕ → List ℕ
 refusedLine k = refusedWord ++ (decimal k ++ (10 ∷ []))

@@ -2,13 +2,11 @@
 ghost use mathlib.Core.List.{_++_};
 ghost use Prim.Native.Nat.{_+_, _<_, _≤_};
 ghost use lib.ListN.{length};
-ghost use Rattle.log_line.specs.Line.{digits, decimal, numberWord, line, refusedLine};
-ghost use Rattle.log_line.specs.Put.{Put, numberIf, lineFacts};
+ghost use Rattle.log_line.specs.Line.{digits, decimal, line, refusedLine};
+ghost use Rattle.log_line.specs.Put.{Put};
 
 // What the line tells of a part.
 pub struct Facts {
-    pub numbered: bool,
-    pub number: usize,
     pub corners: usize,
     pub levels: usize,
     pub umbrellas: usize,
@@ -54,32 +52,18 @@ pub fn put_field(out: &mut [u8], at: usize, word: &[u8], n: usize) -> usize
     put_digits(out, next, n)
 }
 
-// Writes the part number, or "-".
-fn put_number(out: &mut [u8], at: usize, numbered: bool, number: usize) -> usize
-    requires { ⌜ at + 20 ≤ length (now out) ⌝ }
-    ensures text { λ r. ⌜ Put (numberWord (numberIf numbered number)) (now (out .entry)) at (now (out .exit)) r ⌝ }
-    ensures within { λ r. ⌜ r ≤ at + 20 ⌝ }
-{
-    if numbered {
-        return put_digits(out, at, number);
-    }
-    put_word(out, at, b"-")
-}
-
 // Writes the line of a part, and says how long it is.
 pub fn put_line(f: Facts, out: &mut [u8]) -> usize
     requires { ⌜ 256 ≤ length (now out) ⌝ }
-    ensures { λ r. ⌜ Put (line (lineFacts f)) (now (out .entry)) 0 (now (out .exit)) r ⌝ }
+    ensures { λ r. ⌜ Put (line f) (now (out .entry)) 0 (now (out .exit)) r ⌝ }
 {
-    let a = put_word(out, 0, b"part ");
-    let b = put_number(out, a, f.numbered, f.number);
-    let c = put_field(out, b, b" corners ", f.corners);
-    let d = put_field(out, c, b" levels ", f.levels);
-    let e = put_field(out, d, b" umbrellas ", f.umbrellas);
-    let g = put_field(out, e, b" stems ", f.stems);
-    let h = put_field(out, g, b" rows ", f.rows);
-    let i = put_field(out, h, b" columns ", f.columns);
-    put_word(out, i, b"\n")
+    let a = put_field(out, 0, b"part - corners ", f.corners);
+    let b = put_field(out, a, b" levels ", f.levels);
+    let c = put_field(out, b, b" umbrellas ", f.umbrellas);
+    let d = put_field(out, c, b" stems ", f.stems);
+    let e = put_field(out, d, b" rows ", f.rows);
+    let g = put_field(out, e, b" columns ", f.columns);
+    put_word(out, g, b"\n")
 }
 
 // Writes the line of a refusal, and says how long it is.

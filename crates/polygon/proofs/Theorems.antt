@@ -2,7 +2,6 @@
 use mathlib.Core.Path.{_≡_, ap, sym, _∙_}
 use mathlib.Core.Logic.{_↔_}
 use mathlib.Core.List.{List}
-use mathlib.Core.Option.{none}
 use Prim.Native.Nat.{ℕ, suc, _+_, _-_, _≤_}
 use native.Mathlib.Omega.{arith}
 use lib.ListN.{length}
@@ -24,8 +23,8 @@ polygon-is-tree p v =
     (T .size, T .same, λ t h e. sym (tree-unique (p .n) (p .ds) t (v .least) (record { size = h; same = e })))
 
 -- A tree of span 2 to 1,023 is a valid polygon: one corner more than its span, with its inner edges as diagonals.
-pub tree-is-polygon : (t : Tree) → 2 ≤ span t → span t ≤ 1023 → Valid (record { n = suc (span t); ds = inner 0 t; number = none })
-tree-is-polygon t h k = record { least = omega arith; most = omega arith; triangulated = tree-triangulates t h; numbered = tt }
+pub tree-is-polygon : (t : Tree) → 2 ≤ span t → span t ≤ 1023 → Valid (record { n = suc (span t); ds = inner 0 t })
+tree-is-polygon t h k = record { least = omega arith; most = omega arith; triangulated = tree-triangulates t h }
 
 -- "The whole part is the piece (0, n-1)."
 pub whole-part : (p : Polygon) → Valid p → PieceOf (p .n) (p .ds) 0 (treeOf (p .n) (p .ds)) × (0 + span (treeOf (p .n) (p .ds)) ≡ p .n - 1)

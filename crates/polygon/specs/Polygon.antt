@@ -3,8 +3,7 @@
 use mathlib.Core.Path.{_≡_}
 use mathlib.Core.Logic.{_⊎_}
 use mathlib.Core.List.{List}
-use mathlib.Core.Option.{Option, none, some}
-use Prim.Native.Nat.{ℕ, suc, _+_, _≤_, _<_, _^_}
+use Prim.Native.Nat.{ℕ, suc, _+_, _≤_, _<_}
 use lib.ListN.{length}
 use Rattle.lists.specs.Lists.{All, Mem, Sorted}
 
@@ -50,23 +49,16 @@ pub record Triangulated (n : ℕ) (ds : List Edge) : Type 0 where
   pub none-cross : NoneCross ds
   pub full : length ds + 3 ≡ n
 
--- a part, with its part number if it has one
+-- a part
 pub record Polygon : Type 0 where
   pub n : ℕ
   pub ds : List Edge
-  pub number : Option ℕ
-
--- a part number has four bytes
-abbrev pub Numbered : Option ℕ → Type 0
-Numbered none = Unit {0}
-Numbered (some k) = k < 2 ^ 32
 
 -- "A part has n corners, 3 to 1,024"
 pub record Valid (p : Polygon) : Type 0 where
   pub least : 3 ≤ p .n
   pub most : p .n ≤ 1024
   pub triangulated : Triangulated (p .n) (p .ds)
-  pub numbered : Numbered (p .number)
 
 -- a side or a diagonal joins the lower corner x to the higher y; and either way round
 abbrev pub Linked : ℕ → List Edge → ℕ → ℕ → Type 0

@@ -1,10 +1,9 @@
 -- Demand 3 is proved: the list theorem of the crate edit, with the plan's and the chart's theorems on the part that the list leaves.
 use mathlib.Core.Path.{_≡_, ap, sym, _∙_}
 use mathlib.Core.List.{List}
-use Prim.Native.Nat.{ℕ, _<_}
+use Prim.Native.Nat.{ℕ}
 use lib.ListN.{length, take}
 use lib.Seq.{take-append-seam, take-at}
-use Rattle.lists.specs.Lists.{All}
 use Rattle.polygon.specs.Polygon.{Polygon}
 use Rattle.polygon.specs.Tree.{treeOf}
 use Rattle.polygon.proofs.Theorems.{same-diagonals}
@@ -26,10 +25,10 @@ use Rattle.draw.specs.Answer.{charted, drawn, chartedBoth, drawnWithBars}
 use Rattle.draw.proofs.Refusals.{only-short-bars}
 use Rattle.promises.specs.DemandThree.{DemandThree, SamePart, SameBytes, SameChart, partLeft}
 
-pub demand-three : (s : List ℕ) (p : Polygon) → All (λ b. b < 256) s → readSheet s ≡ held p → (cs : List Call) → DemandThree s p cs
+pub demand-three : (s : List ℕ) (p : Polygon) → readSheet s ≡ held p → (cs : List Call) → DemandThree s p cs
 unfolding planned answer drawn charted drawnWithBars chartedBoth
-demand-three s p bytes reads cs =
-    let F = list-of-edits s p bytes reads cs in
+demand-three s p reads cs =
+    let F = list-of-edits s p reads cs in
     let q : Polygon = partLeft p cs in
     let S = chart-shows q (F .valid) in
     record {
@@ -67,10 +66,10 @@ chart-of-same : (x y : Polygon) → x .n ≡ y .n → x .ds ≡ y .ds → chartO
 unfolding chartOf
 chart-of-same x y n e = λ i. chart (best (treeOf (n i) (e i)))
 
-pub same-chart : (s t : List ℕ) (p q : Polygon) → All (λ b. b < 256) s → All (λ b. b < 256) t → readSheet s ≡ held p → readSheet t ≡ held q → (cs ds : List Call) → SameChart s t p q cs ds
-same-chart s t p q bs bt rs rt cs ds =
-    let A : DemandThree s p cs = demand-three s p bs rs cs in
-    let B : DemandThree t q ds = demand-three t q bt rt ds in
+pub same-chart : (s t : List ℕ) (p q : Polygon) → readSheet s ≡ held p → readSheet t ≡ held q → (cs ds : List Call) → SameChart s t p q cs ds
+same-chart s t p q rs rt cs ds =
+    let A : DemandThree s p cs = demand-three s p rs cs in
+    let B : DemandThree t q ds = demand-three t q rt ds in
     let x : Polygon = partLeft p cs in
     let y : Polygon = partLeft q ds in
     let same : SamePart x y → chartOf x ≡ chartOf y = λ S. chart-of-same x y (S .corners) (same-diagonals x y (A .valid) (B .valid) (S .there) (S .back) .1) in

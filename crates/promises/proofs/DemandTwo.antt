@@ -21,15 +21,15 @@ use Rattle.draw.specs.Answer.{charted, drawn, chartedBoth, drawnWithBars}
 use Rattle.draw.proofs.Refusals.{only-short-bars}
 use Rattle.promises.specs.DemandTwo.{ListsValid, Refused, WhichSheets, OnlyRoom, OurChart, AnyChart, DemandTwo}
 
-which-sheets : (s : List ℕ) → All (λ b. b < 256) s → WhichSheets s
-which-sheets s bytes = record {
-  accepted = (λ a. listed (a .0) (a .1), λ l. (l .0, sheets.accepts s (l .0) bytes .1 (l .1, l .2)));
-  part = λ p. sheets.accepts s p bytes;
-  refused-else = (else (readSheet s) refl (read-refuses s), λ r l. let z : _≡_ {A = ℕ} 0 1 = cc (r .2, sheets.accepts s (l .0) bytes .1 (l .1, l .2)) in omega arith);
+which-sheets : (s : List ℕ) → WhichSheets s
+which-sheets s = record {
+  accepted = (λ a. listed (a .0) (a .1), λ l. (l .0, sheets.accepts s (l .0) .1 (l .1, l .2)));
+  part = λ p. sheets.accepts s p;
+  refused-else = (else (readSheet s) refl (read-refuses s), λ r l. let z : _≡_ {A = ℕ} 0 1 = cc (r .2, sheets.accepts s (l .0) .1 (l .1, l .2)) in omega arith);
 }
   where
     listed : (p : Polygon) → readSheet s ≡ held p → ListsValid s
-    listed p e = let a = sheets.accepts s p bytes .0 e in (p, a .0, a .1)
+    listed p e = let a = sheets.accepts s p .0 e in (p, a .0, a .1)
 
     else : (r : Reading) → readSheet s ≡ r → RefusedBy sheetTests r → ¬ ListsValid s → Refused s
     else r e (by {k} m) f = (k, m, e)
@@ -63,8 +63,8 @@ any-chart c bytes = record {
 
 pub demand-two : (bs : List ℕ) → All (λ b. b < 256) bs → DemandTwo bs
 demand-two bs bytes = record {
-  which-sheets = which-sheets bs bytes;
-  only-room = λ p reads. only-room bs p (read-valid bs p bytes reads) reads;
-  our-chart = λ p reads. our-chart bs p (read-valid bs p bytes reads) reads;
+  which-sheets = which-sheets bs;
+  only-room = λ p reads. only-room bs p (read-valid bs p reads) reads;
+  our-chart = λ p reads. our-chart bs p (read-valid bs p reads) reads;
   any-chart = any-chart bs bytes;
 }

@@ -6,7 +6,8 @@ use native.Mathlib.Decide.{decLe, decLt, ℕ-discrete}
 use Rattle.lists.specs.Lists.{All, all-cons, all-nil, all?, below, choose, either?, keep, mem?, not?, numbers, put, sorted?}
 use Rattle.polygon.specs.Order.{before?, same?, cross?, none-cross?, diagonal?, distinct?, remove, place, insert, sort, lower-first}
 use Rattle.polygon.specs.Tree.{span, chordsAt, treeOf, grow, far, farther, near?}
-use Rattle.sheet.specs.Sheet.{ask, pairs, partNumber, count?, more, readSheet, pairBytes, numberBytes, numberBit, mapByte, normalSheet, outcome}
+use Rattle.codec.specs.Answer.{fit, written}
+use Rattle.sheet.specs.Sheet.{ask, pairs, count?, more, readSheet, pairBytes, mapByte, normalSheet, outcome, ordered}
 use Rattle.edit.specs.Rules.{side?, linked?, joined?, common, enter, flipped, rule}
 use Rattle.edit.specs.Calls.{onHeld, edited}
 use Rattle.umbrella.specs.Plan.{fold}
@@ -17,18 +18,19 @@ use Rattle.chart.specs.Places.{cols, rows}
 use Rattle.polygon.specs.Edges.{edges, edgesAt, edgesPast}
 use Rattle.chart.specs.Chart.{barsOf, meets?, first, last, stroke, layout, chart, chartOf}
 use Rattle.chart.specs.Bytes.{barBytes, strokeBytes, bytesOf}
-use Rattle.log_line.specs.Line.{digits, decimal, numberWord, line, refusedLine}
+use Rattle.log_line.specs.Line.{digits, decimal, line, refusedLine}
 use Rattle.draw.specs.Answer as draw
 use Rattle.draw.specs.Printed.{printedOf, printed}
 use Rattle.promises.specs.Known.{sheet, barsIn, columnsIn, Holds, cases}
 
 pub known : All Holds cases
-unfolding sheet barsIn columnsIn readSheet ask pairs partNumber count? more pairBytes numberBytes numberBit mapByte normalSheet outcome Dec·and choose put keep
+unfolding sheet barsIn columnsIn readSheet ask pairs count? more pairBytes mapByte normalSheet outcome ordered written fit Dec·and choose put keep
     numbers below all? diagonal? distinct? sorted? not? mem? same? none-cross? cross? sort insert place before? either? lower-first remove decLe ℕ-discrete decLt
-    side? linked? joined? common enter flipped rule onHeld edited planned answer draw.drawn draw.charted printed printedOf digits decimal numberWord line
+    side? linked? joined? common enter flipped rule onHeld edited planned answer draw.drawn draw.charted printed printedOf digits decimal line
     refusedLine chartOf chart layout treeOf grow far farther near? span chordsAt best umbrella leftAt rightAt stemAt over-node ud fold cols rows edges edgesAt
     edgesPast barsOf meets? first last stroke barBytes strokeBytes bytesOf flatMap
 known =
     all-cons refl (all-cons refl (all-cons refl (all-cons refl (all-cons refl (all-cons refl (all-cons refl
     (all-cons refl (all-cons refl (all-cons refl (all-cons refl (all-cons refl (all-cons refl (all-cons refl
-    (all-cons refl (all-cons refl (all-cons refl (all-cons refl (all-cons refl all-nil))))))))))))))))))
+    (all-cons refl (all-cons refl (all-cons refl (all-cons refl (all-cons refl (all-cons refl (all-cons refl
+    (all-cons refl (all-cons refl (all-cons refl (all-cons refl all-nil))))))))))))))))))))))))

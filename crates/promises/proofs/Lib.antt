@@ -2,3 +2,4 @@ pub mod DemandThree
 pub mod Known
 pub mod DemandTwo
 pub mod DemandOne
+pub mod PartNumbers

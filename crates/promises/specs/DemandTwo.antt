@@ -1,7 +1,7 @@
 -- Demand 2: which sheets are accepted, and what can then still stop an operation; the chart drawn of a part is a true drawing of it and reads back as that part; and a chart handed in, ours or
 -- another's, is accepted exactly if it is a true drawing of a part. One claim about any bytes, read as a sheet or as a chart.
 -- `Lists s p`: the sheet s lists the part p in the published form, in any order, either corner first (crate sheet, specs/Listing.antt). `True` and `Shows` are document 01's sentences (crate chart,
--- specs/Chart.antt). `Charts c p`: the bytes c are those of a true chart that shows the part p, without a number (crate chart_reader, specs/Charts.antt).
+-- specs/Chart.antt). `Charts c p`: the bytes c are those of a true chart that shows the part p (crate chart_reader, specs/Charts.antt).
 use mathlib.Core.Path.{_≡_}
 use mathlib.Core.Logic.{_⊎_, _↔_}
 use mathlib.Core.List.{List}
@@ -18,7 +18,7 @@ use Rattle.plan.specs.Answer.{planned, countsOf}
 use Rattle.chart.specs.Chart.{Bar, chartOf, True, Shows}
 use Rattle.chart.specs.Bytes.{bytesOf}
 use Rattle.chart_reader.specs.Reader.{readChart, chartRead}
-use Rattle.chart_reader.specs.Charts.{Charts, withoutNumber}
+use Rattle.chart_reader.specs.Charts.{Charts}
 use Rattle.draw.specs.Answer.{drawn, drawnWithBars}
 
 -- the sheet lists a valid part; the sheet is accepted, that is some part is held; it is refused by one of the tests 1 to 7
@@ -50,7 +50,7 @@ pub record OurChart (s : List ℕ) (p : Polygon) : Type 0 where
   pub drawing : drawn s ≡ write (bytesOf (chartOf p))
   pub true : True (chartOf p)
   pub shows : Shows (chartOf p) p
-  pub back : chartRead (bytesOf (chartOf p)) ≡ write (normalSheet (withoutNumber p))
+  pub back : chartRead (bytesOf (chartOf p)) ≡ write (normalSheet p)
 
 -- any chart: the bytes c handed in
 pub record AnyChart (c : List ℕ) : Type 0 where

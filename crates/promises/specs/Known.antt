@@ -1,11 +1,11 @@
--- The known parts of document 01 that are marked M, and one part more, as one list of cases, each on a sheet's bytes. proofs/Known.antt proves them all.
+-- The known parts of document 01 that are marked M, one part more, and the known sheets of request (xii), as one list of cases, each on a sheet's bytes. proofs/Known.antt proves them all.
 use mathlib.Core.Path.{_≡_}
 use mathlib.Core.List.{List, [], _∷_, _++_}
 use Prim.Native.Nat.{ℕ}
 use Rattle.polygon.specs.Polygon.{Edge, _—_}
 use Rattle.codec.specs.Numbers.{bytes16}
-use Rattle.codec.specs.Answer.{write}
-use Rattle.sheet.specs.Sheet.{Reading, refused, held, readSheet, pairBytes}
+use Rattle.codec.specs.Answer.{Answer, write, written}
+use Rattle.sheet.specs.Sheet.{Reading, refused, held, readSheet, pairBytes, ordered}
 use Rattle.edit.specs.Rules.{flip}
 use Rattle.edit.specs.Calls.{edited}
 use Rattle.plan.specs.Answer.{planned}
@@ -13,10 +13,24 @@ use Rattle.chart.specs.Chart.{Bar, barsOf, chartOf}
 use Rattle.draw.specs.Answer.{drawn}
 use Rattle.draw.specs.Printed.{printed}
 
--- a sheet without part number: its corner count, and its pairs as they are listed
+-- a sheet without bit 2: its corner count, and its pairs as they are listed
 unfoldable pub sheet : ℕ → List Edge → List ℕ
 sheet n [] = 1 ∷ bytes16 n
 sheet n (e ∷ es) = 3 ∷ (bytes16 n ++ pairBytes (e ∷ es))
+
+-- the triangle's and the square's sheet with bit 2 and its four bytes
+abbrev pub numberedTriangle : List ℕ
+numberedTriangle = 5 ∷ 0 ∷ 3 ∷ 0 ∷ 0 ∷ 0 ∷ 9 ∷ []
+
+abbrev pub numberedSquare : List ℕ
+numberedSquare = 7 ∷ 0 ∷ 4 ∷ 0 ∷ 2 ∷ 0 ∷ 0 ∷ 255 ∷ 255 ∷ 255 ∷ 255 ∷ []
+
+-- the triangle's line
+abbrev pub triangleLine : List ℕ
+triangleLine =
+    112 ∷ 97 ∷ 114 ∷ 116 ∷ 32 ∷ 45 ∷ 32 ∷ 99 ∷ 111 ∷ 114 ∷ 110 ∷ 101 ∷ 114 ∷ 115 ∷ 32 ∷ 51 ∷ 32 ∷ 108 ∷ 101 ∷ 118 ∷ 101 ∷ 108 ∷ 115 ∷ 32 ∷ 49 ∷ 32 ∷
+    117 ∷ 109 ∷ 98 ∷ 114 ∷ 101 ∷ 108 ∷ 108 ∷ 97 ∷ 115 ∷ 32 ∷ 49 ∷ 32 ∷ 115 ∷ 116 ∷ 101 ∷ 109 ∷ 115 ∷ 32 ∷ 48 ∷ 32 ∷ 114 ∷ 111 ∷ 119 ∷ 115 ∷ 32 ∷ 51 ∷ 32 ∷
+    99 ∷ 111 ∷ 108 ∷ 117 ∷ 109 ∷ 110 ∷ 115 ∷ 32 ∷ 50 ∷ 10 ∷ []
 
 -- the bars and the columns of what a sheet holds
 unfoldable pub barsIn : Reading → List Bar
@@ -30,7 +44,8 @@ columnsIn (held p) = chartOf p .columns
 abbrev pub bar : ℕ → ℕ → ℕ → Bar
 bar r l s = record { row = r; left = l; right = s }
 
--- a case: a sheet refused by a number; one with these levels, umbrellas and stems; with these chart bytes; with these bars; with so many columns; a sheet whose diagonal is turned; one with this line
+-- a case: a sheet refused by a number; one with these levels, umbrellas and stems; with these chart bytes; with these bars; with so many columns; a sheet whose diagonal is turned; one with this line;
+-- a sheet and an output, and the answer of setting in order
 pub data Case : Type 0 where
   refusedBy : List ℕ → ℕ → Case
   counted : List ℕ → ℕ → ℕ → ℕ → Case
@@ -39,6 +54,7 @@ pub data Case : Type 0 where
   wide : List ℕ → ℕ → Case
   turned : List ℕ → ℕ → ℕ → List ℕ → Case
   lined : List ℕ → List ℕ → Case
+  inOrder : List ℕ → List ℕ → Answer → Case
 
 abbrev pub Holds : Case → Type 0
 Holds (refusedBy s k) = readSheet s ≡ refused k
@@ -48,6 +64,7 @@ Holds (barred s bs) = barsIn (readSheet s) ≡ bs
 Holds (wide s k) = columnsIn (readSheet s) ≡ k
 Holds (turned s a b t) = edited (flip a b) s ≡ write t
 Holds (lined s bs) = printed s ≡ bs
+Holds (inOrder s out a) = written (ordered s) out ≡ a
 
 -- the part of the last two cases
 abbrev pub manyHung : List ℕ
@@ -63,10 +80,7 @@ cases =
     0 ∷ 0 ∷ 0 ∷ 0 ∷ 0 ∷ 0 ∷ 0 ∷ 2 ∷ 0 ∷ 0 ∷ 0 ∷ 1 ∷ 0 ∷ 0 ∷ 0 ∷ 1 ∷ 0 ∷ 1 ∷
     1 ∷ 0 ∷ 0 ∷ 0 ∷ 1 ∷ 0 ∷ 0 ∷ 0 ∷ 0 ∷ 0 ∷ 0 ∷ 2 ∷ 1 ∷ 0 ∷ 1 ∷ 0 ∷ 2 ∷ 0 ∷ 1 ∷ [])
     -- "Line for sheet 01 00 03: `part - corners 3 levels 1 umbrellas 1 stems 0 rows 3 columns 2`"
-    ∷ lined (sheet 3 [])
-    (112 ∷ 97 ∷ 114 ∷ 116 ∷ 32 ∷ 45 ∷ 32 ∷ 99 ∷ 111 ∷ 114 ∷ 110 ∷ 101 ∷ 114 ∷ 115 ∷ 32 ∷ 51 ∷ 32 ∷ 108 ∷ 101 ∷ 118 ∷ 101 ∷ 108 ∷ 115 ∷ 32 ∷ 49 ∷ 32 ∷
-    117 ∷ 109 ∷ 98 ∷ 114 ∷ 101 ∷ 108 ∷ 108 ∷ 97 ∷ 115 ∷ 32 ∷ 49 ∷ 32 ∷ 115 ∷ 116 ∷ 101 ∷ 109 ∷ 115 ∷ 32 ∷ 48 ∷ 32 ∷ 114 ∷ 111 ∷ 119 ∷ 115 ∷ 32 ∷ 51 ∷ 32 ∷
-    99 ∷ 111 ∷ 108 ∷ 117 ∷ 109 ∷ 110 ∷ 115 ∷ 32 ∷ 50 ∷ 10 ∷ [])
+    ∷ lined (sheet 3 []) triangleLine
     -- "A refusal prints `refused` and its number, as `refused 3`"
     ∷ lined (sheet 2 []) (114 ∷ 101 ∷ 102 ∷ 117 ∷ 115 ∷ 101 ∷ 100 ∷ 32 ∷ 51 ∷ 10 ∷ [])
     -- "n = 4, (0,2): bars, row and columns: 0: 0, 0-1; 1: 2, 0-0; 2: 2, 1-2; 3: 0, 2-2."
@@ -92,4 +106,13 @@ cases =
     -- Not document 01's, whose bars are all of parts without a hung piece. Here (1,3) hangs on row 1, downwards and reversed, and (4,6) and (6,9) on row 2D, upwards; the stem is built from the right.
     ∷ counted manyHung 2 4 1
     ∷ barred manyHung (bar 0 0 12 ∷ bar 1 10 11 ∷ bar 3 9 10 ∷ bar 1 0 9 ∷ bar 4 0 1 ∷ bar 2 1 2 ∷ bar 4 2 5 ∷ bar 2 4 4 ∷ bar 2 5 6 ∷ bar 4 6 13 ∷ bar 0 13 13 ∷ [])
+    -- Request (xii), "A sheet that still has it is read and its four bytes are skipped": without them the length is not exact; bits 3 to 7 are refused as before.
+    ∷ refusedBy (5 ∷ 0 ∷ 3 ∷ []) 2
+    ∷ refusedBy (13 ∷ 0 ∷ 3 ∷ 0 ∷ 0 ∷ 0 ∷ 9 ∷ []) 1
+    -- "the result has none": room for three bytes is enough, for two it is not
+    ∷ inOrder numberedTriangle (7 ∷ 7 ∷ 7 ∷ []) (record { number = 0; size = 3; bytes = 1 ∷ 0 ∷ 3 ∷ [] })
+    ∷ inOrder numberedTriangle (7 ∷ 7 ∷ []) (record { number = 8; size = 0; bytes = 7 ∷ 7 ∷ [] })
+    ∷ turned numberedSquare 2 0 (sheet 4 ((1 — 3) ∷ []))
+    -- "and the log prints `-` always"
+    ∷ lined numberedTriangle triangleLine
     ∷ []

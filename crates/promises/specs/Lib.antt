@@ -1,5 +1,6 @@
--- Read beside document 01.
+-- Read beside document 01, and beside request (xii).
 pub mod DemandOne
 pub mod DemandTwo
 pub mod DemandThree
+pub mod PartNumbers
 pub mod Known

@@ -1,9 +1,8 @@
 -- Which sheets are accepted: those that list a valid part (`Lists` of specs/Listing.antt). The order of the pairs and of their corners does not matter.
-use mathlib.Core.Path.{_≡_, refl, ap, sym, _∙_}
+use mathlib.Core.Path.{_≡_, refl, ap, _∙_}
 use mathlib.Core.Logic.{_↔_}
 use mathlib.Core.List.{List}
-use mathlib.Core.Option.{Option, none, some}
-use Prim.Native.Nat.{ℕ, zero, suc, _+_, _*_, _-_, _<_}
+use Prim.Native.Nat.{ℕ}
 use native.Mathlib.Omega.{arith}
 use lib.ListN.{length, getD}
 use Rattle.lists.specs.Lists.{All, Sub}
@@ -11,28 +10,12 @@ use Rattle.lists.proofs.Lists.{all-imp, all-mem, all-of}
 use Rattle.polygon.specs.Polygon.{Edge, Polygon, Valid}
 use Rattle.polygon.proofs.Sort.{sort-sub, sort-mem, sort-is}
 use Rattle.polygon.proofs.Reading.{same-set}
-use Rattle.codec.specs.Numbers.{get32}
-use Rattle.sheet.specs.Sheet.{held, bit1, bit2, partNumber, more, readSheet, normalSheet}
+use Rattle.sheet.specs.Sheet.{held, bit1, more, readSheet, normalSheet}
 use Rattle.sheet.specs.Listing.{pairsOf, Lists}
 use Rattle.sheet.specs.Framed.{Framed}
 use Rattle.sheet.proofs.Asks.{edgesIn, partIn, Form, form-held, held-form}
 use Rattle.sheet.proofs.Fields.{more-stands, stands-more, length-is}
 use Rattle.sheet.proofs.Valid.{read-triangulated, read-valid}
-
--- the part number by its bit
-number-none : (b k : ℕ) → b ≡ 0 → partNumber b k ≡ none
-unfolding partNumber
-number-none b k e = rw e
-
-number-some : (b k : ℕ) → b ≡ 1 → partNumber b k ≡ some k
-unfolding partNumber
-number-some b k e = rw e
-
-number-is : (b k : ℕ) (o : Option ℕ) → b < 2 → (b ≡ 0 → o ≡ none) → (b ≡ 1 → o ≡ some k) → partNumber b k ≡ o
-unfolding partNumber
-number-is zero k o h f g = sym (f refl)
-number-is (suc zero) k o h f g = sym (g refl)
-number-is (suc (suc b)) k o h f g = absurd (omega arith)
 
 -- an accepted sheet lists what it holds
 form-lists : {s : List ℕ} → Form s → Lists s (partIn s)
@@ -45,8 +28,6 @@ form-lists {s} W = record {
   once = W .distinct;
   diagonals-listed = sort-sub (edgesIn s);
   listed-diagonals = sort-mem (edgesIn s);
-  unnumbered = number-none _ _;
-  numbered = number-some _ _;
 }
 
 -- a sheet that lists a valid part is accepted, and holds that part
@@ -80,8 +61,7 @@ module _ {s : List ℕ} {p : Polygon} (v : Valid p) (L : Lists s p) where
   lists-part : partIn s ≡ p
   lists-part =
       let ds = sort-is (pairsOf s (p .n)) (p .ds) (L .once) (v .triangulated .ascending) (L .listed-diagonals) (L .diagonals-listed) in
-      let number = number-is (bit2 (getD s 0 0)) (get32 s (3 + 4 * (p .n - 3))) (p .number) (omega arith) (L .unnumbered) (L .numbered) in
-      rw (L .corners, ds, number)
+      rw (L .corners, ds)
 
   pub lists-held : readSheet s ≡ held p
   lists-held = form-held lists-form ∙ ap held lists-part
@@ -91,12 +71,12 @@ read-lists : (s : List ℕ) (p : Polygon) → readSheet s ≡ held p → Lists s
 read-lists s p e = let W = held-form s p e in rw (W .1) (form-lists (W .0))
 
 -- A sheet is accepted exactly if, in the published form, it lists the diagonals of a valid part, in any order, either corner first.
-pub accepts : (s : List ℕ) (p : Polygon) → All (λ b. b < 256) s → (readSheet s ≡ held p) ↔ (Valid p × Lists s p)
-accepts s p a = (λ e. (read-valid s p a e, read-lists s p e), λ h. lists-held (h .0) (h .1))
+pub accepts : (s : List ℕ) (p : Polygon) → (readSheet s ≡ held p) ↔ (Valid p × Lists s p)
+accepts s p = (λ e. (read-valid s p e, read-lists s p e), λ h. lists-held (h .0) (h .1))
 
--- Two accepted sheets with the same part number and the same set of pairs, each lower corner first, hold the same part
+-- Two accepted sheets with the same set of pairs, each lower corner first, hold the same part
 -- (the corner counts are then the same too), and so have the same normal sheet.
-module _ (s t : List ℕ) (p q : Polygon) (d : readSheet s ≡ held p) (e : readSheet t ≡ held q) (number : p .number ≡ q .number)
+module _ (s t : List ℕ) (p q : Polygon) (d : readSheet s ≡ held p) (e : readSheet t ≡ held q)
     (f : Sub (pairsOf s (p .n)) (pairsOf t (q .n))) (g : Sub (pairsOf t (q .n)) (pairsOf s (p .n))) where
   pub same-part : p ≡ q
   same-part =
@@ -106,7 +86,7 @@ module _ (s t : List ℕ) (p q : Polygon) (d : readSheet s ≡ held p) (e : read
       let M = read-lists t q e in
       let ds = same-set _ _ _ _ P Q (λ x m. M .listed-diagonals x (f x (L .diagonals-listed x m))) (λ x m. L .listed-diagonals x (g x (M .diagonals-listed x m))) in
       let n : p .n ≡ q .n = omega (arith, ap length ds, P .full, Q .full) in
-      λ i. record { n = n i; ds = ds i; number = number i }
+      λ i. record { n = n i; ds = ds i }
 
   pub same-normal : normalSheet p ≡ normalSheet q
   same-normal = ap normalSheet same-part

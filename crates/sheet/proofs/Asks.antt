@@ -1,14 +1,14 @@
 -- The tests of a sheet: which facts refuse it by which number, and the facts of a sheet that is held.
 use mathlib.Core.Path.{_≡_, refl, _∙_}
 use mathlib.Core.List.{List}
-use Prim.Native.Nat.{ℕ, _+_, _*_, _-_, _≤_, _<_}
+use Prim.Native.Nat.{ℕ, _-_, _≤_, _<_}
 use native.Mathlib.Omega.{arith}
 use lib.ListN.{length, getD}
 use Rattle.lists.specs.Lists.{All, all?}
 use Rattle.polygon.specs.Polygon.{Edge, NoneCross, Diagonal, Polygon}
 use Rattle.polygon.specs.Order.{diagonal?, Distinct, distinct?, none-cross?, sort}
-use Rattle.codec.specs.Numbers.{get16, get32}
-use Rattle.sheet.specs.Sheet.{Reading, refused, held, ask, bit0, bit1, bit2, sheetLength, pairs, partNumber, more, readSheet}
+use Rattle.codec.specs.Numbers.{get16}
+use Rattle.sheet.specs.Sheet.{Reading, refused, held, ask, bit0, bit1, sheetLength, pairs, more, readSheet}
 use Rattle.sheet.specs.Framed.{Framed}
 
 -- a test that is passed, and one that is not
@@ -35,7 +35,7 @@ abbrev pub edgesIn : List ℕ → List Edge
 edgesIn s = pairs s 3 (get16 s 1 - 3)
 
 abbrev pub partIn : List ℕ → Polygon
-partIn s = record { n = get16 s 1; ds = sort (edgesIn s); number = partNumber (bit2 (getD s 0 0)) (get32 s (3 + 4 * (get16 s 1 - 3))) }
+partIn s = record { n = get16 s 1; ds = sort (edgesIn s) }
 
 -- a sheet that passes every test
 pub record Form (s : List ℕ) : Type 0 where

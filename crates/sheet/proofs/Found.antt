@@ -103,7 +103,7 @@ module _ {s : List ℕ} {h : Head} {ks o : List ℕ} (F : Ordered s h ks o) wher
 
     module _ (N : NoneCross (edgesOf (take (h .n - 3) table))) where
       same : partIn s ≡ polygonOf h table
-      same = rw (first, sorted, F .head .number, F .head .corners)
+      same = rw (first, sorted, F .head .corners)
 
       is : readSheet s ≡ held (polygonOf h table)
       is =
@@ -113,4 +113,4 @@ module _ {s : List ℕ} {h : Head} {ks o : List ℕ} (F : Ordered s h ks o) wher
       pub read : Reads (readSheet s) (Held h) table
       read =
           let R = room (F .head) in
-          gives is (record { valid = record { least = R .0; most = R .1; triangulated = read-triangulated s _ is; numbered = F .head .fits }; room = table-long })
+          gives is (record { valid = record { least = R .0; most = R .1; triangulated = read-triangulated s _ is }; room = table-long })

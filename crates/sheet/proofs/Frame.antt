@@ -1,14 +1,11 @@
 -- What the reading of a sheet's head has found out, put together.
 use mathlib.Core.Path.{_≡_, ap, sym, _∙_}
-use mathlib.Core.Bool.{true, false}
 use mathlib.Core.List.{List}
-use mathlib.Core.Option.{some}
-use Prim.Native.Nat.{ℕ, _+_, _*_, _-_, _≤_, _<_, _^_}
+use Prim.Native.Nat.{ℕ, _+_, _*_, _-_, _≤_, _<_}
 use native.Mathlib.Omega.{arith}
 use lib.ListN.{length, getD}
-use Rattle.codec.specs.Numbers.{get16, get32}
-use Rattle.sheet.specs.Sheet.{bit0, bit1, bit2, more, partNumber, readSheet, refused, sheetLength}
-use Rattle.sheet.specs.Framed.{Framed}
+use Rattle.codec.specs.Numbers.{get16}
+use Rattle.sheet.specs.Sheet.{bit0, bit1, bit2, more, readSheet, refused, sheetLength}
 use Rattle.sheet.specs.Held.{HeadOf}
 use Rattle.sheet.proofs.Asks.{refused-4, refused-2b}
 use Rattle.sheet.proofs.Fields.{length-is}
@@ -25,14 +22,8 @@ module _ (s : List ℕ) (n : ℕ) (some-bytes : 1 ≤ length s) (low : bit0 (get
     pub inexact : (length s ≡ 3 + 4 * (n - 3) + 4 * rest → ⊥) → readSheet s ≡ refused 2
     inexact f = refused-2b s some-bytes low small three (omega arith) (omega arith) (agrees ∙ ap more count) (λ e. f (e ∙ sized))
 
-    module _ (exact : length s ≡ 3 + 4 * (n - 3) + 4 * rest) where
-      framed : Framed s
-      framed = record { some = some-bytes; low = low; small = small; three = three; least = omega arith; most = omega arith; agrees = agrees ∙ ap more count; exact = exact ∙ sym sized }
-
-      pub numbered : rest ≡ 1 → (k : ℕ) → k ≡ get32 s (3 + 4 * (n - 3)) → k < 2 ^ 32 → HeadOf s (record { n = n; numbered = true; number = k })
-      unfolding partNumber
-      numbered one k e h = record { frame = framed; corners = count; number = rw (sym last ∙ one, e, ← count); fits = h }
-
-      pub unnumbered : ¬ (rest ≡ 1) → rest ≤ 1 → HeadOf s (record { n = n; numbered = false; number = 0 })
-      unfolding partNumber
-      unnumbered f h = let e : bit2 (getD s 0 0) ≡ 0 = omega (arith, last) in record { frame = framed; corners = count; number = rw e; fits = tt }
+    pub framed : length s ≡ 3 + 4 * (n - 3) + 4 * rest → HeadOf s (record { n = n })
+    framed exact = record {
+      frame = record { some = some-bytes; low = low; small = small; three = three; least = omega arith; most = omega arith; agrees = agrees ∙ ap more count; exact = exact ∙ sym sized };
+      corners = count;
+    }

@@ -2,13 +2,13 @@
 use mathlib.Core.Path.{_≡_, refl}
 use mathlib.Core.List.{List, [], _∷_, map}
 use mathlib.Core.Logic.{Dec·and}
-use mathlib.Core.Option.{none, some}
 use Prim.Native.Nat.{ℕ}
 use native.Mathlib.Decide.{decLe, decLt, ℕ-discrete}
 use Rattle.lists.specs.Lists.{All, all-cons, all-nil, all?, choose, either?, not?, sorted?}
 use Rattle.polygon.specs.Polygon.{_—_}
 use Rattle.polygon.specs.Order.{before?, same?, cross?, none-cross?, diagonal?, distinct?, place, insert, sort, lower-first}
-use Rattle.sheet.specs.Sheet.{Reading, refused, held, ask, pairs, partNumber, count?, more, readSheet}
+use Rattle.sheet.specs.Sheet.{Reading, refused, held, ask, pairs, count?, more, readSheet}
+use Rattle.sheet.specs.Skipped.{skipped, has-number?, stripped}
 
 -- the bytes of a sheet, and what reading it gives
 abbrev pub Case : Type 0
@@ -26,19 +26,27 @@ known =
     -- n = 2 and n = 1,025
     ∷ (1 ∷ 0 ∷ 2 ∷ [], refused 3)
     ∷ (3 ∷ 4 ∷ 1 ∷ [], refused 3)
-    -- the triangle: with bit 1, and a byte too many; with a byte too many; as it is to be; with the part number 258
+    -- the triangle: with bit 1, and a byte too many; with a byte too many; as it is to be
     ∷ (3 ∷ 0 ∷ 3 ∷ 0 ∷ [], refused 4)
     ∷ (1 ∷ 0 ∷ 3 ∷ 0 ∷ [], refused 2)
-    ∷ (1 ∷ 0 ∷ 3 ∷ [], held (record { n = 3; ds = []; number = none }))
-    ∷ (5 ∷ 0 ∷ 3 ∷ 0 ∷ 0 ∷ 1 ∷ 2 ∷ [], held (record { n = 3; ds = []; number = some 258 }))
+    ∷ (1 ∷ 0 ∷ 3 ∷ [], held (record { n = 3; ds = [] }))
+    -- with bit 2: its four bytes missing, one of them missing, all there, one too many; with bits 1 and 2; with bits 2 and 3
+    ∷ (5 ∷ 0 ∷ 3 ∷ [], refused 2)
+    ∷ (5 ∷ 0 ∷ 3 ∷ 0 ∷ 0 ∷ 9 ∷ [], refused 2)
+    ∷ (5 ∷ 0 ∷ 3 ∷ 0 ∷ 0 ∷ 0 ∷ 9 ∷ [], held (record { n = 3; ds = [] }))
+    ∷ (5 ∷ 0 ∷ 3 ∷ 0 ∷ 0 ∷ 0 ∷ 9 ∷ 0 ∷ [], refused 2)
+    ∷ (7 ∷ 0 ∷ 3 ∷ 0 ∷ 0 ∷ 0 ∷ 9 ∷ [], refused 4)
+    ∷ (13 ∷ 0 ∷ 3 ∷ 0 ∷ 0 ∷ 0 ∷ 9 ∷ [], refused 1)
     -- n = 4: (0,2) given as (2,0)
-    ∷ (3 ∷ 0 ∷ 4 ∷ 0 ∷ 2 ∷ 0 ∷ 0 ∷ [], held (record { n = 4; ds = (0 — 2) ∷ []; number = none }))
+    ∷ (3 ∷ 0 ∷ 4 ∷ 0 ∷ 2 ∷ 0 ∷ 0 ∷ [], held (record { n = 4; ds = (0 — 2) ∷ [] }))
+    -- with bit 2, and the bytes 255 behind the pair
+    ∷ (7 ∷ 0 ∷ 4 ∷ 0 ∷ 2 ∷ 0 ∷ 0 ∷ 255 ∷ 255 ∷ 255 ∷ 255 ∷ [], held (record { n = 4; ds = (0 — 2) ∷ [] }))
     -- n = 5: (0,4) (1,3); (0,1) twice; (0,2) (2,0); (0,2) (1,3); (1,3) (0,3)
     ∷ (3 ∷ 0 ∷ 5 ∷ 0 ∷ 0 ∷ 0 ∷ 4 ∷ 0 ∷ 1 ∷ 0 ∷ 3 ∷ [], refused 5)
     ∷ (3 ∷ 0 ∷ 5 ∷ 0 ∷ 0 ∷ 0 ∷ 1 ∷ 0 ∷ 0 ∷ 0 ∷ 1 ∷ [], refused 5)
     ∷ (3 ∷ 0 ∷ 5 ∷ 0 ∷ 0 ∷ 0 ∷ 2 ∷ 0 ∷ 2 ∷ 0 ∷ 0 ∷ [], refused 6)
     ∷ (3 ∷ 0 ∷ 5 ∷ 0 ∷ 0 ∷ 0 ∷ 2 ∷ 0 ∷ 1 ∷ 0 ∷ 3 ∷ [], refused 7)
-    ∷ (3 ∷ 0 ∷ 5 ∷ 0 ∷ 1 ∷ 0 ∷ 3 ∷ 0 ∷ 0 ∷ 0 ∷ 3 ∷ [], held (record { n = 5; ds = (0 — 3) ∷ (1 — 3) ∷ []; number = none }))
+    ∷ (3 ∷ 0 ∷ 5 ∷ 0 ∷ 1 ∷ 0 ∷ 3 ∷ 0 ∷ 0 ∷ 0 ∷ 3 ∷ [], held (record { n = 5; ds = (0 — 3) ∷ (1 — 3) ∷ [] }))
     -- n = 6: (0,2) (1,3) (2,0), a pair repeated and two that cross
     ∷ (3 ∷ 0 ∷ 6 ∷ 0 ∷ 0 ∷ 0 ∷ 2 ∷ 0 ∷ 1 ∷ 0 ∷ 3 ∷ 0 ∷ 2 ∷ 0 ∷ 0 ∷ [], refused 6)
     ∷ []
@@ -50,5 +58,18 @@ same-all f g (x ∷ xs) e = all-cons {x = x} (cc) (same-all f g xs (cc))
 
 -- Each known sheet is read so.
 pub known-read : All (λ c. readSheet (c .0) ≡ c .1) known
-unfolding readSheet ask pairs partNumber count? more Dec·and choose all? diagonal? distinct? sorted? not? same? none-cross? cross? sort insert place before? either? lower-first decLe ℕ-discrete decLt
+unfolding readSheet ask pairs count? more Dec·and choose all? diagonal? distinct? sorted? not? same? none-cross? cross? sort insert place before? either? lower-first decLe ℕ-discrete decLt
 known-read = same-all (λ (c : Case). readSheet (c .0)) (λ (c : Case). c .1) known refl
+
+-- Known sheets, and what each is without bit 2 and its four bytes: a sheet that lacks one of the bytes, or the bit, stays.
+abbrev pub skippedSheets : List (List ℕ × List ℕ)
+skippedSheets =
+    (5 ∷ 0 ∷ 3 ∷ 0 ∷ 0 ∷ 0 ∷ 9 ∷ [], 1 ∷ 0 ∷ 3 ∷ [])
+    ∷ (7 ∷ 0 ∷ 4 ∷ 0 ∷ 2 ∷ 0 ∷ 0 ∷ 255 ∷ 255 ∷ 255 ∷ 255 ∷ [], 3 ∷ 0 ∷ 4 ∷ 0 ∷ 2 ∷ 0 ∷ 0 ∷ [])
+    ∷ (5 ∷ 0 ∷ 3 ∷ 0 ∷ 0 ∷ 9 ∷ [], 5 ∷ 0 ∷ 3 ∷ 0 ∷ 0 ∷ 9 ∷ [])
+    ∷ (1 ∷ 0 ∷ 3 ∷ [], 1 ∷ 0 ∷ 3 ∷ [])
+    ∷ []
+
+pub known-skipped : All (λ (c : List ℕ × List ℕ). skipped (c .0) ≡ c .1) skippedSheets
+unfolding skipped has-number? stripped Dec·and choose decLe ℕ-discrete
+known-skipped = all-cons refl (all-cons refl (all-cons refl (all-cons refl all-nil)))

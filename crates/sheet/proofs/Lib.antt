@@ -11,5 +11,7 @@ pub mod Found
 pub mod Writing
 pub mod Hand
 pub mod Size
+pub mod Alike
+pub mod Skipped
 pub mod Long
 pub mod Refusals

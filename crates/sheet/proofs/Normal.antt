@@ -1,16 +1,15 @@
 -- The normal sheet of a part: its pairs read back, its length and its map byte.
 use mathlib.Core.Path.{_≡_, refl, ap, ap₂, _∙_}
 use mathlib.Core.List.{List, [], _∷_, _++_}
-use mathlib.Core.Option.{Option, none, some}
 use Prim.Native.Nat.{ℕ, zero, suc, _+_, _*_, _-_, _≤_, _<_}
 use native.Mathlib.Nat.{add-zero, add-assoc, min-eq-left, max-eq-right}
 use native.Mathlib.Omega.{arith}
-use lib.ListN.{length, length-append}
+use lib.ListN.{length}
 use Rattle.lists.specs.Lists.{All, all-cons}
 use Rattle.polygon.specs.Polygon.{Edge, Polygon}
 use Rattle.polygon.specs.Order.{lower-first}
 use Rattle.codec.specs.Numbers.{bytes16}
-use Rattle.sheet.specs.Sheet.{bit0, bit1, bit2, pairs, pairBytes, numberBytes, numberBit, mapByte, more, normalSheet}
+use Rattle.sheet.specs.Sheet.{bit0, bit1, bit2, pairs, pairBytes, mapByte, more, normalSheet}
 use Rattle.sheet.proofs.Fields.{more-bit}
 use Rattle.codec.proofs.Numbers.{get16-after, get16-back}
 
@@ -30,14 +29,14 @@ unfolding lower-first
 lower-first-same e h = rw (min-eq-left h, max-eq-right h)
 
 -- pairs that are written lower corner first are read back
-first-back : (es : List Edge) (ys : List ℕ) → All (λ e. e .0 ≤ e .1) es → pairs (pairBytes es ++ ys) 0 (length es) ≡ es
+first-back : (es : List Edge) → All (λ e. e .0 ≤ e .1) es → pairs (pairBytes es) 0 (length es) ≡ es
 unfolding pairs pairBytes
-first-back [] ys a = refl
-first-back (e ∷ es) ys (all-cons h a) =
-    ap₂ _∷_ (rw (get16-back (e .0) ys, get16-back (e .1) ys) (lower-first-same e h)) (pairs-after (bytes16 (e .0) ++ bytes16 (e .1)) (pairBytes es ++ ys) 0 (length es) ∙ first-back es ys a)
+first-back [] a = refl
+first-back (e ∷ es) (all-cons h a) =
+    ap₂ _∷_ (rw (get16-back (e .0) [], get16-back (e .1) []) (lower-first-same e h)) (pairs-after (bytes16 (e .0) ++ bytes16 (e .1)) (pairBytes es) 0 (length es) ∙ first-back es a)
 
-pub pairs-back : (xs : List ℕ) (es : List Edge) (ys : List ℕ) → All (λ e. e .0 ≤ e .1) es → pairs (xs ++ (pairBytes es ++ ys)) (length xs) (length es) ≡ es
-pairs-back xs es ys a = rw (add-zero (length xs)) at (pairs-after xs (pairBytes es ++ ys) 0 (length es)) ∙ first-back es ys a
+pub pairs-back : (xs : List ℕ) (es : List Edge) → All (λ e. e .0 ≤ e .1) es → pairs (xs ++ pairBytes es) (length xs) (length es) ≡ es
+pairs-back xs es a = rw (add-zero (length xs)) at (pairs-after xs (pairBytes es) 0 (length es)) ∙ first-back es a
 
 -- the length of the normal sheet
 pub pairs-length : (es : List Edge) → length (pairBytes es) ≡ 4 * length es
@@ -45,27 +44,17 @@ unfolding pairBytes
 pairs-length [] = refl
 pairs-length (e ∷ es) = omega (arith, pairs-length es)
 
-pub number-length : (o : Option ℕ) → length (numberBytes o) ≡ 4 * numberBit o
-unfolding numberBytes numberBit
-number-length none = refl
-number-length (some k) = refl
-
-pub normal-length : (p : Polygon) → length (p .ds) + 3 ≡ p .n → length (normalSheet p) ≡ 3 + 4 * (p .n - 3) + 4 * numberBit (p .number)
+pub normal-length : (p : Polygon) → length (p .ds) + 3 ≡ p .n → length (normalSheet p) ≡ 3 + 4 * (p .n - 3)
 unfolding normalSheet
-normal-length p full = omega (arith, length-append (pairBytes (p .ds)) (numberBytes (p .number)), pairs-length (p .ds), number-length (p .number))
+normal-length p full = omega (arith, pairs-length (p .ds))
 
--- the bits of the map byte
-pub number-bit : (o : Option ℕ) → numberBit o < 2
-unfolding numberBit
-number-bit none = omega arith
-number-bit (some k) = omega arith
-
-pub record MapOf (p : Polygon) (m : ℕ) : Type 0 where
+-- the bits of the map byte: bit 2 does not stand
+pub record MapOf (n m : ℕ) : Type 0 where
   pub low : bit0 m ≡ 1
-  pub agrees : bit1 m ≡ more (p .n)
-  pub numbered : bit2 m ≡ numberBit (p .number)
+  pub agrees : bit1 m ≡ more n
+  pub bare : bit2 m ≡ 0
   pub small : m < 8
 
-pub map-byte : (p : Polygon) → MapOf p (mapByte p)
+pub map-byte : (n : ℕ) → MapOf n (mapByte n)
 unfolding mapByte
-map-byte p = omega (arith, more-bit (p .n), number-bit (p .number))
+map-byte n = omega (arith, more-bit n)

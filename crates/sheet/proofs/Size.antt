@@ -1,4 +1,4 @@
--- No sheet is longer than 4,091 bytes.
+-- No sheet that is written is longer than 4,087 bytes.
 use mathlib.Core.Path.{_≡_, refl}
 use mathlib.Core.Logic.{inl, inr}
 use mathlib.Core.List.{List}
@@ -12,7 +12,7 @@ use Rattle.codec.proofs.Answers.{written-is}
 use Rattle.codec.specs.Numbers.{get16}
 use Rattle.sheet.specs.Sheet.{Reading, refused, held, readSheet, normalSheet, outcome, ordered}
 use Rattle.sheet.proofs.Asks.{edgesIn, held-form}
-use Rattle.sheet.proofs.Normal.{normal-length, number-bit, pairs-count}
+use Rattle.sheet.proofs.Normal.{normal-length, pairs-count}
 
 -- the corners and the diagonals of what a reading holds
 abbrev pub CountedPart : Reading → Type 0
@@ -29,15 +29,15 @@ read-counted s p e =
 pub written-size : (bs out : List ℕ) → written (write bs) out .size ≤ length bs
 written-size bs out = elim (written-is bs out) [ inl w ↦ rw (w .1) (omega arith) | inr w ↦ rw (w .1) (omega arith) ]
 
-pub outcome-size : (r : Reading) (out : List ℕ) → CountedPart r → written (outcome r) out .size ≤ 4091
+pub outcome-size : (r : Reading) (out : List ℕ) → CountedPart r → written (outcome r) out .size ≤ 4087
 unfolding outcome written
 outcome-size (refused k) out C = omega arith
-outcome-size (held p) out C = omega (arith, written-size (normalSheet p) out, normal-length p (C .1), number-bit (p .number))
+outcome-size (held p) out C = omega (arith, written-size (normalSheet p) out, normal-length p (C .1))
 
-pub ordered-size : (s out : List ℕ) → written (ordered s) out .size ≤ 4091
+pub ordered-size : (s out : List ℕ) → written (ordered s) out .size ≤ 4087
 unfolding ordered
 ordered-size s out = go (readSheet s) refl
   where
-    go : (r : Reading) → readSheet s ≡ r → written (outcome (readSheet s)) out .size ≤ 4091
+    go : (r : Reading) → readSheet s ≡ r → written (outcome (readSheet s)) out .size ≤ 4087
     go (refused k) e = rw e (outcome-size (refused k) out tt)
     go (held p) e = rw e (outcome-size (held p) out (read-counted s p e))

@@ -1,17 +1,15 @@
 -- What is read is a valid part.
 use mathlib.Core.Path.{_≡_}
 use mathlib.Core.List.{List}
-use Prim.Native.Nat.{ℕ, zero, suc, _+_, _*_, _-_, _<_, _^_}
+use Prim.Native.Nat.{ℕ, _-_}
 use native.Mathlib.Omega.{arith}
-use Rattle.lists.specs.Lists.{All}
 use Rattle.lists.proofs.Lists.{all-imp}
-use Rattle.polygon.specs.Polygon.{Polygon, Numbered, Triangulated, Valid}
+use Rattle.polygon.specs.Polygon.{Polygon, Triangulated, Valid}
 use Rattle.polygon.specs.Order.{sort}
 use Rattle.polygon.proofs.Sort.{sort-all, sort-length, sort-ascends}
 use Rattle.codec.specs.Numbers.{get16}
-use Rattle.sheet.specs.Sheet.{held, partNumber, readSheet}
-use Rattle.sheet.proofs.Asks.{edgesIn, partIn, Form, held-form}
-use Rattle.codec.proofs.Numbers.{Byte, get32-below}
+use Rattle.sheet.specs.Sheet.{held, readSheet}
+use Rattle.sheet.proofs.Asks.{edgesIn, Form, held-form}
 use Rattle.sheet.proofs.Normal.{pairs-count}
 
 -- the pairs of an accepted sheet, in order, triangulate its corners
@@ -26,19 +24,8 @@ form-triangulates {s} W = record {
 pub read-triangulated : (s : List ℕ) (p : Polygon) → readSheet s ≡ held p → Triangulated (p .n) (p .ds)
 read-triangulated s p e = let W = held-form s p e in rw (W .1) (form-triangulates (W .0))
 
-part-numbered : (b k : ℕ) → k < 2 ^ 32 → Numbered (partNumber b k)
-unfolding partNumber
-part-numbered zero k h = tt
-part-numbered (suc b) k h = h
-
-form-valid : {s : List ℕ} → All Byte s → Form s → Valid (partIn s)
-form-valid {s} a W = record {
-  least = W .framed .least;
-  most = W .framed .most;
-  triangulated = form-triangulates W;
-  numbered = part-numbered _ _ (get32-below (3 + 4 * (get16 s 1 - 3)) a);
-}
-
--- A sheet of bytes that is not refused holds a valid part.
-pub read-valid : (s : List ℕ) (p : Polygon) → All (λ b. b < 256) s → readSheet s ≡ held p → Valid p
-read-valid s p a e = let W = held-form s p e in rw (W .1) (form-valid a (W .0))
+-- A sheet that is not refused holds a valid part.
+pub read-valid : (s : List ℕ) (p : Polygon) → readSheet s ≡ held p → Valid p
+read-valid s p e =
+    let W = held-form s p e in
+    rw (W .1) (record { least = W .0 .framed .least; most = W .0 .framed .most; triangulated = form-triangulates (W .0) })

@@ -1,20 +1,20 @@
 -- Writing a normal sheet field by field into an output: stores one behind the other are the sheet's bytes, followed by what was there.
-use mathlib.Core.Path.{_≡_, refl, ap, sym, _∙_}
+use mathlib.Core.Path.{_≡_, refl, ap, sym}
 use mathlib.Core.List.{List, [], _∷_, _++_, map-append}
 use Prim.Native.Nat.{ℕ, _+_, _*_, _-_, _/_, _%_, _≤_, _<_}
 use native.Mathlib.Numerals.{add-one}
 use native.Mathlib.Omega.{arith}
-use lib.ListN.{length, take, drop, set, getD, length-map, length-append}
+use lib.ListN.{length, take, set, getD, length-map}
 use lib.Seq.{sets, take-suc, length-take-le}
-use Rattle.polygon.specs.Polygon.{Edge, Polygon}
+use Rattle.polygon.specs.Polygon.{Edge}
 use Rattle.codec.specs.Numbers.{bytes16}
 use Rattle.codec.specs.Answer.{Answer, refusal, written, write}
 use Rattle.lists.proofs.Stores.{sets-append, sets-front}
 use Rattle.codec.proofs.Answers.{written-short, written-fits}
 use Rattle.keys.specs.Keys.{edgeOf, edgesOf}
 use Rattle.sheet.specs.declared.Head.{Head}
-use Rattle.sheet.specs.Sheet.{pairBytes, numberBytes, mapByte, normalSheet}
-use Rattle.sheet.specs.Held.{numberOf, polygonOf, InHand}
+use Rattle.sheet.specs.Sheet.{pairBytes, mapByte, normalSheet}
+use Rattle.sheet.specs.Held.{polygonOf, InHand}
 use Rattle.sheet.proofs.Hand.{keys-count}
 use Rattle.sheet.proofs.Normal.{pairs-length}
 
@@ -38,31 +38,20 @@ edges-next keys out at i h =
     let low : List ℕ = bytes16 (k % 1024) in
     rw (edges-more keys i h, pairs-snoc es (edgeOf k), sets-append (pairBytes es) (high ++ low) out at, n, sets-append high low (sets out at (pairBytes es)) (at + i * 4))
 
--- the whole sheet
-pub sheet-written : (p : Polygon) (out : List ℕ) → length (normalSheet p) ≤ length out
-    → sets (sets (sets (set out 0 (mapByte p)) 1 (bytes16 (p .n))) 3 (pairBytes (p .ds))) (3 + length (pairBytes (p .ds))) (numberBytes (p .number)) ≡ normalSheet p ++ drop (length (normalSheet p)) out
-unfolding normalSheet
-sheet-written p out h =
-    sym (sets-append (pairBytes (p .ds)) (numberBytes (p .number)) (sets (set out 0 (mapByte p)) 1 (bytes16 (p .n))) 3)
-    ∙ (sym (sets-append (bytes16 (p .n)) (pairBytes (p .ds) ++ numberBytes (p .number)) (set out 0 (mapByte p)) 1)
-    ∙ sets-front (mapByte p ∷ (bytes16 (p .n) ++ (pairBytes (p .ds) ++ numberBytes (p .number)))) out h)
-
 -- the part that the code holds
-module _ {h : Head} {ks : List ℕ} (P : InHand h ks) where
-  pub edges-size : length (pairBytes (edgesOf (take (h .n - 3) ks))) ≡ (h .n - 3) * 4
-  edges-size = omega (arith, pairs-length (edgesOf (take (h .n - 3) ks)), length-map (take (h .n - 3) ks) edgeOf, keys-count P)
+module _ {h : Head} {ks : List ℕ} (P : InHand h ks) (out : List ℕ) where
+  sheet-size : length (normalSheet (polygonOf h ks)) ≡ 3 + (h .n - 3) * 4
+  unfolding normalSheet
+  sheet-size = omega (arith, pairs-length (edgesOf (take (h .n - 3) ks)), length-map (take (h .n - 3) ks) edgeOf, keys-count P)
 
-  module _ (out : List ℕ) (z : ℕ) (last : z ≡ length (numberBytes (numberOf (h .numbered) (h .number)))) where
-    sheet-size : length (normalSheet (polygonOf h ks)) ≡ 3 + (h .n - 3) * 4 + z
-    unfolding normalSheet
-    sheet-size = omega (arith, edges-size, length-append (pairBytes (edgesOf (take (h .n - 3) ks))) (numberBytes (numberOf (h .numbered) (h .number))))
+  pub too-short : length out < 3 + (h .n - 3) * 4 → refusal 8 out ≡ written (write (normalSheet (polygonOf h ks))) out
+  too-short k = sym (written-short (normalSheet (polygonOf h ks)) out (omega (arith, sheet-size)))
 
-    pub too-short : length out < 3 + (h .n - 3) * 4 + z → refusal 8 out ≡ written (write (normalSheet (polygonOf h ks))) out
-    too-short k = sym (written-short (normalSheet (polygonOf h ks)) out (omega (arith, sheet-size)))
-
-    pub finished : (o : List ℕ) → 3 + (h .n - 3) * 4 + z ≤ length out
-        → o ≡ sets (sets (sets (set out 0 (mapByte (polygonOf h ks))) 1 (bytes16 (h .n))) 3 (pairBytes (edgesOf (take (h .n - 3) ks)))) (3 + (h .n - 3) * 4) (numberBytes (numberOf (h .numbered) (h .number)))
-        → _≡_ {A = Answer} (record { number = 0; size = 3 + (h .n - 3) * 4 + z; bytes = o }) (written (write (normalSheet (polygonOf h ks))) out)
-    finished o fits e =
-        let k : length (normalSheet (polygonOf h ks)) ≤ length out = omega (arith, sheet-size) in
-        rw (written-fits (normalSheet (polygonOf h ks)) out k, ← sheet-size, e, ← edges-size, sheet-written (polygonOf h ks) out k)
+  pub finished : (o : List ℕ) → 3 + (h .n - 3) * 4 ≤ length out
+      → o ≡ sets (sets (set out 0 (mapByte (h .n))) 1 (bytes16 (h .n))) 3 (pairBytes (edgesOf (take (h .n - 3) ks)))
+      → _≡_ {A = Answer} (record { number = 0; size = 3 + (h .n - 3) * 4; bytes = o }) (written (write (normalSheet (polygonOf h ks))) out)
+  unfolding normalSheet
+  finished o fits e =
+      let es : List ℕ = pairBytes (edgesOf (take (h .n - 3) ks)) in
+      let k : length (normalSheet (polygonOf h ks)) ≤ length out = omega (arith, sheet-size) in
+      rw (written-fits (normalSheet (polygonOf h ks)) out k, ← sheet-size, e, ← sets-append (bytes16 (h .n)) es (set out 0 (mapByte (h .n))) 1, sets-front (mapByte (h .n) ∷ (bytes16 (h .n) ++ es)) out k)

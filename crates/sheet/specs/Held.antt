@@ -1,27 +1,21 @@
 -- How the code holds a part: a head, and the keys of its diagonals at the start of a table.
 use mathlib.Core.Path.{_≡_}
-use mathlib.Core.Bool.{Bool, true, false}
 use mathlib.Core.List.{List}
-use mathlib.Core.Option.{Option, none, some}
-use Prim.Native.Nat.{ℕ, _+_, _*_, _-_, _≤_, _<_}
+use Prim.Native.Nat.{ℕ, _+_, _-_, _≤_, _<_}
 use lib.ListN.{length, take, getD}
-use Rattle.polygon.specs.Polygon.{Edge, Diagonal, Polygon, Numbered, Valid}
+use Rattle.polygon.specs.Polygon.{Edge, Diagonal, Polygon, Valid}
 use Rattle.polygon.specs.Order.{lower-first}
-use Rattle.codec.specs.Numbers.{get16, get32}
+use Rattle.codec.specs.Numbers.{get16}
 use Rattle.keys.specs.Keys.{keyOf, edgesOf}
 use Rattle.sheet.specs.declared.Head.{Head}
 use Rattle.sheet.specs.declared.Read.{Read}
 use Rattle.sheet.specs.declared.Read.the-variants.{Refused, Held}
-use Rattle.sheet.specs.Sheet.{Reading, refused, held, readSheet, bit2, partNumber}
+use Rattle.sheet.specs.Sheet.{Reading, refused, held, readSheet}
 use Rattle.sheet.specs.Framed.{Framed}
-
-abbrev pub numberOf : Bool → ℕ → Option ℕ
-numberOf true k = some k
-numberOf false k = none
 
 -- the part of a head and a table that begins with the keys of its diagonals
 abbrev pub polygonOf : Head → List ℕ → Polygon
-polygonOf h ks = record { n = h .n; ds = edgesOf (take (h .n - 3) ks); number = numberOf (h .numbered) (h .number) }
+polygonOf h ks = record { n = h .n; ds = edgesOf (take (h .n - 3) ks) }
 
 -- a part in the code's hands: valid, in a table with room for the keys of any part
 pub record InHand (h : Head) (ks : List ℕ) : Type 0 where
@@ -41,8 +35,6 @@ SmallKeys ks = (j : ℕ) → j < length ks → getD ks j 0 < 1048576
 pub record HeadOf (s : List ℕ) (h : Head) : Type 0 where
   pub frame : Framed s
   pub corners : h .n ≡ get16 s 1
-  pub number : numberOf (h .numbered) (h .number) ≡ partNumber (bit2 (getD s 0 0)) (get32 s (3 + 4 * (get16 s 1 - 3)))
-  pub fits : Numbered (numberOf (h .numbered) (h .number))
 
 abbrev pub HeadSays : List ℕ → Read → Type 0
 HeadSays s (Refused k) = readSheet s ≡ refused k

@@ -1,7 +1,8 @@
--- Read beside document 01.
+-- Read beside document 01, and beside request (xii).
 pub mod Sheet
 pub mod Listing
 pub mod Refusals
+pub mod Skipped
 -- What serves these, the contracts and the code.
 pub mod Framed
 pub mod Held

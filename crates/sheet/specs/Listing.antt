@@ -2,14 +2,13 @@
 use mathlib.Core.Path.{_≡_}
 use mathlib.Core.Logic.{_↔_}
 use mathlib.Core.List.{List}
-use mathlib.Core.Option.{none, some}
-use Prim.Native.Nat.{ℕ, _+_, _*_, _-_, _<_}
+use Prim.Native.Nat.{ℕ, _-_, _<_}
 use lib.ListN.{length, getD}
 use Rattle.lists.specs.Lists.{Sub}
 use Rattle.polygon.specs.Polygon.{Edge, Polygon}
 use Rattle.polygon.specs.Order.{Distinct}
-use Rattle.codec.specs.Numbers.{get16, get32}
-use Rattle.sheet.specs.Sheet.{bit0, bit1, bit2, sheetLength, pairs}
+use Rattle.codec.specs.Numbers.{get16}
+use Rattle.sheet.specs.Sheet.{bit0, bit1, sheetLength, pairs}
 
 -- the n - 3 pairs of a sheet for n corners, each with its lower corner first
 abbrev pub pairsOf : List ℕ → ℕ → List Edge
@@ -17,7 +16,7 @@ pairsOf s n = pairs s 3 (n - 3)
 
 -- the sheet lists the part
 pub record Lists (s : List ℕ) (p : Polygon) : Type 0 where
-  -- "Byte 0 is a bit map": of three fields, of which "bit 0 always stands"
+  -- "Byte 0 is a bit map": of three fields, of which "bit 0 always stands". Bit 2 may stand: request (xii), "its four bytes are skipped".
   pub three-fields : getD s 0 0 < 8
   pub count-stands : bit0 (getD s 0 0) ≡ 1
   -- "Bit 0: corner count, two bytes."
@@ -30,6 +29,3 @@ pub record Lists (s : List ℕ) (p : Polygon) : Type 0 where
   pub once : Distinct (pairsOf s (p .n))
   pub diagonals-listed : Sub (p .ds) (pairsOf s (p .n))
   pub listed-diagonals : Sub (pairsOf s (p .n)) (p .ds)
-  -- "Bit 2: part number, four bytes, optional."
-  pub unnumbered : bit2 (getD s 0 0) ≡ 0 → p .number ≡ none
-  pub numbered : bit2 (getD s 0 0) ≡ 1 → p .number ≡ some (get32 s (3 + 4 * (p .n - 3)))

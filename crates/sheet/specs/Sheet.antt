@@ -1,14 +1,14 @@
 -- Document 01, "The sheet", and the tests of "Set in order" in their published order.
+-- Request (xii): "New sheets are written without bit 2. A sheet that still has it is read and its four bytes are skipped, the result has none".
 use mathlib.Core.Logic.{Dec·and}
 use mathlib.Core.List.{List, [], _∷_, _++_}
-use mathlib.Core.Option.{Option, none, some}
 use Prim.Native.Nat.{ℕ, zero, suc, _+_, _*_, _-_, _/_, _%_, _≤_}
 use native.Mathlib.Decide.{decLe, decLt, ℕ-discrete}
 use lib.ListN.{length, getD}
 use Rattle.lists.specs.Lists.{all?, choose}
 use Rattle.polygon.specs.Polygon.{Edge, Polygon}
 use Rattle.polygon.specs.Order.{diagonal?, distinct?, none-cross?, sort, lower-first}
-use Rattle.codec.specs.Numbers.{bytes16, bytes32, get16, get32}
+use Rattle.codec.specs.Numbers.{bytes16, get16}
 use Rattle.codec.specs.Answer.{Outcome, refuse, write}
 
 -- a sheet is refused by a number, or a part is held
@@ -36,7 +36,7 @@ abbrev pub field : ℕ → ℕ → ℕ
 field zero size = 0
 field (suc b) size = size
 
--- "Bit 0: corner count, two bytes. Bit 1: n-3 pairs of corners, two bytes a corner. Bit 2: part number, four bytes"
+-- "Bit 0: corner count, two bytes. Bit 1: n-3 pairs of corners, two bytes a corner. Bit 2: part number, four bytes": they count for the length, and nothing reads them
 abbrev pub sheetLength : ℕ → ℕ → ℕ
 sheetLength m n = 1 + field (bit0 m) 2 + field (bit1 m) (4 * (n - 3)) + field (bit2 m) 4
 
@@ -44,11 +44,6 @@ sheetLength m n = 1 + field (bit0 m) 2 + field (bit1 m) (4 * (n - 3)) + field (b
 unfoldable pub pairs : List ℕ → ℕ → ℕ → List Edge
 pairs s at zero = []
 pairs s at (suc k) = lower-first (get16 s at, get16 s (at + 2)) ∷ pairs s (at + 4) k
-
--- the part number, if bit 2 stands: behind the pairs
-unfoldable pub partNumber : ℕ → ℕ → Option ℕ
-partNumber zero k = none
-partNumber (suc b) k = some k
 
 -- n has 3 to 1,024 corners; bit 1 stands exactly when n > 3
 unfoldable pub count? : (n : ℕ) → Dec ((3 ≤ n) × (n ≤ 1024))
@@ -72,26 +67,18 @@ readSheet s =
     (ask 5 (all? (diagonal? n) es)
     (ask 6 (distinct? es)
     (ask 7 (none-cross? es)
-    (held (record { n = n; ds = sort es; number = partNumber (bit2 m) (get32 s (3 + 4 * (n - 3))) })))))))))
+    (held (record { n = n; ds = sort es })))))))))
 
--- the bytes of a part: "A sheet in normal order has each pair lower corner first, pairs ascending, and the sheet's part number if it has one"
+-- the bytes of a part: "A sheet in normal order has each pair lower corner first, pairs ascending", and no bit 2
 unfoldable pub pairBytes : List Edge → List ℕ
 pairBytes [] = []
 pairBytes (e ∷ es) = bytes16 (e .0) ++ (bytes16 (e .1) ++ pairBytes es)
 
-unfoldable pub numberBytes : Option ℕ → List ℕ
-numberBytes none = []
-numberBytes (some k) = bytes32 k
-
-unfoldable pub numberBit : Option ℕ → ℕ
-numberBit none = 0
-numberBit (some k) = 1
-
-unfoldable pub mapByte : Polygon → ℕ
-mapByte p = 1 + more (p .n) * 2 + numberBit (p .number) * 4
+unfoldable pub mapByte : ℕ → ℕ
+mapByte n = 1 + more n * 2
 
 unfoldable pub normalSheet : Polygon → List ℕ
-normalSheet p = mapByte p ∷ (bytes16 (p .n) ++ (pairBytes (p .ds) ++ numberBytes (p .number)))
+normalSheet p = mapByte (p .n) ∷ (bytes16 (p .n) ++ pairBytes (p .ds))
 
 -- what an operation writes for a part, or the refusal
 unfoldable pub outcome : Reading → Outcome

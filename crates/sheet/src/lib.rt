@@ -11,11 +11,9 @@ use keys::DIAGONALS;
 pub mod reader;
 pub mod writer;
 
-// A part but for its diagonals: its corners, and its part number if it has one.
+// A part but for its diagonals: how many corners it has.
 pub struct Head {
     pub n: usize,
-    pub numbered: bool,
-    pub number: usize,
 }
 
 // What reading a sheet gives: the number of a refusal, or the head of a part whose diagonals stand in the lent table of keys.

@@ -11,7 +11,6 @@ ghost use Rattle.sheet.specs.Held.{Reads, HeadSays, KeyIs, pairAt};
 use crate::Head;
 use crate::Read;
 use codec::get16;
-use codec::get32;
 use keys::CORNERS;
 use keys::cross::crosses;
 use keys::key;
@@ -29,7 +28,7 @@ fn agrees(map: u8, n: usize) -> bool
     }
 }
 
-// How many fields there are behind the corner count and the pairs: as many as bits stand, less those two.
+// How many fields of four bytes there are behind the corner count and the pairs: as many as bits stand, less those two.
 fn behind(map: u8) -> usize
     requires { ⌜ (map < 8) × (map % 2 ≡ 1) ⌝ }
     ensures { λ r. ⌜ (r ≡ bit2 map) × (r ≤ 1) ⌝ }
@@ -70,19 +69,7 @@ fn read_head(sheet: &[u8]) -> Read
     if size != end + 4 * rest {
         return Read::Refused(2);
     }
-    if rest == 1 {
-        let number = get32(sheet, end);
-        return Read::Held(Head {
-            n,
-            numbered: true,
-            number,
-        });
-    }
-    Read::Held(Head {
-        n,
-        numbered: false,
-        number: 0,
-    })
+    Read::Held(Head { n })
 }
 
 // The key of the edge (a,b), a below b, if it is a diagonal of n corners; else 0.

@@ -1,47 +1,23 @@
 // Writing a part as a sheet in normal order.
 ghost use mathlib.Core.Path.{_≡_};
-ghost use Prim.Native.Nat.{ℕ, _+_, _*_, _-_, _≤_};
+ghost use Prim.Native.Nat.{_+_, _*_, _≤_};
 ghost use lib.ListN.{length};
 ghost use lib.Seq.{sets};
-ghost use Rattle.polygon.specs.Polygon.{Numbered};
 ghost use Rattle.codec.specs.Answer.{answered, written, write};
 ghost use Rattle.keys.specs.Keys.{edgesOf};
-ghost use Rattle.sheet.specs.Sheet.{normalSheet, pairBytes, numberBytes, numberBit, more};
-ghost use Rattle.sheet.specs.Held.{polygonOf, numberOf, SmallKeys, InHand};
+ghost use Rattle.sheet.specs.Sheet.{normalSheet, pairBytes, mapByte};
+ghost use Rattle.sheet.specs.Held.{polygonOf, SmallKeys, InHand};
 use crate::Head;
 use codec::Written;
 use codec::put16;
-use codec::put32;
 use keys::high;
 use keys::low;
 
-// The map byte: bit 0, bit 1 if there are more than 3 corners, bit 2 if there is a part number.
-fn map_byte(n: usize, numbered: bool) -> u8
-    ensures { λ r. ⌜ ((k : ℕ) → r ≡ 1 + more n * 2 + numberBit (numberOf numbered k) * 4) ⌝ }
+// The map byte: bit 0, and bit 1 if there are more than 3 corners.
+fn map_byte(n: usize) -> u8
+    ensures { λ r. ⌜ r ≡ mapByte n ⌝ }
 {
-    if n > 3 {
-        if numbered { 7 } else { 3 }
-    } else {
-        if numbered { 5 } else { 1 }
-    }
-}
-
-// How many bytes the part number takes.
-fn number_size(numbered: bool) -> usize
-    ensures within { λ r. ⌜ r ≤ 4 ⌝ }
-    ensures size { λ r. ⌜ ((k : ℕ) → r ≡ length (numberBytes (numberOf numbered k))) ⌝ }
-{
-    if numbered { 4 } else { 0 }
-}
-
-// Writes the part number, if there is one.
-fn put_number(out: &mut [u8], at: usize, numbered: bool, number: usize)
-    requires { ⌜ (at + length (numberBytes (numberOf numbered number)) ≤ length (now out)) × Numbered (numberOf numbered number) ⌝ }
-    ensures { λ _. ⌜ now (out .exit) ≡ sets (now (out .entry)) at (numberBytes (numberOf numbered number)) ⌝ }
-{
-    if numbered {
-        put32(out, at, number);
-    }
+    if n > 3 { 3 } else { 1 }
 }
 
 // Writes the corners of each key's edge.
@@ -66,14 +42,12 @@ pub fn write_sheet(h: Head, keys: &[u32], out: &mut [u8]) -> Written
 {
     let n = h.n;
     let m = n - 3;
-    let end = 3 + m * 4;
-    let size = end + number_size(h.numbered);
+    let size = 3 + m * 4;
     if out.len() < size {
         return Written::Refused(8);
     }
-    out[0] = map_byte(n, h.numbered);
+    out[0] = map_byte(n);
     put16(out, 1, n);
     put_edges(out, 3, &keys[..m]);
-    put_number(out, end, h.numbered, h.number);
     Written::Bytes(size)
 }

@@ -2,7 +2,6 @@
 use mathlib.Core.Path.{_≡_, refl}
 use mathlib.Core.Logic.{Dec·and}
 use mathlib.Core.List.{[], _∷_}
-use mathlib.Core.Option.{none}
 use Prim.Native.Nat.{ℕ}
 use native.Mathlib.Decide.{decLe, decLt, ℕ-discrete}
 use Rattle.lists.specs.Lists.{choose}
@@ -17,13 +16,13 @@ abbrev pub counts : Polygon → ℕ × ℕ × ℕ
 counts p = (levels (planOf p), umbrellas (planOf p), stems (planOf p))
 
 abbrev pub three : Polygon
-three = record { n = 3; ds = []; number = none }
+three = record { n = 3; ds = [] }
 
 abbrev pub hexagon : Polygon
-hexagon = record { n = 6; ds = (0 — 2) ∷ (0 — 4) ∷ (2 — 4) ∷ []; number = none }
+hexagon = record { n = 6; ds = (0 — 2) ∷ (0 — 4) ∷ (2 — 4) ∷ [] }
 
 abbrev pub seven : Polygon
-seven = record { n = 7; ds = (0 — 5) ∷ (1 — 3) ∷ (1 — 5) ∷ (3 — 5) ∷ []; number = none }
+seven = record { n = 7; ds = (0 — 5) ∷ (1 — 3) ∷ (1 — 5) ∷ (3 — 5) ∷ [] }
 
 pub record Known : Type 0 where
   -- "n = 3: 1 level .. levels 1 umbrellas 1 stems 0"

@@ -11,7 +11,7 @@ use bend_tests::draw::{chart_of, draw_with_bars};
 use bend_tests::part::{Corner, Part};
 use bend_tests::random::Random;
 use bend_tests::shapes::{all_parts, part, Shape, SHAPES};
-use bend_tests::sheet;
+use bend_tests::sheet::{self, Skipped};
 use std::{env, fs};
 
 /// What every lent byte is before the call.
@@ -24,6 +24,9 @@ struct Cases {
     calls: Vec<u8>,
     answers: Vec<u8>,
 }
+
+/// The bytes of bit 2.
+const SKIPPED: Skipped = [0, 1, 0, 3];
 
 fn put(bytes: &mut Vec<u8>, number: usize) {
     bytes.extend(u16::try_from(number).expect("two bytes").to_be_bytes());
@@ -65,21 +68,24 @@ impl Cases {
         }
     }
 
-    /// The part's sheet, with either output too short, just long enough and longer.
+    /// The part's sheet, with either output too short, just long enough and longer;
+    /// by turns without bit 2 and with it.
     fn add_part(&mut self, part: &Part) {
-        let sheet = sheet::normal(part);
+        let sheets =
+            [None, Some(SKIPPED)].map(|four| sheet::with_pairs(part.n, &part.diagonals, four));
         let (length, n) = (chart_of(part).length(), usize::from(part.n));
-        for (lent, room) in [
+        let lengths = [
             (length, n),
             (length + 3, n + 2),
             (length - 1, n),
             (length, n - 1),
             (0, n),
             (length, 0),
-        ] {
-            self.add(&sheet, lent, room);
+        ];
+        for (sheet, (lent, room)) in sheets.iter().cycle().zip(lengths) {
+            self.add(sheet, lent, room);
         }
-        self.add(&sheet[..sheet.len() - 1], length, n);
+        self.add(&sheets[1][..sheets[1].len() - 1], length, n);
     }
 }
 
@@ -97,12 +103,13 @@ fn small() -> Cases {
     cases
 }
 
-/// A part of 1,024 corners.
+/// A part of 1,024 corners, whose sheet has bit 2: the longest there is.
 fn large() -> Cases {
     let mut cases = Cases::default();
     let part = part(Shape::Mixed, 1024, &mut Random::new(302));
     let length = chart_of(&part).length();
-    cases.add(&sheet::normal(&part), length, 1024);
+    let sheet = sheet::with_pairs(part.n, &part.diagonals, Some(SKIPPED));
+    cases.add(&sheet, length, 1024);
     cases
 }
 

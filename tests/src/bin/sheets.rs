@@ -1,7 +1,7 @@
 //! Writes 200 sheets, one to a file, into the folder that the argument names:
 //! parts of 3 to 1,024 corners in eight shapes, their pairs in any order, with
-//! and without part number, and some with a byte replaced. Every run writes the
-//! same sheets.
+//! and without bit 2, and some with a byte replaced. Every run writes the same
+//! sheets.
 
 use bend_tests::part::Corner;
 use bend_tests::random::Random;
@@ -24,8 +24,8 @@ fn main() -> std::io::Result<()> {
             let part = part(shape, n, &mut random);
             let mut pairs = part.diagonals;
             random.shuffle(&mut pairs);
-            let number = random.coin().then(|| random.bits() as u32);
-            let mut sheet = with_pairs(n, &pairs, number);
+            let skipped = random.coin().then(|| (random.bits() as u32).to_be_bytes());
+            let mut sheet = with_pairs(n, &pairs, skipped);
             if place >= SIZES.len() - DAMAGED {
                 let at = random.below(sheet.len());
                 sheet[at] = random.byte();

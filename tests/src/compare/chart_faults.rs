@@ -21,7 +21,7 @@ pub fn run(tests: &mut Tests) {
 /// Our chart of n = 4, (0,2). Upright are (0,1), (0,2) and (2,3), in this order
 /// of columns, level (0,3) and (1,2).
 fn square() -> Chart {
-    chart_of(&Part::new(4, &[(0, 2)], None))
+    chart_of(&Part::new(4, &[(0, 2)]))
 }
 
 /// A chart of the same part, true but that the upright (0,1) passes through the

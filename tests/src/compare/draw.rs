@@ -1,5 +1,6 @@
 //! Draw: the library's `bend_draw` beside the model.
 
+use super::bit_2::{self, Call};
 use super::checks::{hex, must_be, same_bytes, same_writing, Failure, Outcome};
 use super::faults::refusals;
 use super::groups::{self, Damaged};
@@ -8,6 +9,7 @@ use super::Tests;
 use crate::library;
 use bend_tests::chart::Chart;
 use bend_tests::draw::{chart, chart_of, draw_sheet};
+use bend_tests::edit_list::Lending;
 use bend_tests::part::{Corner, Pair, Part};
 use bend_tests::random::Random;
 use bend_tests::search::plan_drawn;
@@ -26,6 +28,22 @@ pub fn run(tests: &mut Tests) {
     });
     damaged_sheets(tests);
     output_lengths(tests);
+    let call = |part: &Part, _: &[Lending]| vec![(Draw, chart_of(part).length())];
+    bit_2::run(tests, "draw", call);
+    bit_2::output_lengths(tests, "draw", call);
+}
+
+#[derive(Clone, Copy, Debug)]
+struct Draw;
+
+impl Call for Draw {
+    fn by_library(self, sheet: &[u8], out: &mut [u8]) -> u64 {
+        library::draw(sheet, out)
+    }
+
+    fn same(self, sheet: &[u8], lent: usize) -> Outcome {
+        same(sheet, lent)
+    }
 }
 
 /// Both sides on one sheet with `lent` bytes of output.
@@ -40,7 +58,7 @@ pub fn draws(sheet: &[u8], chart: &Chart) -> Outcome {
 }
 
 /// The bytes that the library draws.
-fn drawn(sheet: &[u8]) -> Vec<u8> {
+pub fn drawn(sheet: &[u8]) -> Vec<u8> {
     let mut out = vec![0; 40_000];
     let answer = library::draw(sheet, &mut out);
     out.truncate((answer >> 16) as usize);
@@ -145,8 +163,8 @@ fn large_parts(tests: &mut Tests) {
             Ok(())
         });
     }
-    groups::number_and_order(tests, "draw", 205, |bare, sheet| {
-        draws(sheet, &chart_of(bare))
+    groups::bit_2_and_order(tests, "draw", 205, |part, sheet| {
+        draws(sheet, &chart_of(part))
     });
 }
 

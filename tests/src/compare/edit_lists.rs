@@ -1,26 +1,20 @@
 //! Lists of edits: the library reads what it wrote, the plain part of document 01
 //! is fed the edits alone, and both must leave the same sheet.
 
-use super::checks::{must_be, same_bytes, Outcome};
-use super::edits::{any_edit, by_library};
-use super::sheets::{any_number, any_part, any_sheet};
+use super::any_edits::{any_edit, any_room};
+use super::bit_2_lists::{self, Left};
+use super::checks::{must_be, same_bytes, Failure, Outcome};
+use super::edits::{by_library, same};
+use super::sheets::{any_part, any_sheet};
 use super::Tests;
 #[cfg(all(feature = "plan", feature = "draw"))]
 use bend_tests::draw::chart;
 use bend_tests::edit::PlainPart;
+use bend_tests::edit_list::Lending;
 #[cfg(all(feature = "plan", feature = "draw"))]
 use bend_tests::plan::Pieces;
 use bend_tests::random::Random;
-
-/// A length to lend to an edit of a sheet of `length` bytes, mostly enough.
-pub fn any_room(length: usize, random: &mut Random) -> usize {
-    match random.below(12) {
-        0 => random.below(length + 5),
-        1 => length,
-        2 => length + 4,
-        _ => length + 4 + random.below(100),
-    }
-}
+use bend_tests::sheet;
 
 /// Runs one list of edits. The library reads what it wrote last; the plain part
 /// is fed the edits alone.
@@ -29,7 +23,7 @@ fn list(first: &[u8], length: usize, random: &mut Random) -> Outcome {
     let mut left = first.to_vec();
     for _ in 0..length {
         let edit = any_edit(&plain.part, random);
-        let lent = any_room(left.len(), random);
+        let lent = any_room(sheet::length(&plain.part), random);
         let mut out = random.bytes(lent);
         let answer = by_library(&left, edit, &mut out);
         let number = plain.edit(edit, lent);
@@ -53,6 +47,23 @@ fn planned_and_drawn(left: &[u8], plain: &PlainPart) -> Outcome {
     super::draw::draws(left, &chart(&plain.part, &plan))
 }
 
+/// The numbers and the sheet that the list gives, by a call for each edit.
+fn run_list(first: &[u8], list: &[Lending]) -> Result<Left, Failure> {
+    let mut left = first.to_vec();
+    let mut numbers = Vec::new();
+    for &(edit, room) in list {
+        same(&left, edit, room as usize)?;
+        let mut out = vec![0; room as usize];
+        let answer = by_library(&left, edit, &mut out);
+        numbers.push(answer as u16);
+        if answer & 0xffff == 0 {
+            out.truncate((answer >> 16) as usize);
+            left = out;
+        }
+    }
+    Ok((numbers, left))
+}
+
 pub fn run(tests: &mut Tests) {
     for (name, n, count, length) in [
         ("the empty list", 12, 10, 0),
@@ -65,11 +76,11 @@ pub fn run(tests: &mut Tests) {
         tests.test(&format!("edits: {name}"), || {
             let mut random = Random::new(91);
             for _ in 0..count {
-                let mut part = any_part(n, &mut random);
-                part.number = any_number(&mut random);
+                let part = any_part(n, &mut random);
                 list(&any_sheet(&part, &mut random), length, &mut random)?;
             }
             Ok(())
         });
     }
+    bit_2_lists::run(tests, "edits", run_list);
 }

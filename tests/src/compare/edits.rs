@@ -1,13 +1,16 @@
 //! The three edits: the library's `bend_add_ear`, `bend_remove_ear` and
 //! `bend_flip` beside the model, one by one.
 
+use super::any_edits::{all_edits, any_edit};
+use super::bit_2::{self, Call};
 use super::checks::{must_be, same_bytes, same_writing, Outcome};
 use super::faults::refusals;
 use super::groups::{self, Damaged};
-use super::sheets::{any_part, any_sheet};
+use super::sheets::{any_order, any_part, any_sheet, without_and_with};
 use super::Tests;
 use crate::library;
 use bend_tests::edit::{edit_sheet, Edit};
+use bend_tests::edit_list::Lending;
 use bend_tests::part::{Corner, Pair, Part};
 use bend_tests::random::Random;
 use bend_tests::shapes::all_parts;
@@ -19,6 +22,22 @@ pub fn run(tests: &mut Tests) {
     orders_of_refusal(tests);
     large_parts(tests);
     output_lengths(tests);
+    let calls = |_: &Part, edits: &[Lending]| {
+        let call = |&(edit, room): &Lending| (edit, room as usize);
+        edits.iter().map(call).collect()
+    };
+    bit_2::run(tests, "edits", calls);
+    bit_2::output_lengths(tests, "edits", calls);
+}
+
+impl Call for Edit {
+    fn by_library(self, sheet: &[u8], out: &mut [u8]) -> u64 {
+        by_library(sheet, self, out)
+    }
+
+    fn same(self, sheet: &[u8], lent: usize) -> Outcome {
+        same(sheet, self, lent)
+    }
 }
 
 /// The library's function for the edit.
@@ -31,7 +50,7 @@ pub fn by_library(sheet: &[u8], edit: Edit, out: &mut [u8]) -> u64 {
 }
 
 /// Both sides on one edit with `lent` bytes of output.
-fn same(sheet: &[u8], edit: Edit, lent: usize) -> Outcome {
+pub fn same(sheet: &[u8], edit: Edit, lent: usize) -> Outcome {
     let outcome = same_writing(
         sheet,
         lent,
@@ -48,33 +67,9 @@ fn gives(number: u16, sheet: &[u8], edit: Edit, lent: usize) -> Outcome {
     same(sheet, edit, lent)
 }
 
-/// Numbers that name no corner of any part; some do if high bits are lost.
-const HUGE: [u64; 12] = [
-    1024,
-    1025,
-    65_535,
-    65_536,
-    65_538,
-    1 << 32,
-    (1 << 32) + 2,
-    1 << 48,
-    1 << 63,
-    (1 << 63) + 2,
-    u64::MAX - 1,
-    u64::MAX,
-];
-
-/// Every edit that a part with `n` corners can be asked for, and more.
-fn all_edits(n: Corner) -> Vec<Edit> {
-    let numbers = || (0..u64::from(n) + 2).chain(HUGE);
-    let one = numbers().flat_map(|x| [Edit::Add { side: x }, Edit::TakeOff { corner: x }]);
-    let two = numbers().flat_map(|a| numbers().map(move |b| Edit::Turn { a, b }));
-    one.chain(two).collect()
-}
-
 fn fan(n: Corner) -> Part {
     let diagonals: Vec<Pair> = (2..n - 1).map(|b| (0, b)).collect();
-    Part::new(n, &diagonals, Some(9))
+    Part::new(n, &diagonals)
 }
 
 fn known_parts(tests: &mut Tests) {
@@ -96,26 +91,27 @@ fn known_parts(tests: &mut Tests) {
         },
     );
     tests.test("edits: known part, adding at 1,023 works", || {
-        let sheet = sheet::normal(&fan(1023));
-        (0..1023).try_for_each(|side| gives(0, &sheet, Edit::Add { side }, 4091))
+        without_and_with(&fan(1023)).iter().try_for_each(|sheet| {
+            (0..1023).try_for_each(|side| gives(0, sheet, Edit::Add { side }, 4087))
+        })
     });
     tests.test("edits: known part, adding at 1,024 gives 10", || {
-        let sheet = sheet::normal(&fan(1024));
-        (0..1024).try_for_each(|side| gives(10, &sheet, Edit::Add { side }, 5000))
+        without_and_with(&fan(1024)).iter().try_for_each(|sheet| {
+            (0..1024).try_for_each(|side| gives(10, sheet, Edit::Add { side }, 5000))
+        })
     });
 }
 
 fn small_parts(tests: &mut Tests) {
     for n in 3..=8 {
-        for number in [None, Some(0xfedc_ba98)] {
-            let name = format!("edits: all edits of all parts of {n} corners, number {number:?}");
+        for skipped in [None, Some([0xfe, 0xdc, 0xba, 0x98])] {
+            let name = format!("edits: all edits of all parts of {n} corners, bit 2 {skipped:?}");
             tests.test(&name, || {
                 let mut random = Random::new(61);
                 for part in all_parts(n) {
-                    let part = Part { number, ..part };
                     for edit in all_edits(n) {
-                        let sheet = any_sheet(&part, &mut random);
-                        same(&sheet, edit, sheet.len() + 4)?;
+                        let sheet = any_order(&part, skipped, &mut random);
+                        same(&sheet, edit, sheet::length(&part) + 4)?;
                     }
                 }
                 Ok(())
@@ -183,8 +179,9 @@ fn orders_of_refusal(tests: &mut Tests) {
     ];
     for (name, number, part, edit) in cases {
         tests.test(&format!("edits: {name}"), || {
-            let sheet = sheet::normal(&part);
-            (0..=sheet.len() + 6).try_for_each(|lent| gives(number, &sheet, edit, lent))
+            without_and_with(&part).iter().try_for_each(|sheet| {
+                (0..=sheet.len() + 6).try_for_each(|lent| gives(number, sheet, edit, lent))
+            })
         });
     }
 }
@@ -208,15 +205,16 @@ fn large_parts(tests: &mut Tests) {
         || {
             let mut random = Random::new(71);
             let part = any_part(1023, &mut random);
-            let sheet = any_sheet(&part, &mut random);
-            for number in 0..1023 {
-                same(&sheet, Edit::Add { side: number }, 5000)?;
-                same(&sheet, Edit::TakeOff { corner: number }, 5000)?;
-            }
-            for &(a, b) in &part.diagonals {
-                let (a, b) = (u64::from(a), u64::from(b));
-                gives(0, &sheet, Edit::Turn { a, b }, 5000)?;
-                gives(0, &sheet, Edit::Turn { a: b, b: a }, 5000)?;
+            for sheet in without_and_with(&part) {
+                for number in 0..1023 {
+                    same(&sheet, Edit::Add { side: number }, 5000)?;
+                    same(&sheet, Edit::TakeOff { corner: number }, 5000)?;
+                }
+                for &(a, b) in &part.diagonals {
+                    let (a, b) = (u64::from(a), u64::from(b));
+                    gives(0, &sheet, Edit::Turn { a, b }, 5000)?;
+                    gives(0, &sheet, Edit::Turn { a: b, b: a }, 5000)?;
+                }
             }
             Ok(())
         },
@@ -229,47 +227,6 @@ fn large_parts(tests: &mut Tests) {
     groups::damaged_sheets(tests, "edits", 72, how_many, |part, sheet, random| {
         same(sheet, any_edit(part, random), sheet.len() + 5)
     });
-}
-
-/// A random edit, most of them such that the part can take it.
-pub fn any_edit(part: &Part, random: &mut Random) -> Edit {
-    let n = usize::from(part.n);
-    let any = |random: &mut Random| match random.below(24) {
-        0 => *random.pick(&HUGE),
-        1 => part.n.into(),
-        _ => random.below(n) as u64,
-    };
-    match random.below(6) {
-        0 | 1 => Edit::Add { side: any(random) },
-        2 | 3 => {
-            // An ear is rare in some parts: look for one, but not for long.
-            let ends = |k: u64| {
-                part.diagonals
-                    .iter()
-                    .any(|&(a, b)| k == a.into() || k == b.into())
-            };
-            let mut corner = any(random);
-            for _ in 0..6 {
-                if !ends(corner) {
-                    break;
-                }
-                corner = any(random);
-            }
-            Edit::TakeOff { corner }
-        }
-        4 if !part.diagonals.is_empty() => {
-            let &(a, b) = random.pick(&part.diagonals);
-            let (a, b) = if random.coin() { (a, b) } else { (b, a) };
-            Edit::Turn {
-                a: a.into(),
-                b: b.into(),
-            }
-        }
-        _ => Edit::Turn {
-            a: any(random),
-            b: any(random),
-        },
-    }
 }
 
 fn output_lengths(tests: &mut Tests) {
@@ -292,7 +249,8 @@ fn output_lengths(tests: &mut Tests) {
                 let sheet = any_sheet(&part, &mut random);
                 for _ in 0..8 {
                     let edit = any_edit(&part, &mut random);
-                    let near = sheet.len() - 7..=sheet.len() + 7;
+                    let length = sheet::length(&part);
+                    let near = length - 7..=length + 7;
                     (0..4)
                         .chain(near)
                         .try_for_each(|lent| same(&sheet, edit, lent))?;

@@ -2,10 +2,11 @@
 //! In twos the first in the published order must win.
 
 use super::checks::Outcome;
-use super::sheets::{any_part, ordered, ORDERS};
+use super::sheets::{any_four, any_part, ordered, ORDERS};
 use super::Tests;
 use bend_tests::part::{cross, is_diagonal, lower_first, Corner, Pair};
 use bend_tests::random::Random;
+use bend_tests::sheet::Skipped;
 
 /// What becomes of a drafted sheet's bytes at their end.
 #[derive(Clone, Copy)]
@@ -21,7 +22,7 @@ struct Draft {
     map: u8,
     n: Corner,
     pairs: Vec<Pair>,
-    number: Option<u32>,
+    skipped: Option<Skipped>,
     ending: Ending,
     /// The places of pairs that a fault needs as they are.
     taken: Vec<usize>,
@@ -37,11 +38,12 @@ impl Draft {
         };
         let part = any_part(n as Corner, random);
         let order = *random.pick(&ORDERS);
+        let skipped = (random.below(3) > 0).then(|| any_four(random));
         Draft {
-            map: if part.number.is_some() { 7 } else { 3 },
+            map: if skipped.is_some() { 7 } else { 3 },
             n: part.n,
             pairs: ordered(&part, order, random),
-            number: part.number,
+            skipped,
             ending: Ending::Whole,
             taken: Vec::new(),
         }
@@ -54,7 +56,7 @@ impl Draft {
             bytes.extend(a.to_be_bytes());
             bytes.extend(b.to_be_bytes());
         }
-        bytes.extend(self.number.iter().flat_map(|number| number.to_be_bytes()));
+        bytes.extend(self.skipped.iter().flatten());
         match self.ending {
             Ending::Whole => {}
             Ending::Keep(length) => bytes.truncate(length),
@@ -126,7 +128,7 @@ static FAULTS: [Fault; 32] = [
     fault(2, 4, "a byte over", |d, _| d.ending = Ending::Add(1)),
     fault(2, 4, "a pair over", |d, _| d.ending = Ending::Add(4)),
     fault(2, 4, "three bytes", |d, _| d.ending = Ending::Keep(3)),
-    fault(2, 4, "number bit flipped", |d, _| d.map ^= 4),
+    fault(2, 4, "bit 2 flipped", |d, _| d.map ^= 4),
     fault(5, 5, "a side", |d, random| {
         let a = random.below(usize::from(d.n) - 1) as Corner;
         replace(d, (a, a + 1), random)

@@ -2,7 +2,7 @@
 //! the operation's own check. `operation` begins the tests' names.
 
 use super::checks::{on_a_small_stack, Outcome};
-use super::sheets::{any_part, any_sheet, DAMAGES};
+use super::sheets::{any_four, any_order, any_part, any_sheet, DAMAGES};
 use super::Tests;
 use bend_tests::part::{Corner, Part};
 use bend_tests::random::Random;
@@ -21,7 +21,9 @@ pub fn small_parts(
         tests.test(&name, || {
             let mut random = Random::new(seed);
             for part in all_parts(n) {
-                check(&part, &any_sheet(&part, &mut random))?;
+                for skipped in [None, Some(any_four(&mut random))] {
+                    check(&part, &any_order(&part, skipped, &mut random))?;
+                }
             }
             Ok(())
         });
@@ -83,26 +85,21 @@ pub fn large_parts(
     });
 }
 
-/// Sheets of one part with and without a number, in any order: the check is
-/// given the part without its number.
-pub fn number_and_order(
+/// Sheets of one part with and without bit 2, in any order.
+pub fn bit_2_and_order(
     tests: &mut Tests,
     operation: &str,
     seed: u64,
     check: impl Fn(&Part, &[u8]) -> Outcome,
 ) {
-    let name = format!("{operation}: the part number and the order change nothing");
+    let name = format!("{operation}: bit 2 and the order change nothing");
     tests.test(&name, || {
         let mut random = Random::new(seed);
         for _ in 0..200 {
             let n = random.between(3, 300) as Corner;
             let part = any_part(n, &mut random);
-            let bare = Part {
-                number: None,
-                ..part.clone()
-            };
             for _ in 0..4 {
-                check(&bare, &any_sheet(&part, &mut random))?;
+                check(&part, &any_sheet(&part, &mut random))?;
             }
         }
         Ok(())
@@ -154,8 +151,11 @@ pub fn truncated_sheets(
     tests.test(&format!("{operation}: every truncation"), || {
         let mut random = Random::new(seed);
         for n in [3, 4, 5, 9, 40, 1024] {
-            let sheet = any_sheet(&any_part(n, &mut random), &mut random);
-            (0..=sheet.len()).try_for_each(|length| same(&sheet[..length]))?;
+            let part = any_part(n, &mut random);
+            for skipped in [None, Some(any_four(&mut random))] {
+                let sheet = any_order(&part, skipped, &mut random);
+                (0..=sheet.len()).try_for_each(|length| same(&sheet[..length]))?;
+            }
         }
         Ok(())
     });

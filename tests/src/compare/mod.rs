@@ -8,6 +8,8 @@ mod draw;
 mod edit_lists;
 #[cfg(feature = "edits")]
 mod edits;
+#[cfg(feature = "run_edits")]
+mod list_faults;
 #[cfg(feature = "normalize")]
 mod normalize;
 #[cfg(feature = "plan")]
@@ -18,6 +20,12 @@ mod read_chart;
 mod run_edits;
 
 // What the groups share; which of it is used depends on the features.
+#[allow(dead_code)]
+mod any_edits;
+#[allow(dead_code)]
+mod bit_2;
+#[allow(dead_code)]
+mod bit_2_lists;
 #[allow(dead_code)]
 mod checks;
 #[allow(dead_code)]
@@ -40,6 +48,8 @@ pub fn run(tests: &mut Tests) {
     edit_lists::run(tests);
     #[cfg(feature = "run_edits")]
     run_edits::run(tests);
+    #[cfg(feature = "run_edits")]
+    list_faults::run(tests);
     #[cfg(feature = "plan")]
     plan::run(tests);
     #[cfg(feature = "draw")]

@@ -1,5 +1,6 @@
 //! Plan: the library's `bend_plan` beside the model.
 
+use super::bit_2::{self, Call};
 use super::checks::{hex, must_be, Failure, Outcome};
 use super::faults::refusals;
 use super::groups::{self, Damaged};
@@ -23,6 +24,20 @@ pub fn run(tests: &mut Tests) {
         same(sheet)
     });
     damaged_sheets(tests);
+    bit_2::run(tests, "plan", |_, _| vec![(Plan, 0)]);
+}
+
+#[derive(Clone, Copy, Debug)]
+struct Plan;
+
+impl Call for Plan {
+    fn by_library(self, sheet: &[u8], _: &mut [u8]) -> u64 {
+        library::plan(sheet)
+    }
+
+    fn same(self, sheet: &[u8], _: usize) -> Outcome {
+        same(sheet)
+    }
 }
 
 /// The library's answer, told as the model's.
@@ -116,8 +131,8 @@ fn large_parts(tests: &mut Tests) {
         }
         Ok(())
     });
-    groups::number_and_order(tests, "plan", 105, |bare, sheet| {
-        gives(sheet, plan_sheet(&sheet::normal(bare)))
+    groups::bit_2_and_order(tests, "plan", 105, |part, sheet| {
+        gives(sheet, plan_sheet(&sheet::normal(part)))
     });
 }
 

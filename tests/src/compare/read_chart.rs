@@ -1,6 +1,10 @@
 //! Read a chart: the library's `bend_read_chart` beside the model.
 
+#[cfg(all(feature = "normalize", feature = "draw"))]
+use super::checks::same_bytes;
 use super::checks::{must_be, same_writing, Outcome};
+#[cfg(all(feature = "normalize", feature = "draw"))]
+use super::sheets::{any_four, any_order, pairs_end};
 use super::sheets::{any_part, DAMAGES};
 use super::Tests;
 use crate::library;
@@ -20,6 +24,8 @@ pub fn run(tests: &mut Tests) {
     changed_charts(tests);
     damaged_charts(tests);
     output_lengths(tests);
+    #[cfg(all(feature = "normalize", feature = "draw"))]
+    back_from_sheets(tests);
 }
 
 /// Both sides on one chart with `lent` bytes of output.
@@ -207,6 +213,27 @@ fn output_lengths(tests: &mut Tests) {
             {
                 same(&bytes, lent)?;
             }
+        }
+        Ok(())
+    });
+}
+
+/// The chart of a sheet with bit 2 is read back as the sheet set in order.
+#[cfg(all(feature = "normalize", feature = "draw"))]
+fn back_from_sheets(tests: &mut Tests) {
+    let name = "read_chart: request (xii), back from the chart comes the sheet set in order";
+    tests.test(name, || {
+        let mut random = Random::new(351);
+        let large = [40, 300, 1023, 1024].map(|n| any_part(n, &mut random));
+        for part in (3..=8).flat_map(all_parts).chain(large) {
+            let skipped = Some(any_four(&mut random));
+            let sheet = any_order(&part, skipped, &mut random);
+            let mut ordered = vec![0; pairs_end(part.n)];
+            let mut back = ordered.clone();
+            must_be(0, library::normalize(&sheet, &mut ordered), &sheet)?;
+            let chart = super::draw::drawn(&sheet);
+            must_be(0, library::read_chart(&chart, &mut back), &chart)?;
+            same_bytes(&sheet, &ordered, &back)?;
         }
         Ok(())
     });

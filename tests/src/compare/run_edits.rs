@@ -1,22 +1,21 @@
 //! Encoded lists of edits: the library's `bend_run_edits` beside the model, and
 //! beside the plain part of document 01, which is fed the edits alone.
 
+use super::any_edits::any_list;
+use super::bit_2_lists::{self, Left};
 use super::checks::{guarded, hex, inside, must_be, same_bytes, Failure, Outcome};
-use super::edit_lists::any_room;
-use super::edits::any_edit;
-use super::sheets::{any_part, any_sheet, DAMAGES};
+use super::sheets::{any_part, any_sheet, without_and_with, DAMAGES};
 use super::Tests;
 use crate::library;
 use bend_tests::edit::{Edit, PlainPart};
-use bend_tests::edit_list::{edits, encoded, run as by_model, Lending, Place, Ran, EDIT};
-use bend_tests::part::{Corner, Part};
+use bend_tests::edit_list::{edits, encoded, run as by_model, Lending, Place, Ran};
+use bend_tests::part::Corner;
 use bend_tests::random::Random;
 use bend_tests::shapes::all_parts;
-use bend_tests::sheet;
 use std::hint::black_box;
 
 /// The lengths of the front buffer, the back buffer and the output for numbers.
-type Lengths = [usize; 3];
+pub type Lengths = [usize; 3];
 
 /// The model's answer as the library packs it. The first sheet's length is not
 /// told.
@@ -72,34 +71,39 @@ fn as_plain_part(first: &[u8], list: &[u8], answer: u64, outs: &mut [Vec<u8>; 3]
     let expected: Vec<u8> = list.iter().flat_map(number).collect();
     let [front, back, numbers] = outs.each_mut().map(|bytes| inside(bytes));
     same_bytes(first, &numbers[..expected.len()], &expected)?;
+    same_bytes(first, left(answer, first, front, back), &plain.sheet())
+}
+
+/// The sheet left, which the answer places.
+fn left<'a>(answer: u64, first: &'a [u8], front: &'a [u8], back: &'a [u8]) -> &'a [u8] {
     let length = (answer >> 32) as usize;
-    let left = match answer >> 16 & 0xffff {
+    match answer >> 16 & 0xffff {
         0 => first,
         1 => &front[..length],
         _ => &back[..length],
-    };
-    same_bytes(first, left, &plain.sheet())
+    }
+}
+
+/// The numbers and the sheet that the list gives, with buffers just long enough.
+fn run_list(first: &[u8], list: &[Lending]) -> Result<Left, Failure> {
+    let most = list.iter().map(|&(_, room)| room as usize).max();
+    let lengths = [most.unwrap_or(0), most.unwrap_or(0), 2 * list.len()];
+    let list = encoded(list, 0);
+    gives(0, first, &list, lengths)?;
+    let [mut front, mut back, mut numbers] = lengths.map(|length| vec![0; length]);
+    let answer = library::run_edits(first, &list, &mut front, &mut back, &mut numbers);
+    let number = |two: &[u8]| u16::from_be_bytes([two[0], two[1]]);
+    let numbers = numbers.chunks(2).map(number).collect();
+    Ok((numbers, left(answer, first, &front, &back).to_vec()))
 }
 
 /// Both sides, and the number that the test was made to get.
-fn gives(number: u16, first: &[u8], list: &[u8], lengths: Lengths) -> Outcome {
+pub fn gives(number: u16, first: &[u8], list: &[u8], lengths: Lengths) -> Outcome {
     must_be(number, same(first, list, lengths)?, list)
 }
 
-/// A list of `count` edits, most of which the part can take, one after another.
-fn any_list(part: &Part, count: usize, random: &mut Random) -> Vec<Lending> {
-    let mut plain = PlainPart::new(&sheet::normal(part)).expect("the part is valid");
-    let edit = |_| {
-        let edit = any_edit(&plain.part, random);
-        let room = any_room(sheet::length(&plain.part), random);
-        plain.edit(edit, room);
-        (edit, room as u32)
-    };
-    (0..count).map(edit).collect()
-}
-
 /// Lengths that are enough for the list, or a little more.
-fn enough(list: &[Lending], random: &mut Random) -> Lengths {
+pub fn enough(list: &[Lending], random: &mut Random) -> Lengths {
     let most = list.iter().map(|&(_, room)| room as usize).max();
     let mut some = |length: usize| length + random.below(3) * random.below(40);
     let most = most.unwrap_or(0);
@@ -108,8 +112,8 @@ fn enough(list: &[Lending], random: &mut Random) -> Lengths {
 
 pub fn run(tests: &mut Tests) {
     known_part(tests);
-    refusals(tests);
     random_lists(tests);
+    bit_2_lists::run(tests, "run_edits", run_list);
 }
 
 /// n = 4, (0,2) turned: (1,3); turned again: (0,2). Then a corner is added on
@@ -154,85 +158,6 @@ fn over(bytes: &[u8], before: &[u8]) -> Vec<u8> {
     [bytes, &before[bytes.len()..]].concat()
 }
 
-/// One way to spoil a list, or the lengths that it is lent.
-type Fault = (u16, fn(&mut Vec<u8>, &mut Lengths, &mut Random));
-
-/// A fault for each refusal, in the order in which they are tested.
-const FAULTS: [Fault; 4] = [
-    (32, |list, _, random| {
-        let more = random.between(1, EDIT - 1);
-        list.extend(random.bytes(more));
-    }),
-    (33, |list, _, random| {
-        let place = random.below(list.len() / EDIT) * EDIT;
-        list[place] = random.between(3, 255) as u8;
-    }),
-    (34, |list, lengths, random| {
-        lengths[2] = random.below(list.len() / EDIT * 2);
-    }),
-    (35, |list, lengths, random| {
-        let place = random.below(list.len() / EDIT) * EDIT + 9;
-        let short = random.below(2);
-        let room = match random.below(3) {
-            0 => u32::MAX,
-            1 => lengths[short] as u32 + 1,
-            _ => (lengths[short] + random.between(1, 1 << 20)) as u32,
-        };
-        list[place..place + 4].copy_from_slice(&room.to_be_bytes());
-    }),
-];
-
-/// Every set of faults, done so that none hides another; the first one in the
-/// order counts.
-fn refusals(tests: &mut Tests) {
-    for set in 0..1 << FAULTS.len() {
-        let faults = FAULTS.iter().enumerate();
-        let faults: Vec<&Fault> = faults
-            .filter(|(i, _)| set >> i & 1 == 1)
-            .map(|(_, f)| f)
-            .collect();
-        let numbers: Vec<u16> = faults.iter().map(|fault| fault.0).collect();
-        tests.test(&format!("run_edits: refusals {numbers:?}"), || {
-            let mut random = Random::new(101);
-            for round in 0..400 {
-                let part = any_part(random.between(3, 12) as Corner, &mut random);
-                let list = any_list(&part, 1 + round % 6, &mut random);
-                let mut lengths = enough(&list, &mut random);
-                let mut bytes = encoded(&list, random.bits() as u32);
-                for fault in faults.iter().rev() {
-                    fault.1(&mut bytes, &mut lengths, &mut random);
-                }
-                let first = any_sheet(&part, &mut random);
-                gives(
-                    numbers.first().copied().unwrap_or(0),
-                    &first,
-                    &bytes,
-                    lengths,
-                )?;
-            }
-            Ok(())
-        });
-    }
-    tests.test(
-        "run_edits: every length of the numbers and of a buffer",
-        || {
-            let mut random = Random::new(102);
-            let part = any_part(9, &mut random);
-            let first = any_sheet(&part, &mut random);
-            let list = [(Edit::Add { side: 2 }, 40), (Edit::Turn { a: 2, b: 4 }, 41)];
-            let list = encoded(&list, 0);
-            for length in 0..60 {
-                let number = if length < 4 { 34 } else { 0 };
-                gives(number, &first, &list, [41, 41, length])?;
-                let number = if length < 41 { 35 } else { 0 };
-                gives(number, &first, &list, [length, 41, 4])?;
-                gives(number, &first, &list, [41, length, 4])?;
-            }
-            Ok(())
-        },
-    );
-}
-
 fn random_lists(tests: &mut Tests) {
     for n in 3..=5 {
         let name = format!("run_edits: all lists of two edits of all parts of {n} corners");
@@ -244,11 +169,13 @@ fn random_lists(tests: &mut Tests) {
             let two = numbers
                 .clone()
                 .flat_map(|a| numbers.clone().map(move |b| Edit::Turn { a, b }));
-            let edits: Vec<Lending> = one.chain(two).map(|edit| (edit, 23)).collect();
-            for first in all_parts(n).iter().map(sheet::normal) {
+            let room = 4 * (usize::from(n) + 2) - 9;
+            let lent = |edit| (edit, room as u32);
+            let edits: Vec<Lending> = one.chain(two).map(lent).collect();
+            for first in all_parts(n).iter().flat_map(without_and_with) {
                 for one in &edits {
                     for two in &edits {
-                        gives(0, &first, &encoded(&[*one, *two], 1), [23, 23, 4])?;
+                        gives(0, &first, &encoded(&[*one, *two], 1), [room, room, 4])?;
                     }
                 }
             }

@@ -1,9 +1,10 @@
-//! Sheets to feed the operations: valid ones in every kind of order, and damage.
+//! Sheets to feed the operations: valid ones in every kind of order, with bit 2
+//! and without, and damage.
 
 use bend_tests::part::{Corner, Pair, Part};
 use bend_tests::random::Random;
 use bend_tests::shapes::{part, SHAPES};
-use bend_tests::sheet;
+use bend_tests::sheet::{self, Skipped};
 
 /// How the pairs of a valid sheet are ordered.
 #[derive(Clone, Copy, Debug)]
@@ -41,29 +42,41 @@ pub fn ordered(part: &Part, order: Order, random: &mut Random) -> Vec<Pair> {
     pairs
 }
 
-/// A part number, sometimes at the edge of its range, or none.
-pub fn any_number(random: &mut Random) -> Option<u32> {
-    match random.below(6) {
-        0 | 1 => None,
-        2 => Some(0),
-        3 => Some(u32::MAX),
-        _ => Some(random.bits() as u32),
+/// Where the pairs of a part with `n` corners end: its normal sheet's length.
+pub fn pairs_end(n: Corner) -> usize {
+    3 + 4 * usize::from(n - 3)
+}
+
+/// Any four bytes of bit 2.
+pub fn any_four(random: &mut Random) -> Skipped {
+    match random.below(4) {
+        0 => [0; 4],
+        1 => [255; 4],
+        _ => (random.bits() as u32).to_be_bytes(),
     }
 }
 
 /// A random valid part with `n` corners.
 pub fn any_part(n: Corner, random: &mut Random) -> Part {
     let shape = *random.pick(&SHAPES);
-    Part {
-        number: any_number(random),
-        ..part(shape, n, random)
-    }
+    part(shape, n, random)
 }
 
-/// The part's sheet in a random order.
-pub fn any_sheet(part: &Part, random: &mut Random) -> Vec<u8> {
+/// The part's sheet in a random order, with bit 2 and its bytes if there are any.
+pub fn any_order(part: &Part, skipped: Option<Skipped>, random: &mut Random) -> Vec<u8> {
     let order = *random.pick(&ORDERS);
-    sheet::with_pairs(part.n, &ordered(part, order, random), part.number)
+    sheet::with_pairs(part.n, &ordered(part, order, random), skipped)
+}
+
+/// The part's sheet in a random order, mostly with bit 2.
+pub fn any_sheet(part: &Part, random: &mut Random) -> Vec<u8> {
+    let skipped = (random.below(3) > 0).then(|| any_four(random));
+    any_order(part, skipped, random)
+}
+
+/// The part's sheets with the pairs in order, without bit 2 and with it.
+pub fn without_and_with(part: &Part) -> [Vec<u8>; 2] {
+    [None, Some([0, 0, 0, 9])].map(|skipped| sheet::with_pairs(part.n, &part.diagonals, skipped))
 }
 
 /// One way to damage bytes at random, with its name.

@@ -1,9 +1,6 @@
 -- What the edit answers, in one number.
 use borrow.Author.Needs.{needs}
-use Prim.Native.Nat.{_<_}
 use native.Mathlib.Omega.{arith}
-use Rattle.lists.specs.Lists.{All}
-use Rattle.lists.proofs.Places.{all-at}
 use Rattle.codec.proofs.Answers.{packable, packed-left}
 use Rattle.edit.specs.Tables.{editOf}
 use Rattle.edit.proofs.Size.{edited-size}
@@ -13,10 +10,8 @@ use Rattle.bend_c.proofs.pack_edit.Tie as tie
 pack-requires : tie.Need-pack-requires
 pack-requires c κs =
     let at-edit = c .before .before in
-    let at-shared-slice-known = at-edit .before .before .before in
-    let start = at-shared-slice-known .before in
-    let bytes : All (λ b. b < 256) (start .args .sheet .now) = all-at 0 (start .args .sheet .now) (λ i h. omega (arith, at-shared-slice-known .shared-slice-known .given i)) in
-    packable (at-edit .edit .result) (at-edit .edit .last .1 .1 .0) (at-edit .edit .ensures) (omega (arith, edited-size (editOf (start .args .e)) (start .args .sheet .now) (start .args .out .now) bytes))
+    let start = at-edit .before .before .before .before in
+    packable (at-edit .edit .result) (at-edit .edit .last .1 .1 .0) (at-edit .edit .ensures) (omega (arith, edited-size (editOf (start .args .e)) (start .args .sheet .now) (start .args .out .now)))
 
 returns : tie.Need-returns
 returns c =

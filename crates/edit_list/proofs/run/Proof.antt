@@ -5,7 +5,6 @@ use borrow.Author.Needs.{needs}
 use borrow.Author.Tests.{not-true, not-false}
 use native.Mathlib.Omega.{arith}
 use lib.ListN.{length}
-use Rattle.lists.proofs.Places.{all-at}
 use Rattle.edit_list.specs.Script.{Kinds, faultOf}
 use Rattle.edit_list.specs.Result.{unchanged, resultOf}
 use Rattle.edit_list.proofs.Tests.{fault-kind, fault-length, fault-none, fault-room, fault-short}
@@ -43,14 +42,13 @@ returns-5 : tie.Need-returns-5
 returns-5 c =
     let at-run-all = c .before .before .before .before .before .before in
     let at-if4 = at-run-all .before .before .before .before in
-    let at-shared-slice-known = at-if4 .before .before .before .before .before .before .before .before .before .before in
     let at-if2 = at-if4 .before .before .before in
-    let a = at-shared-slice-known .before .args in
+    let a = at-if4 .before .before .before .before .before .before .before .before .before .before .before .args in
     let r = at-run-all .run-all in
     let fits = at-if4 .before .rooms-fit .ensures .0 (not-false _ (at-if4 .if4 .left)) in
     let none = fault-none (a .list .now) (length (a .front .now)) (length (a .back .now)) (length (a .numbers .now)) (omega (arith, at-if2 .before .before .if1 .left)) (known at-if2) (omega (arith, at-if4 .before .before .if3 .left)) fits in
     let q = result-done (a .first .now) (a .list .now) (a .front .now) (a .back .now) (a .numbers .now) (r .result .place) (r .result .size) (r .last .1 .1 .0) (r .last .1 .1 .1 .0) (r .last .1 .1 .1 .1 .0) none (r .ensures .0) (r .ensures .1) in
-    (q, ran-model (a .first .now) (a .list .now) (a .front .now) (a .back .now) (a .numbers .now) _ q (all-at 0 (a .first .now) (λ i h. omega (arith, at-shared-slice-known .shared-slice-known .given i))))
+    (q, ran-model (a .first .now) (a .list .now) (a .front .now) (a .back .now) (a .numbers .now) _ q)
 
 pub run-spec : {M : Type 1} → statement M
 run-spec = tie.close

@@ -3,7 +3,7 @@ use borrow.Author.Needs.{needs}
 use borrow.Author.Tests.{not-true, not-false}
 use native.Mathlib.Omega.{arith}
 use Rattle.sheet.proofs.Asks.{refused-1a, refused-1b, refused-1c, refused-2a, refused-3a, refused-3b}
-use Rattle.sheet.proofs.Frame.{disagrees, inexact, numbered, unnumbered}
+use Rattle.sheet.proofs.Frame.{disagrees, inexact, framed}
 use Rattle.sheet.proofs.reader.read_head.Statement.{statement}
 use Rattle.sheet.proofs.reader.read_head.Tie as tie
 
@@ -38,24 +38,14 @@ returns-8 c =
 
 returns-9 : tie.Need-returns-9
 returns-9 c =
-    let at-behind = c .before .before .before in
+    let at-behind = c .before in
     let at-if7 = at-behind .before in
     let at-get16 = at-if7 .before .before .before .before in
     let start = at-get16 .before .before .before .before .before .before .before in
-    numbered (start .args .sheet .now) (at-get16 .get16 .result) (omega arith) (omega arith) (omega arith) (omega arith) (at-get16 .get16 .ensures .0) (omega arith) (omega arith) (at-if7 .before .agrees .ensures .0 (not-false _ (at-if7 .if7 .left))) (at-behind .behind .result)
-    (at-behind .behind .ensures .0) (c .before .before .if8 .left) (c .before .if9 .taken) _ (c .get32 .ensures .0) (c .get32 .ensures .1)
-
-returns-10 : tie.Need-returns-10
-returns-10 c =
-    let at-behind = c .before .before in
-    let at-if7 = at-behind .before in
-    let at-get16 = at-if7 .before .before .before .before in
-    let start = at-get16 .before .before .before .before .before .before .before in
-    unnumbered (start .args .sheet .now) (at-get16 .get16 .result) (omega arith) (omega arith) (omega arith) (omega arith) (at-get16 .get16 .ensures .0) (omega arith) (omega arith) (at-if7 .before .agrees .ensures .0 (not-false _ (at-if7 .if7 .left))) (at-behind .behind .result)
-    (at-behind .behind .ensures .0) (c .before .if8 .left) (c .if9 .left) (at-behind .behind .ensures .1)
+    framed (start .args .sheet .now) (at-get16 .get16 .result) (omega arith) (omega arith) (omega arith) (omega arith) (at-get16 .get16 .ensures .0) (omega arith) (omega arith) (at-if7 .before .agrees .ensures .0 (not-false _ (at-if7 .if7 .left))) (at-behind .behind .result)
+    (at-behind .behind .ensures .0) (c .if8 .left)
 
 pub read-head-spec : {M : Type 1} → statement M
 read-head-spec = tie.close
     (tie.spec returns (λ c. search needs) returns-2 returns-3 returns-4 (λ c κs. search needs) returns-5 returns-6 (λ c κs. search needs) returns-7
-    (λ c κs. search needs) (λ c. search needs) (λ c. search needs) (λ c. search needs) (λ c. search needs) returns-8 (λ c κs. search needs) returns-9
-    returns-10)
+    (λ c κs. search needs) (λ c. search needs) (λ c. search needs) (λ c. search needs) (λ c. search needs) returns-8 returns-9)

@@ -1,0 +1,61 @@
+-- Request (xii), "Part numbers go", sentence by sentence. `skipped s` is the sheet s without bit 2 and its four bytes; `OnlyThere s t` says that s and t differ only there (crate sheet,
+-- specs/Skipped.antt). "the plain part keeps none": a `Polygon` is n and the diagonals, and nothing else.
+use mathlib.Core.Path.{_≡_}
+use mathlib.Core.Bool.{true, false}
+use mathlib.Core.List.{List, [], _∷_, map}
+use Prim.Native.Nat.{ℕ}
+use lib.ListN.{take, getD}
+use Rattle.polygon.specs.Polygon.{Polygon}
+use Rattle.codec.specs.Answer.{Outcome, refuse, write}
+use Rattle.sheet.specs.Sheet.{bit2, held, readSheet, ordered}
+use Rattle.sheet.specs.Skipped.{skipped, OnlyThere}
+use Rattle.edit.specs.Rules.{Edit}
+use Rattle.edit.specs.Model.{taken}
+use Rattle.edit.specs.Calls.{edited, Call, lent, answers, sheetLeft}
+use Rattle.plan.specs.Answer.{planned}
+use Rattle.chart.specs.Chart.{Bar}
+use Rattle.log_line.specs.declared.Facts.{Facts}
+use Rattle.log_line.specs.Line.{line}
+use Rattle.draw.specs.Answer.{drawn, drawnWithBars}
+use Rattle.draw.specs.Printed.{printed}
+use Rattle.draw.specs.Program.{output}
+use Rattle.chart_reader.specs.Reader.{chartRead}
+
+-- bit 2 of the map byte does not stand in the sheet; in what an operation writes, if it is not refused
+abbrev pub NoBit2 : List ℕ → Type 0
+NoBit2 s = bit2 (getD s 0 0) ≡ 0
+
+abbrev pub WritesNone : Outcome → Type 0
+WritesNone (refuse k) = Unit {0}
+WritesNone (write bs) = NoBit2 bs
+
+-- the answers of every operation that reads a sheet, and of a list of edits, are the same for both sheets, whatever is lent
+pub record SameAnswers (s t : List ℕ) : Type 0 where
+  pub order : ordered s ≡ ordered t
+  pub edit : (e : Edit) → edited e s ≡ edited e t
+  pub plan : planned s ≡ planned t
+  pub draw : drawn s ≡ drawn t
+  pub draw-bars : (out : List ℕ) (bars : List Bar) → drawnWithBars s out bars ≡ drawnWithBars t out bars
+  pub log : printed s ≡ printed t
+  pub program : (chart text : List ℕ) → output s chart text ≡ output t chart text
+  pub numbers : (cs : List Call) → answers s cs ≡ answers t cs
+  pub left : (cs : List Call) → readSheet (sheetLeft s cs) ≡ readSheet (sheetLeft t cs)
+
+-- the sheet left after a list of edits, from a sheet s that holds the part p
+pub record LeftBy (s : List ℕ) (p : Polygon) (cs : List Call) : Type 0 where
+  pub none-taken : taken p (map lent cs) ≡ false → sheetLeft s cs ≡ s
+  pub some-taken : taken p (map lent cs) ≡ true → NoBit2 (sheetLeft s cs)
+
+pub record PartNumbersGo : Type 0 where
+  -- "New sheets are written without bit 2.": by Set in order, the edits and Read a chart
+  pub order : (s : List ℕ) → WritesNone (ordered s)
+  pub edit : (e : Edit) (s : List ℕ) → WritesNone (edited e s)
+  pub read-chart : (c : List ℕ) → WritesNone (chartRead c)
+  -- "A sheet that still has it is read and its four bytes are skipped, the result has none,"
+  pub skips : (s : List ℕ) → readSheet s ≡ readSheet (skipped s)
+  -- "and the log prints `-` always.": it begins `part - `
+  pub log : (f : Facts) → take 7 (line f) ≡ 112 ∷ 97 ∷ 114 ∷ 116 ∷ 32 ∷ 45 ∷ 32 ∷ []
+  -- "Two sheets that differ only there now give the same normal sheet.": and the same plan, chart and line
+  pub same : (s t : List ℕ) → OnlyThere s t → SameAnswers s t
+  -- "The rule .. that a number is kept lapses": after a list of edits the sheet left has no bit 2, or is the first one, bit 2 and all, if no edit was taken
+  pub list : (s : List ℕ) (p : Polygon) → readSheet s ≡ held p → (cs : List Call) → LeftBy s p cs

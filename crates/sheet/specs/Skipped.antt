@@ -1,0 +1,31 @@
+-- Request (xii), "Part numbers go": "A sheet that still has it is read and its four bytes are skipped", and two sheets "that differ only there".
+use mathlib.Core.Path.{_≡_}
+use mathlib.Core.Logic.{Dec·and}
+use mathlib.Core.List.{List, _++_}
+use Prim.Native.Nat.{ℕ, _+_, _*_, _-_, _≤_}
+use native.Mathlib.Decide.{decLe, ℕ-discrete}
+use lib.ListN.{length, take, drop, set, getD}
+use Rattle.lists.specs.Lists.{choose}
+use Rattle.codec.specs.Numbers.{get16}
+use Rattle.sheet.specs.Sheet.{bit2}
+
+-- bit 2 stands, and behind the pairs there are its four bytes
+abbrev pub pairsEnd : List ℕ → ℕ
+pairsEnd s = 3 + 4 * (get16 s 1 - 3)
+
+abbrev pub HasNumber : List ℕ → Type 0
+HasNumber s = (bit2 (getD s 0 0) ≡ 1) × (pairsEnd s + 4 ≤ length s)
+
+unfoldable pub has-number? : (s : List ℕ) → Dec (HasNumber s)
+has-number? s = Dec·and (ℕ-discrete (bit2 (getD s 0 0)) 1) (decLe (pairsEnd s + 4) (length s))
+
+-- the sheet with bit 2 clear and the four bytes taken out; a sheet that lacks the bit or the bytes stays
+unfoldable pub stripped : List ℕ → List ℕ
+stripped s = set (take (pairsEnd s) s ++ drop (pairsEnd s + 4) s) 0 (getD s 0 0 - 4)
+
+unfoldable pub skipped : List ℕ → List ℕ
+skipped s = choose (has-number? s) (stripped s) s
+
+-- two sheets "that differ only there": they are the same but for bit 2 and its four bytes
+abbrev pub OnlyThere : List ℕ → List ℕ → Type 0
+OnlyThere s t = skipped s ≡ skipped t

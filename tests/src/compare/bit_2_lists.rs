@@ -1,0 +1,193 @@
+//! Request (xii) in lists of edits from a first sheet with bit 2: what an edit
+//! taken writes has none; if none is taken, the sheet left is still the first one,
+//! bit 2 and all. `operation` begins the tests' names.
+
+use super::any_edits::{any_edit, any_list, one_of_each_kind, taken_edits};
+use super::checks::{same_bytes, Failure, Outcome};
+use super::sheets::{any_four, any_order, any_part, pairs_end};
+use super::Tests;
+use bend_tests::edit::{Edit, PlainPart};
+use bend_tests::edit_list::{edits, encoded, Lending};
+use bend_tests::part::{Corner, Part};
+use bend_tests::random::Random;
+use bend_tests::shapes::all_parts;
+use bend_tests::sheet;
+
+/// What a list gives: the number of each edit, and the sheet left.
+pub type Left = (Vec<u16>, Vec<u8>);
+
+/// Runs a list from a first sheet by the library, beside the model.
+pub type Run = fn(&[u8], &[Lending]) -> Result<Left, Failure>;
+
+/// All tests of one way to run a list.
+pub fn run(tests: &mut Tests, operation: &str, run: Run) {
+    none_taken(tests, operation, run);
+    some_taken(tests, operation, run);
+    exact_rooms(tests, operation, run);
+    lists_alike(tests, operation, run);
+}
+
+/// A failure unless the list gives these numbers and leaves this sheet.
+fn leaves(run: Run, first: &[u8], list: &[Lending], numbers: &[u16], sheet: &[u8]) -> Outcome {
+    let (found, left) = run(first, list)?;
+    let bytes = |numbers: &[u16]| -> Vec<u8> {
+        let each = numbers.iter().flat_map(|number| number.to_be_bytes());
+        each.collect()
+    };
+    same_bytes(first, &bytes(&found), &bytes(numbers))?;
+    same_bytes(first, &left, sheet)
+}
+
+/// The part's sheet in a random order, with bit 2.
+fn with_bit_2(part: &Part, random: &mut Random) -> Vec<u8> {
+    let skipped = Some(any_four(random));
+    any_order(part, skipped, random)
+}
+
+/// An edit that is refused: the part cannot take it, or its output is too short.
+fn any_refused(part: &Part, random: &mut Random) -> Lending {
+    let encoded = encoded(&[(any_edit(part, random), 0)], 0);
+    let (edit, _) = edits(&encoded).expect("an encoded edit")[0];
+    let mut edited = part.clone();
+    let room = match edit.apply(&mut edited) {
+        Err(_) => random.below(pairs_end(part.n) + 9),
+        Ok(()) if random.coin() => pairs_end(edited.n) - 1,
+        Ok(()) => random.below(pairs_end(edited.n)),
+    };
+    (edit, room as u32)
+}
+
+/// A few refused edits, put at the end of the list with their numbers.
+fn refuse(plain: &mut PlainPart, list: &mut Vec<(Lending, u16)>, random: &mut Random) {
+    for _ in 0..random.below(5) {
+        let (edit, room) = any_refused(&plain.part, random);
+        let number = plain.edit(edit, room as usize);
+        assert_ne!(number, 0, "{edit:?} is refused");
+        list.push(((edit, room), number));
+    }
+}
+
+/// The size of the part in a round: mostly small, the largest at times.
+fn size(round: usize, random: &mut Random) -> Corner {
+    let n = match round % 50 {
+        0 => random.between(1022, 1024),
+        1 => random.between(31, 1021),
+        _ => random.between(3, 30),
+    };
+    n as Corner
+}
+
+fn none_taken(tests: &mut Tests, operation: &str, run: Run) {
+    let name = format!("{operation}: request (xii), if no edit is taken the first sheet is left");
+    tests.test(&format!("{name}, 05 00 03 00 00 00 09"), || {
+        let first = [5, 0, 3, 0, 0, 0, 9];
+        let list = [
+            (Edit::Add { side: 0 }, 6),
+            (Edit::Add { side: 3 }, 9),
+            (Edit::TakeOff { corner: 0 }, 9),
+            (Edit::Turn { a: 0, b: 2 }, 9),
+            (Edit::Add { side: 2 }, 0),
+        ];
+        let numbers = [8, 9, 11, 13, 8];
+        (0..=list.len())
+            .try_for_each(|count| leaves(run, &first, &list[..count], &numbers[..count], &first))
+    });
+    tests.test(&name, || {
+        let mut random = Random::new(451);
+        for round in 0..1000 {
+            let part = any_part(size(round, &mut random), &mut random);
+            let first = with_bit_2(&part, &mut random);
+            let mut plain = PlainPart::new(&first).expect("a valid sheet");
+            let mut list = Vec::new();
+            refuse(&mut plain, &mut list, &mut random);
+            let (list, numbers): (Vec<Lending>, Vec<u16>) = list.into_iter().unzip();
+            leaves(run, &first, &list, &numbers, &first)?;
+        }
+        Ok(())
+    });
+}
+
+/// Edits taken among refused ones, with outputs as long as the result or longer.
+fn some_taken(tests: &mut Tests, operation: &str, run: Run) {
+    let name = format!("{operation}: request (xii), an edit taken leaves a sheet without bit 2");
+    tests.test(&name, || {
+        let mut random = Random::new(452);
+        for round in 0..1000 {
+            let part = any_part(size(round, &mut random), &mut random);
+            let first = with_bit_2(&part, &mut random);
+            let mut plain = PlainPart::new(&first).expect("a valid sheet");
+            let mut list = Vec::new();
+            refuse(&mut plain, &mut list, &mut random);
+            for _ in 0..random.between(1, 3) {
+                let edits = one_of_each_kind(&plain.part, &mut random);
+                let &(edit, least) = random.pick(&edits);
+                let room = least + random.pick(&[0, 0, 4, 20]);
+                assert_eq!(plain.edit(edit, room as usize), 0, "{edit:?} is taken");
+                list.push(((edit, room), 0));
+                refuse(&mut plain, &mut list, &mut random);
+            }
+            let part = &plain.part;
+            let expected = sheet::with_pairs(part.n, &part.diagonals, None);
+            let (list, numbers): (Vec<Lending>, Vec<u16>) = list.into_iter().unzip();
+            leaves(run, &first, &list, &numbers, &expected)?;
+        }
+        Ok(())
+    });
+}
+
+/// One byte less than the result is 8; the result's own length is enough, and
+/// more changes nothing, be it less than four bytes or not.
+fn exact_rooms(tests: &mut Tests, operation: &str, run: Run) {
+    let name = format!("{operation}: request (xii), room for the result and one byte less");
+    let check = |part: &Part, (edit, room): Lending, random: &mut Random| {
+        let first = with_bit_2(part, random);
+        let mut edited = part.clone();
+        edit.apply(&mut edited).expect("the part takes the edit");
+        let expected = sheet::with_pairs(edited.n, &edited.diagonals, None);
+        let (short, enough) = ((edit, room - 1), (edit, room));
+        leaves(run, &first, &[short], &[8], &first)?;
+        leaves(run, &first, &[enough], &[0], &expected)?;
+        leaves(run, &first, &[short, enough], &[8, 0], &expected)?;
+        leaves(run, &first, &[(edit, room + 3)], &[0], &expected)?;
+        leaves(run, &first, &[(edit, room + 4)], &[0], &expected)
+    };
+    tests.test(&format!("{name}, all parts of up to 6 corners"), || {
+        let mut random = Random::new(453);
+        for part in (3..=6).flat_map(all_parts) {
+            for edit in taken_edits(&part) {
+                check(&part, edit, &mut random)?;
+            }
+        }
+        Ok(())
+    });
+    tests.test(&format!("{name}, large parts"), || {
+        let mut random = Random::new(454);
+        for n in (7..=1021).step_by(78).chain([1022, 1023, 1024]) {
+            let part = any_part(n, &mut random);
+            for edit in one_of_each_kind(&part, &mut random) {
+                check(&part, edit, &mut random)?;
+            }
+        }
+        Ok(())
+    });
+}
+
+/// One list from two sheets that differ only in bit 2 and its bytes.
+fn lists_alike(tests: &mut Tests, operation: &str, run: Run) {
+    let name = format!("{operation}: request (xii), lists from sheets that differ only there");
+    tests.test(&name, || {
+        let mut random = Random::new(455);
+        for round in 0..400 {
+            let part = any_part(size(round, &mut random), &mut random);
+            let list = any_list(&part, 1 + round % 12, &mut random);
+            let list = edits(&encoded(&list, 0)).expect("an encoded list");
+            let without = any_order(&part, None, &mut random);
+            let (numbers, left) = run(&without, &list)?;
+            let with = with_bit_2(&part, &mut random);
+            let taken = numbers.contains(&0);
+            let expected = if taken { &left } else { &with };
+            leaves(run, &with, &list, &numbers, expected)?;
+        }
+        Ok(())
+    });
+}
