@@ -5,9 +5,9 @@
  * cut into triangles by n - 3 diagonals. A sheet is a part in bytes; a chart is
  * its drawing in bytes.
  *
- * A sheet that has bit 2 in its map byte, once the part number's, is read: its
- * last four bytes count for its length, and are skipped. No sheet that is written
- * has bit 2, and no answer depends on it or on the four bytes.
+ * A sheet may still have bit 2 in its map byte, once the part number's, and four
+ * bytes at its end for it: they count for its length and are skipped. It has the
+ * answers of the same sheet without both. No sheet that is written has bit 2.
  *
  * Every function returns one number of 64 bits. Its low 16 bits are 0 if the
  * operation was done, or the number of the refusal:

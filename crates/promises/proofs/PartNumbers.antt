@@ -11,7 +11,7 @@ use Rattle.codec.specs.TwoOutputs.{writtenBoth}
 use Rattle.sheet.specs.Sheet.{Reading, refused, held, readSheet, normalSheet, outcome, ordered}
 use Rattle.sheet.proofs.Normal.{map-byte}
 use Rattle.sheet.proofs.Back.{normal-map}
-use Rattle.sheet.proofs.Skipped.{skips, same-reading}
+use Rattle.sheet.proofs.Skipped.{skips, same-reading, only-there}
 use Rattle.edit.specs.Rules.{rule}
 use Rattle.edit.specs.Model.{left, chosen, modelSheet}
 use Rattle.edit.specs.Calls.{onHeld, edited, Call, called, lent, sheetAfter, answers, sheetLeft}
@@ -85,6 +85,7 @@ part-numbers-go = record {
   read-chart = λ c. outcome-bare (readChart c);
   skips = λ s. sym (skips s);
   log = λ f. refl;
+  there = only-there;
   same = λ s t e. alike-answers s t (same-reading s t e);
   list = left-by;
 }

@@ -2,13 +2,13 @@
 -- specs/Skipped.antt). "the plain part keeps none": a `Polygon` is n and the diagonals, and nothing else.
 use mathlib.Core.Path.{_≡_}
 use mathlib.Core.Bool.{true, false}
-use mathlib.Core.List.{List, [], _∷_, map}
-use Prim.Native.Nat.{ℕ}
-use lib.ListN.{take, getD}
+use mathlib.Core.List.{List, [], _∷_, _++_, map}
+use Prim.Native.Nat.{ℕ, _+_}
+use lib.ListN.{length, take, getD}
 use Rattle.polygon.specs.Polygon.{Polygon}
 use Rattle.codec.specs.Answer.{Outcome, refuse, write}
 use Rattle.sheet.specs.Sheet.{bit2, held, readSheet, ordered}
-use Rattle.sheet.specs.Skipped.{skipped, OnlyThere}
+use Rattle.sheet.specs.Skipped.{pairsEnd, skipped, OnlyThere}
 use Rattle.edit.specs.Rules.{Edit}
 use Rattle.edit.specs.Model.{taken}
 use Rattle.edit.specs.Calls.{edited, Call, lent, answers, sheetLeft}
@@ -55,7 +55,9 @@ pub record PartNumbersGo : Type 0 where
   pub skips : (s : List ℕ) → readSheet s ≡ readSheet (skipped s)
   -- "and the log prints `-` always.": it begins `part - `
   pub log : (f : Facts) → take 7 (line f) ≡ 112 ∷ 97 ∷ 114 ∷ 116 ∷ 32 ∷ 45 ∷ 32 ∷ []
-  -- "Two sheets that differ only there now give the same normal sheet.": and the same plan, chart and line
+  -- "Two sheets that differ only there", as a sheet that ends with its pairs, without bit 2, and the same sheet with bit 2 and any four bytes behind it,
+  pub there : (m : ℕ) (bs four : List ℕ) → bit2 m ≡ 0 → length (m ∷ bs) ≡ pairsEnd (m ∷ bs) → length four ≡ 4 → OnlyThere (m ∷ bs) ((m + 4) ∷ (bs ++ four))
+  -- "now give the same normal sheet.": and the same plan, chart and line
   pub same : (s t : List ℕ) → OnlyThere s t → SameAnswers s t
   -- "The rule .. that a number is kept lapses": after a list of edits the sheet left has no bit 2, or is the first one, bit 2 and all, if no edit was taken
   pub list : (s : List ℕ) (p : Polygon) → readSheet s ≡ held p → (cs : List Call) → LeftBy s p cs

@@ -1,11 +1,12 @@
 -- No sheet is longer than 4,091 bytes, so an input that is longer is refused as its first 4,092 bytes are.
-use mathlib.Core.Path.{_≡_, ap, ap₂}
+use mathlib.Core.Path.{_≡_, ap}
 use mathlib.Core.List.{List}
-use Prim.Native.Nat.{ℕ, _+_, _*_, _≤_, _<_}
+use Prim.Native.Nat.{ℕ, _≤_, _<_}
 use native.Mathlib.Omega.{arith}
 use lib.ListN.{length, take, getD}
 use lib.Seq.{getD-take, length-take-le}
 use Rattle.codec.specs.Numbers.{get16}
+use Rattle.codec.proofs.Numbers.{get16-same}
 use Rattle.sheet.specs.Sheet.{bit0, bit1, more, readSheet}
 use Rattle.sheet.proofs.Alike.{Exact, read-alike}
 use Rattle.sheet.proofs.Fields.{length-is}
@@ -20,7 +21,7 @@ long-input s h =
     let long : 4092 ≤ length t = omega (arith, length-take-le 4092 s h) in
     let at : (i : ℕ) → i < 4092 → getD t i 0 ≡ getD s i 0 = λ i l. getD-take 4092 s i 0 l in
     let map : getD t 0 0 ≡ getD s 0 0 = at 0 (omega arith) in
-    let count : get16 t 1 ≡ get16 s 1 = ap₂ (λ (x y : ℕ). x * 256 + y) (at 1 (omega arith)) (at 2 (omega arith)) in
+    let count : get16 t 1 ≡ get16 s 1 = get16-same t s 1 (at 1 (omega arith)) (at 2 (omega arith)) in
     read-alike (record {
       long = omega arith;
       long-too = omega arith;
