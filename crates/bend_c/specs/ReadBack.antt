@@ -1,4 +1,4 @@
--- What a C caller reads from the number that an operation returns is the answer: for every sheet, list or chart, every number handed in and every lent output. The contracts of src/lib.rt say that
+-- What a C caller reads from the number that an operation returns is the answer: for every sheet, every list of bytes, every chart, every number handed in and every lent output. The contracts of src/lib.rt say that
 -- the number returned is `packed`, `packedPlan` or `packedRun` of these answers; include/bend.h takes it apart as specs/Unpacked.antt of the crate codec says.
 use mathlib.Core.List.{List}
 use Prim.Native.Nat.{ℕ, _<_}

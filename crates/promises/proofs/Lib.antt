@@ -2,4 +2,5 @@ pub mod DemandThree
 pub mod Known
 pub mod DemandTwo
 pub mod DemandOne
+pub mod Runs
 pub mod PartNumbers

@@ -6,7 +6,7 @@ use lib.ListN.{take}
 use native.Mathlib.Decide.{ℕ-discrete}
 use Rattle.lists.specs.Lists.{choose}
 use Rattle.polygon.specs.Polygon.{Polygon}
-use Rattle.codec.specs.Answer.{Answer, written}
+use Rattle.codec.specs.Answer.{Answer}
 use Rattle.codec.specs.TwoOutputs.{writtenBoth}
 use Rattle.sheet.specs.Sheet.{Reading, refused, held, readSheet, normalSheet, outcome, ordered}
 use Rattle.sheet.proofs.Normal.{map-byte}
@@ -22,6 +22,7 @@ use Rattle.draw.specs.Answer.{charted, drawn, chartedBoth, drawnWithBars}
 use Rattle.draw.specs.Printed.{printedOf, printed}
 use Rattle.draw.specs.Program.{output, outputOf}
 use Rattle.chart_reader.specs.Reader.{readChart, chartRead}
+use Rattle.promises.proofs.Runs.{alike-called, run-alike}
 use Rattle.promises.specs.PartNumbers.{NoBit2, WritesNone, SameAnswers, LeftBy, PartNumbersGo}
 
 normal-bare : (p : Polygon) → NoBit2 (normalSheet p)
@@ -40,10 +41,6 @@ alike-after s t a e = go (ℕ-discrete (a .number) 0)
     go : (d : Dec (a .number ≡ 0)) → readSheet (choose d (take (a .size) (a .bytes)) s) ≡ readSheet (choose d (take (a .size) (a .bytes)) t)
     go (yes h) = refl
     go (no h) = e
-
-alike-called : (s t : List ℕ) (c : Call) → readSheet s ≡ readSheet t → called s c ≡ called t c
-unfolding called edited
-alike-called s t c e = ap (λ (r : Reading). written (outcome (onHeld r (rule (c .edit)))) (c .out)) e
 
 alike-list : (cs : List Call) (s t : List ℕ) → readSheet s ≡ readSheet t → (answers s cs ≡ answers t cs) × (readSheet (sheetLeft s cs) ≡ readSheet (sheetLeft t cs))
 unfolding answers sheetLeft
@@ -64,6 +61,7 @@ alike-answers s t e = record {
   draw-bars = λ out bars. ap (λ (r : Reading). writtenBoth (chartedBoth r) out bars) e;
   log = ap printedOf e;
   program = λ chart text. ap (λ (r : Reading). outputOf r chart text) e;
+  run = run-alike s t e;
   numbers = λ cs. alike-list cs s t e .0;
   left = λ cs. alike-list cs s t e .1;
 }

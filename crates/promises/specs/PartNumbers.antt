@@ -12,6 +12,7 @@ use Rattle.sheet.specs.Skipped.{pairsEnd, skipped, OnlyThere}
 use Rattle.edit.specs.Rules.{Edit}
 use Rattle.edit.specs.Model.{taken}
 use Rattle.edit.specs.Calls.{edited, Call, lent, answers, sheetLeft}
+use Rattle.edit_list.specs.Result.{Result, resultOf, packedRun}
 use Rattle.plan.specs.Answer.{planned}
 use Rattle.chart.specs.Chart.{Bar}
 use Rattle.log_line.specs.declared.Facts.{Facts}
@@ -29,7 +30,16 @@ abbrev pub WritesNone : Outcome → Type 0
 WritesNone (refuse k) = Unit {0}
 WritesNone (write bs) = NoBit2 bs
 
--- the answers of every operation that reads a sheet, and of a list of edits, are the same for both sheets, whatever is lent
+-- what two runs of an encoded list of edits give: all the same, but for the length of the first sheet where that is the one left, which is not told
+pub record SameRun (r q : Result) : Type 0 where
+  pub number : r .number ≡ q .number
+  pub place : r .place ≡ q .place
+  pub front : r .front ≡ q .front
+  pub back : r .back ≡ q .back
+  pub outs : r .outs ≡ q .outs
+  pub told : packedRun r ≡ packedRun q
+
+-- every operation that reads a sheet answers both sheets alike, whatever is lent, and so does a list of calls of the edits
 pub record SameAnswers (s t : List ℕ) : Type 0 where
   pub order : ordered s ≡ ordered t
   pub edit : (e : Edit) → edited e s ≡ edited e t
@@ -38,6 +48,7 @@ pub record SameAnswers (s t : List ℕ) : Type 0 where
   pub draw-bars : (out : List ℕ) (bars : List Bar) → drawnWithBars s out bars ≡ drawnWithBars t out bars
   pub log : printed s ≡ printed t
   pub program : (chart text : List ℕ) → output s chart text ≡ output t chart text
+  pub run : (list front back outs : List ℕ) → SameRun (resultOf s list front back outs) (resultOf t list front back outs)
   pub numbers : (cs : List Call) → answers s cs ≡ answers t cs
   pub left : (cs : List Call) → readSheet (sheetLeft s cs) ≡ readSheet (sheetLeft t cs)
 

@@ -5,12 +5,9 @@ use mathlib.Core.List.{List}
 use Prim.Native.Nat.{ℕ, _≤_, _<_}
 use native.Mathlib.Omega.{arith}
 use lib.ListN.{length, getD}
-use Rattle.lists.specs.Lists.{all?}
-use Rattle.polygon.specs.Polygon.{Edge}
-use Rattle.polygon.specs.Order.{diagonal?, distinct?, none-cross?, sort}
 use Rattle.codec.specs.Numbers.{get16}
-use Rattle.sheet.specs.Sheet.{Reading, held, ask, bit0, bit1, sheetLength, more, readSheet}
-use Rattle.sheet.proofs.Asks.{edgesIn}
+use Rattle.sheet.specs.Sheet.{Reading, ask, bit0, bit1, sheetLength, more, readSheet}
+use Rattle.sheet.proofs.Asks.{edgesIn, pairTests}
 
 -- a test passed by both or by neither, and what comes after it
 ask-alike : {P Q : Type 0} (k : ℕ) (d : Dec P) (e : Dec Q) {r q : Reading} → P ↔ Q → (P → r ≡ q) → ask k d r ≡ ask k e q
@@ -33,10 +30,6 @@ pub record Alike (s t : List ℕ) : Type 0 where
   pub pairs-bit : bit1 (getD s 0 0) ≡ bit1 (getD t 0 0)
   pub count : get16 s 1 ≡ get16 t 1
   pub rest : bit0 (getD s 0 0) ≡ 1 → 3 ≤ get16 s 1 → get16 s 1 ≤ 1024 → bit1 (getD s 0 0) ≡ more (get16 s 1) → (Exact s ↔ Exact t) × (Exact s → edgesIn s ≡ edgesIn t)
-
--- the tests of the pairs
-abbrev pairTests : ℕ → List Edge → Reading
-pairTests n es = ask 5 (all? (diagonal? n) es) (ask 6 (distinct? es) (ask 7 (none-cross? es) (held (record { n = n; ds = sort es }))))
 
 pub read-alike : {s t : List ℕ} → Alike s t → readSheet s ≡ readSheet t
 unfolding readSheet

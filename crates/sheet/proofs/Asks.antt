@@ -87,9 +87,11 @@ module _ (s : List ℕ) where
         unfolding readSheet
         refused-2b agrees h = past 1 _ _ (some, (low, small)) (past 2 _ _ three (past 3 _ _ (least, most) (past 4 _ _ agrees (ask-no 2 _ _ h))))
 
--- the tests of the pairs come after all others
-pub framed : {s : List ℕ} → Framed s
-    → readSheet s ≡ ask 5 (all? (diagonal? (get16 s 1)) (edgesIn s)) (ask 6 (distinct? (edgesIn s)) (ask 7 (none-cross? (edgesIn s)) (held (partIn s))))
+-- the tests of the pairs, which come after all others
+abbrev pub pairTests : ℕ → List Edge → Reading
+pairTests n es = ask 5 (all? (diagonal? n) es) (ask 6 (distinct? es) (ask 7 (none-cross? es) (held (record { n = n; ds = sort es }))))
+
+pub framed : {s : List ℕ} → Framed s → readSheet s ≡ pairTests (get16 s 1) (edgesIn s)
 unfolding readSheet
 framed F = past 1 _ _ (F .some, (F .low, F .small)) (past 2 _ _ (F .three) (past 3 _ _ (F .least, F .most) (past 4 _ _ (F .agrees) (ask-yes 2 _ _ (F .exact)))))
 
