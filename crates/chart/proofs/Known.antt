@@ -4,6 +4,7 @@ use mathlib.Core.Logic.{Dec·and}
 use mathlib.Core.List.{[], _∷_, flatMap}
 use native.Mathlib.Decide.{decLe, decLt, ℕ-discrete}
 use Rattle.lists.specs.Lists.{below, choose, either?, numbers}
+use Rattle.polygon.specs.Angles.{none}
 use Rattle.polygon.specs.Polygon.{_—_, Polygon}
 use Rattle.polygon.specs.Order.{same?}
 use Rattle.polygon.specs.Tree.{span, chordsAt, treeOf, grow, far, farther, near?}
@@ -18,13 +19,13 @@ use Rattle.chart.specs.Bytes.{barBytes, strokeBytes, bytesOf}
 use Rattle.chart.specs.Decode.{barOn}
 
 abbrev pub four : Polygon
-four = record { n = 4; ds = (0 — 2) ∷ [] }
+four = record { n = 4; ds = (0 — 2) ∷ []; angles = none }
 
 abbrev pub fiveLeft : Polygon
-fiveLeft = record { n = 5; ds = (0 — 3) ∷ (1 — 3) ∷ [] }
+fiveLeft = record { n = 5; ds = (0 — 3) ∷ (1 — 3) ∷ []; angles = none }
 
 abbrev pub fiveRight : Polygon
-fiveRight = record { n = 5; ds = (1 — 3) ∷ (1 — 4) ∷ [] }
+fiveRight = record { n = 5; ds = (1 — 3) ∷ (1 — 4) ∷ []; angles = none }
 
 pub record Known : Type 0 where
   -- "n = 3: 1 level. Chart in hexadecimal: 0003 0002 0003; 0000 0000 0000, 0002 0000 0001, 0000 0001 0001; 01 0000 0001 0000, 00 0000 0002, 01 0001 0002 0001."

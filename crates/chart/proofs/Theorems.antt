@@ -1,13 +1,13 @@
 -- What this crate proves of charts, each theorem with its statement in plain words. The proofs are in the files beside this one.
 -- To be read with specs/Places.antt and specs/Chart.antt.
-use mathlib.Core.Path.{_≡_, sym, _∙_, ap, subst}
+use mathlib.Core.Path.{_≡_, refl, sym, _∙_, ap, subst}
 use mathlib.Core.Logic.{_↔_}
 use mathlib.Core.List.{List}
 use Prim.Native.Nat.{ℕ, _+_, _*_, _≤_, _<_}
 use native.Mathlib.Omega.{arith}
 use lib.ListN.{length}
 use Rattle.lists.specs.Lists.{Mem}
-use Rattle.polygon.specs.Polygon.{Edge, Ascending, Linked, Polygon, Valid}
+use Rattle.polygon.specs.Polygon.{Edge, Ascending, Linked, Polygon, bare, Valid}
 use Rattle.polygon.specs.Tree.{Tree, span, treeOf}
 use Rattle.polygon.proofs.TreeTheorem.{TreeIs, tree-of}
 use Rattle.umbrella.specs.Plan.{Plan, levels, umbrellas, stems}
@@ -29,6 +29,11 @@ plan-chart-true p h = chart-true p h
 -- corner's its last; reversed, the other way round; and the two bars meet side by side.
 pub plan-piece-bars : {t : Tree} (p : Plan t) → 2 ≤ span t → EveryPiece (λ s q u v. RootBars (chart p) (cols q u v) u v) p 0 (span t)
 plan-piece-bars p h = piece-bars p h
+
+-- The chart of a part does not depend on its angles.
+pub chart-bare : (p : Polygon) → chartOf (bare p) ≡ chartOf p
+unfolding chartOf
+chart-bare p = refl
 
 -- The chart of a valid polygon is that of its plan drawn.
 module _ (p : Polygon) (v : Valid p) where

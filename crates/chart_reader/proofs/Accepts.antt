@@ -5,6 +5,7 @@ use Prim.Native.Nat.{ℕ, zero, suc, _+_, _*_, _-_, _≤_, _<_}
 use native.Mathlib.Omega.{arith}
 use lib.ListN.{length, length-map}
 use Rattle.lists.specs.Lists.{All}
+use Rattle.polygon.specs.Angles.{none}
 use Rattle.polygon.specs.Polygon.{Polygon, Valid}
 use Rattle.sheet.specs.Sheet.{Reading, refused, held}
 use Rattle.chart.specs.Chart.{Chart, True, Shows}
@@ -57,6 +58,7 @@ held-charts s p B H =
     let S = H .strokes in
     rw (← H .is) (record {
       valid = rule-valid c (F .least) (S .0) (S .1) (H .part) (F .most) (strokes-count s (F .least));
+      bare = refl;
       chart = c;
       bytes = encoded B F;
       is-true = rules-true c (H .bars) S (H .gaps);
@@ -64,15 +66,15 @@ held-charts s p B H =
     })
 
 -- what is shown is held
-bytes-held : (c : Chart) (p : Polygon) → Valid p → True c → Shows c p → readChart (bytesOf c) ≡ held p
-bytes-held c p v T H =
+bytes-held : (c : Chart) (p : Polygon) → Valid p → p .angles ≡ none → True c → Shows c p → readChart (bytesOf c) ≡ held p
+bytes-held c p v b T H =
     let s : List ℕ = bytesOf c in
     let n = H .corners in
     let count : length (c .strokes) + 3 ≡ 2 * c .n = rw n (shows-count c p v H) in
     let S : SameNumbers (chartIn s) c = decoded c count in
     let D : Shows (chartIn s) p = same-shows (chartIn s) c S p H in
     let R = true-rules (chartIn s) (same-true (chartIn s) c S T) (shows-named (chartIn s) p v D) (D .ascending) in
-    read-by s (taken (decoded-formed c (rw n (v .least)) (rw n (v .most)) count) (R .0) (R .1) (R .2) (shows-rule (chartIn s) p v D)) ∙ ap held (shows-part (chartIn s) p v D)
+    read-by s (taken (decoded-formed c (rw n (v .least)) (rw n (v .most)) count) (R .0) (R .1) (R .2) (shows-rule (chartIn s) p v D)) ∙ ap held (shows-part (chartIn s) p v D b)
 
 pub charts-held : {s : List ℕ} {p : Polygon} → Charts s p → readChart s ≡ held p
-charts-held {s} {p} C = rw (C .bytes) (bytes-held (C .chart) p (C .valid) (C .is-true) (C .shows))
+charts-held {s} {p} C = rw (C .bytes) (bytes-held (C .chart) p (C .valid) (C .bare) (C .is-true) (C .shows))

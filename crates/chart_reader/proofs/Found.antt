@@ -1,10 +1,12 @@
 -- What the reading of a chart has found out, put together.
 use mathlib.Core.Path.{_≡_, ap, ap₂, sym, _∙_}
+use mathlib.Core.Bool.{false}
 use mathlib.Core.List.{List}
 use Prim.Native.Nat.{ℕ, _+_, _*_, _-_, _≤_}
 use lib.ListN.{length, take, length-map}
 use Rattle.lists.specs.Lists.{keep}
 use Rattle.lists.proofs.Lists.{all-map}
+use Rattle.polygon.specs.Angles.{none}
 use Rattle.polygon.specs.Polygon.{Edge}
 use Rattle.polygon.specs.Order.{diagonal?}
 use Rattle.keys.specs.Keys.{edgesOf}
@@ -47,12 +49,12 @@ module _ {s : List ℕ} {n : ℕ} {at edges : List ℕ} (E : Edged s n at edges)
     no-part f = refuses (read-by s (by-18 (E .placed .formed) (E .bars) (E .strokes) G (λ R. f (rw (edges-are, E .placed .count) R))))
 
     pub part-read : (keys : List ℕ) → PartOf n (edgesOf (take (2 * n - 3) edges)) × (edgesOf (take (n - 3) keys) ≡ keep (diagonal? n) (edgesOf (take (2 * n - 3) edges)))
-        → 1021 ≤ length keys → Reads (readChart s) (Held (record { n = n })) keys
+        → 1021 ≤ length keys → Reads (readChart s) (Held (record { n = n; angled = false })) keys
     part-read keys R long =
         let F = E .placed .formed in
         let S = E .strokes in
         let part = rw (edges-are, E .placed .count) at (R .0) in
         let ds : edgesOf (take (n - 3) keys) ≡ diagonalsIn (chartIn s) = R .1 ∙ ap₂ (λ (k : ℕ) (es : List Edge). keep (diagonal? k) es) (E .placed .count) edges-are in
-        let same : polygonOf (record { n = n }) keys ≡ partIn (chartIn s) = λ i. record { n = E .placed .count i; ds = ds i } in
-        gives {h = record { n = n }} (read-by s (taken F (E .bars) S G part) ∙ ap held (sym same))
+        let same : polygonOf (record { n = n; angled = false }) keys ≡ partIn (chartIn s) = λ i. record { n = E .placed .count i; ds = ds i; angles = none } in
+        gives {h = record { n = n; angled = false }} (read-by s (taken F (E .bars) S G part) ∙ ap held (sym same))
         (record { valid = rw same (rule-valid (chartIn s) (F .least) (S .0) (S .1) part (F .most) (strokes-count s (F .least))); room = long })

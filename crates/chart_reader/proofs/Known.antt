@@ -6,6 +6,7 @@ use Prim.Native.Nat.{ℕ}
 use native.Mathlib.Decide.{decLe, decLt, ℕ-discrete}
 use lib.ListN.{length, getD, take}
 use Rattle.lists.specs.Lists.{all?, below, choose, either?, keep, mem?, not?, numbers, put, sorted?, recast?, three?}
+use Rattle.polygon.specs.Angles.{none}
 use Rattle.polygon.specs.Polygon.{_—_}
 use Rattle.polygon.specs.Order.{before?, same?, cross?, none-cross?, diagonal?}
 use Rattle.sheet.specs.Sheet.{Reading, refused, held, ask, count?}
@@ -41,8 +42,8 @@ Case = List ℕ × Reading
 
 abbrev pub known : List Case
 known =
-    (triangle, held (record { n = 3; ds = [] }))
-    ∷ (drawn 3 3 squareBars squareStrokes, held (record { n = 4; ds = (0 — 2) ∷ [] }))
+    (triangle, held (record { n = 3; ds = []; angles = none }))
+    ∷ (drawn 3 3 squareBars squareStrokes, held (record { n = 4; ds = (0 — 2) ∷ []; angles = none }))
     -- empty; a byte short; a byte over; bit 1 of a map byte; n = 2; a stroke short
     ∷ ([], refused 14)
     ∷ (take 42 triangle, refused 14)
@@ -65,7 +66,7 @@ known =
     ∷ (drawn 1 3 (barOn 0 0 0 ∷ barOn 0 1 1 ∷ barOn 0 2 2 ∷ []) (level (0 — 1) ∷ level (0 — 2) ∷ level (1 — 2) ∷ []), refused 16)
     -- an upright through a level gap; past the bar at the gap's end
     ∷ (drawn 3 5 (barOn 0 0 4 ∷ barOn 2 0 4 ∷ barOn 1 0 1 ∷ barOn 1 3 4 ∷ []) (upright (0 — 1) 2 ∷ upright (0 — 2) 0 ∷ upright (0 — 3) 3 ∷ upright (1 — 2) 1 ∷ level (2 — 3) ∷ []), refused 17)
-    ∷ (drawn 3 6 (barOn 0 0 5 ∷ barOn 2 0 5 ∷ barOn 1 0 1 ∷ barOn 1 3 4 ∷ []) (upright (0 — 1) 5 ∷ upright (0 — 2) 0 ∷ upright (0 — 3) 3 ∷ upright (1 — 2) 1 ∷ level (2 — 3) ∷ []), held (record { n = 4; ds = (0 — 2) ∷ [] }))
+    ∷ (drawn 3 6 (barOn 0 0 5 ∷ barOn 2 0 5 ∷ barOn 1 0 1 ∷ barOn 1 3 4 ∷ []) (upright (0 — 1) 5 ∷ upright (0 — 2) 0 ∷ upright (0 — 3) 3 ∷ upright (1 — 2) 1 ∷ level (2 — 3) ∷ []), held (record { n = 4; ds = (0 — 2) ∷ []; angles = none }))
     -- side (1,2) missing; (0,2) and (1,3) cross
     ∷ (drawn 3 3 (barOn 0 0 1 ∷ barOn 2 0 0 ∷ barOn 0 2 2 ∷ barOn 2 1 2 ∷ []) (upright (0 — 1) 0 ∷ level (0 — 2) ∷ upright (0 — 3) 1 ∷ level (1 — 3) ∷ upright (2 — 3) 2 ∷ []), refused 18)
     ∷ (

@@ -1,11 +1,12 @@
--- The part that a chart shows: its strokes are all sides and n - 3 diagonals that do not cross exactly if it shows a valid part, which is then the part that is held.
-use mathlib.Core.Path.{_≡_, refl, ap}
+-- The part that a chart shows: its strokes are all sides and n - 3 diagonals that do not cross exactly if it shows a valid part, which is then, if it has no angles, the part that is held.
+use mathlib.Core.Path.{_≡_, refl, ap, sym}
 use mathlib.Core.Logic.{inl, inr}
 use Prim.Native.Nat.{_+_, _*_, _≤_, _<_}
 use native.Mathlib.Omega.{arith}
 use lib.ListN.{length, length-map}
 use Rattle.lists.specs.Lists.{All, Mem}
 use Rattle.lists.proofs.Lists.{all-map, all-mem, all-of, keep-mem, keep-sorted, keep-sub, keep-test, sorted-same, mem-map}
+use Rattle.polygon.specs.Angles.{none}
 use Rattle.polygon.specs.Polygon.{Edge, Ascending, Diagonal, Polygon, Valid, Linked}
 use Rattle.polygon.specs.Order.{diagonal?}
 use Rattle.polygon.proofs.Order.{one-way}
@@ -38,6 +39,7 @@ module _ (c : Chart) (least : 3 ≤ c .n) (N : All (Named c) (c .strokes)) (A : 
       none-cross = P .1;
       full = sides-full (c .n) least (edgesIn c) named-edges A (omega (arith, length-map (c .strokes) strokeEdge)) (P .0);
     };
+    allowed = tt;
   }
 
 -- a chart that shows a valid part
@@ -60,8 +62,8 @@ module _ (c : Chart) (p : Polygon) (v : Valid p) (S : Shows c p) where
       there e d (inl s) = absurd (diagonal-reads (p .n) (e .0) (e .1) .0 (rw (S .corners) at d) .2 s)
       there e d (inr m) = m
 
-  pub shows-part : partIn c ≡ p
-  shows-part = λ i. record { n = S .corners i; ds = diagonals-same i }
+  pub shows-part : p .angles ≡ none → partIn c ≡ p
+  shows-part b = λ i. record { n = S .corners i; ds = diagonals-same i; angles = sym b i }
 
   pub shows-rule : PartRule c
   shows-rule = (all-of (partSides (c .n)) (λ e m. S .edges e .1 (inl (rw (S .corners) at (all-mem (sides-are (c .n) (rw (S .corners) (v .least))) m)))), rw diagonals-same (v .triangulated .none-cross))

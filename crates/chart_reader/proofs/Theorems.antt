@@ -5,18 +5,19 @@ use mathlib.Core.Logic.{_↔_}
 use mathlib.Core.List.{List}
 use Prim.Native.Nat.{ℕ, _<_}
 use Rattle.lists.specs.Lists.{All}
-use Rattle.polygon.specs.Polygon.{Polygon, Valid}
+use Rattle.polygon.specs.Polygon.{Polygon, bare, Valid}
+use Rattle.polygon.proofs.Reading.{bare-valid}
 use Rattle.codec.specs.Answer.{write}
 use Rattle.sheet.specs.Sheet.{Reading, held, normalSheet, outcome}
 use Rattle.chart.specs.Chart.{chartOf}
 use Rattle.chart.specs.Bytes.{bytesOf}
-use Rattle.chart.proofs.Theorems.{chart-is-true, chart-shows}
+use Rattle.chart.proofs.Theorems.{chart-bare, chart-is-true, chart-shows}
 use Rattle.chart_reader.specs.Reader.{readChart, chartRead}
 use Rattle.chart_reader.specs.Charts.{Charts}
 use Rattle.chart_reader.proofs.Verdict.{Verdict, read-by, by-reading}
 use Rattle.chart_reader.proofs.Accepts.{held-keeps, held-charts, charts-held}
 
--- Bytes are accepted, but for 8, exactly if they are those of a true chart that shows a valid part; and they are read as that part.
+-- Bytes are accepted, but for 8, exactly if they are those of a true chart that shows a valid part without angles; and they are read as that part.
 pub accepts : (s : List ℕ) (p : Polygon) → All (λ b. b < 256) s → (readChart s ≡ held p) ↔ Charts s p
 accepts s p B = (λ e. held-charts s p B (held-keeps s p (by-reading s e) refl), charts-held)
 
@@ -29,9 +30,11 @@ pub writes : (s : List ℕ) (p : Polygon) → Charts s p → chartRead s ≡ wri
 unfolding chartRead outcome
 writes s p C = ap outcome (charts-held C)
 
--- The chart of every valid part is a chart of it, and is read back as that part.
-unfoldable pub chart-charts : (p : Polygon) → Valid p → Charts (bytesOf (chartOf p)) p
-chart-charts p v = record { valid = v; chart = chartOf p; bytes = refl; is-true = chart-is-true p v; shows = chart-shows p v }
+-- The chart of every valid part is a chart of that part without its angles, and is read back as it.
+unfoldable pub chart-charts : (p : Polygon) → Valid p → Charts (bytesOf (chartOf p)) (bare p)
+chart-charts p v =
+    let w = bare-valid p v in
+    record { valid = w; bare = refl; chart = chartOf p; bytes = refl; is-true = chart-is-true p v; shows = rw (chart-bare p) at (chart-shows (bare p) w) }
 
-pub reads-back : (p : Polygon) → Valid p → readChart (bytesOf (chartOf p)) ≡ held p
+pub reads-back : (p : Polygon) → Valid p → readChart (bytesOf (chartOf p)) ≡ held (bare p)
 reads-back p v = charts-held (chart-charts p v)

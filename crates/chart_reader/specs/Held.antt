@@ -1,11 +1,14 @@
 -- How the code holds a chart, for its contracts.
 use mathlib.Core.Path.{_≡_}
+use mathlib.Core.Bool.{false}
 use mathlib.Core.List.{List, [], _∷_, flatMap}
 use Prim.Native.Nat.{ℕ, _+_, _*_, _-_, _≤_, _<_}
 use native.Mathlib.Decide.{decLt}
 use lib.ListN.{length, getD}
 use Rattle.lists.specs.Lists.{All, choose}
 use Rattle.polygon.specs.Polygon.{Edge, Ascending}
+use Rattle.sheet.specs.declared.Read.{Read}
+use Rattle.sheet.specs.declared.Read.the-variants.{Refused, Held}
 use Rattle.chart.specs.Chart.{Bar, Stroke, upright, level, Chart}
 use Rattle.chart.specs.Decode.{barOn, countIn, barAt, places, behind, strokePlaces, strokeOf}
 use Rattle.chart.specs.declared.Stroke as code
@@ -87,3 +90,8 @@ pub record EdgesOf (n : ℕ) (es : List Edge) : Type 0 where
   pub named : All (λ e. (e .0 < e .1) × (e .1 < n)) es
   pub ascending : Ascending es
   pub count : length es + 3 ≡ 2 * n
+
+-- a part that was read of a chart has no angles
+abbrev pub NoAngles : Read → Type 0
+NoAngles (Refused k) = Unit {0}
+NoAngles (Held h) = h .angled ≡ false

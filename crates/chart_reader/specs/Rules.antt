@@ -4,6 +4,7 @@ use mathlib.Core.Logic.{_≢_}
 use mathlib.Core.List.{List, _∷_, map}
 use Prim.Native.Nat.{ℕ, suc, _-_, _≤_, _<_, min, max}
 use Rattle.lists.specs.Lists.{All, Mem, Sorted, below, keep, numbers}
+use Rattle.polygon.specs.Angles.{none}
 use Rattle.polygon.specs.Polygon.{Edge, _—_, Ascending, NoneCross, Polygon}
 use Rattle.polygon.specs.Order.{diagonal?}
 use Rattle.chart.specs.Chart.{Bar, Stroke, upright, level, strokeEdge, Chart, Covers}
@@ -76,6 +77,6 @@ module _ (c : Chart) where
   abbrev pub PartRule : Type 0
   PartRule = PartOf (c .n) edgesIn
 
-  -- the part that is shown
+  -- the part that is shown; request (xi): "The chart doesn't depend on angles", so a chart read back has none
   abbrev pub partIn : Polygon
-  partIn = record { n = c .n; ds = diagonalsIn }
+  partIn = record { n = c .n; ds = diagonalsIn; angles = none }

@@ -6,6 +6,7 @@ ghost use lib.ListN.{length};
 ghost use Rattle.codec.specs.Answer.{answered, written};
 ghost use Rattle.sheet.specs.Held.{Reads};
 ghost use Rattle.chart_reader.specs.Reader.{readChart, chartRead};
+ghost use Rattle.chart_reader.specs.Held.{NoAngles};
 use crate::bars::bars_keep;
 use crate::frame::frame;
 use crate::gaps::gaps_keep;
@@ -15,7 +16,7 @@ use codec::Written;
 use keys::EDGES;
 use sheet::Head;
 use sheet::Read;
-use sheet::writer::write_sheet;
+use sheet::writer::write_keys;
 
 pub mod bars;
 pub mod frame;
@@ -47,7 +48,8 @@ pub struct Area {
 // Reads a chart: the part's head, with the keys of its diagonals in the table, ascending, or a refusal.
 pub fn read_part(chart: &[u8], keys: &mut [u32]) -> Read
     requires { ⌜ length (now keys) ≡ 2045 ⌝ }
-    ensures { λ r. ⌜ Reads (readChart (now (chart .entry))) r (now (keys .exit)) ⌝ }
+    ensures part { λ r. ⌜ Reads (readChart (now (chart .entry))) r (now (keys .exit)) ⌝ }
+    ensures bare { λ r. ⌜ NoAngles r ⌝ }
 {
     let mut at = [0usize; EDGES];
     let n = frame(chart, &mut at);
@@ -68,7 +70,7 @@ pub fn read_part(chart: &[u8], keys: &mut [u32]) -> Read
     if !part(&edges[..m], n, keys) {
         return Read::Refused(18);
     }
-    Read::Held(Head { n })
+    Read::Held(Head { n, angled: false })
 }
 
 // Read a chart: the normal sheet of the part that it shows.
@@ -78,6 +80,6 @@ pub fn read_chart(chart: &[u8], out: &mut [u8]) -> Written
     let mut keys = [0u32; EDGES];
     match read_part(chart, &mut keys) {
         Read::Refused(k) => Written::Refused(k),
-        Read::Held(h) => write_sheet(h, &keys, out),
+        Read::Held(h) => write_keys(h, &keys, out),
     }
 }

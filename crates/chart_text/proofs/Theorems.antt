@@ -5,7 +5,7 @@ use mathlib.Core.List.{List, _++_}
 use Prim.Native.Nat.{ℕ, _+_, _*_, _≤_, _<_}
 use lib.ListN.{length, take}
 use Rattle.lists.specs.Lists.{All, Sorted}
-use Rattle.polygon.specs.Polygon.{Polygon, Valid}
+use Rattle.polygon.specs.Polygon.{Polygon, bare, Valid}
 use Rattle.sheet.specs.Sheet.{held, normalSheet}
 use Rattle.sheet.proofs.Back.{read-back}
 use Rattle.chart.specs.Chart.{Stroke, Chart, chartOf}
@@ -59,7 +59,7 @@ describes s p C =
 -- The way back: of the chart that is drawn of a valid part, the line that is printed of the part's sheet, the bars drawn, and the strokes drawn.
 pub way-back : (p : Polygon) → Valid p → described (bytesOf (chartOf p)) ≡ printed (normalSheet p) ++ (cornerLines (chartOf p) ++ strokeLines (chartOf p))
 unfolding chart-charts printed printedOf chartOf
-way-back p v = describes (bytesOf (chartOf p)) p (chart-charts p v) ∙ rw (read-back p v)
+way-back p v = describes (bytesOf (chartOf p)) (bare p) (chart-charts p v) ∙ rw (read-back p v)
 
 -- The strokes stand in the text from left to right.
 pub left-to-right : (c : Chart) (ss : List Stroke) → Sorted (λ s t. standing c s ≤ standing c t) (leftToRight c ss)

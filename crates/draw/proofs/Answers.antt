@@ -13,8 +13,7 @@ use Rattle.codec.specs.declared.Written.the-variants as is
 use Rattle.codec.specs.declared.BothWritten.{BothWritten}
 use Rattle.codec.specs.declared.BothWritten.the-variants.{Lengths, Refused}
 use Rattle.sheet.specs.Sheet.{Reading, refused, held, readSheet}
-use Rattle.sheet.proofs.Size.{read-counted}
-use Rattle.sheet.proofs.Valid.{read-triangulated}
+use Rattle.sheet.proofs.Valid.{read-valid}
 use Rattle.chart.specs.Chart as chart
 use Rattle.chart.specs.Chart.{layout, chartOf}
 use Rattle.chart.specs.Bytes.{bytesOf}
@@ -63,7 +62,7 @@ room-enough s out bars h = go (readSheet s) refl
   where
     go : (r : Reading) → readSheet s ≡ r → writtenBoth (chartedBoth (readSheet s)) out (map barOf bars) .answer ≡ written (charted (readSheet s)) out
     go (refused k) e = rw e
-    go (held p) e = rw e (enough-records (chartOf p) out (map barOf bars) (omega (arith, h, corners p (read-triangulated s p e), length-map bars barOf, read-counted s p e .0)))
+    go (held p) e = let v = read-valid s p e in rw e (enough-records (chartOf p) out (map barOf bars) (omega (arith, h, corners p (v .triangulated), length-map bars barOf, v .most)))
 
 pub without-bars : (s out after : List ℕ) (r : BothWritten) → For (readSheet s) out 1024 r after → (a : Answer) → ((bars : List chart.Bar) → answeredBoth r after bars .answer ≡ a) → a ≡ written (drawn s) out
 unfolding drawnWithBars

@@ -1,9 +1,9 @@
--- What is done with an input is settled by its first 4,092 bytes; and a chart and a line that were written are what is done with a sheet.
+-- What is done with an input is settled by its first bytes, one more than the longest sheet has; and a chart and a line that were written are what is done with a sheet.
 -- Rests on the refusal of what is longer than any sheet (`long-input`, crate sheet).
 use mathlib.Core.Path.{_≡_, ap, _∙_}
 use mathlib.Core.List.{List}
 use mathlib.Core.Option.{none, some}
-use Prim.Native.Nat.{ℕ, _+_, _≤_, min}
+use Prim.Native.Nat.{ℕ, suc, _+_, _≤_, min}
 use native.Mathlib.Omega.{arith}
 use lib.ListN.{length, take}
 use lib.Seq.{take-at, take-append-seam}
@@ -15,7 +15,7 @@ use Rattle.codec.proofs.Answers.{written-fits, bytes-left}
 use Rattle.codec.specs.Input.{Begins}
 use Rattle.codec.proofs.Input.{begins-settles}
 use Rattle.lists.proofs.Stores.{sets-front}
-use Rattle.sheet.specs.Sheet.{Reading, refused, held, readSheet}
+use Rattle.sheet.specs.Sheet.{Reading, refused, held, longest, readSheet}
 use Rattle.sheet.proofs.Long.{long-input}
 use Rattle.chart.specs.Chart.{chartOf}
 use Rattle.chart.specs.Bytes.{bytesOf}
@@ -30,9 +30,9 @@ use Rattle.draw.specs.Printed.{factsOf, printedOf}
 use Rattle.draw.specs.Program.{savedOf, outputOf, output, shown, Lengths}
 use Rattle.draw.proofs.Size.{chart-bytes}
 
-pub begins-output : (lent input : List ℕ) (size : ℕ) → length lent ≡ 4092 → Begins lent size input → (chart text : List ℕ) → output (take (min size 4092) lent) chart text ≡ output input chart text
+pub begins-output : (lent input : List ℕ) (size : ℕ) → length lent ≡ suc longest → Begins lent size input → (chart text : List ℕ) → output (take (min size (suc longest)) lent) chart text ≡ output input chart text
 unfolding output
-begins-output lent input size h b chart text = ap (λ (r : Reading). outputOf r chart text) (begins-settles readSheet 4092 long-input lent input size h b)
+begins-output lent input size h b chart text = ap (λ (r : Reading). outputOf r chart text) (begins-settles readSheet (suc longest) long-input lent input size h b)
 
 -- a line that was written, and the bytes lent for it
 module _ {xs o₀ o₁ : List ℕ} {r : ℕ} (size : length xs ≤ 256) (room : 256 ≤ length o₀) (p : Put xs o₀ 0 o₁ r) where

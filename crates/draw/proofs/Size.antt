@@ -9,8 +9,8 @@ use Rattle.polygon.specs.Polygon.{Triangulated, Polygon}
 use Rattle.polygon.proofs.TreeTheorem.{tree-of}
 use Rattle.codec.specs.Answer.{written}
 use Rattle.sheet.specs.Sheet.{Reading, refused, held, readSheet}
-use Rattle.sheet.proofs.Size.{read-counted, written-size}
-use Rattle.sheet.proofs.Valid.{read-triangulated}
+use Rattle.sheet.proofs.Size.{written-size}
+use Rattle.sheet.proofs.Valid.{read-valid}
 use Rattle.umbrella.specs.Best.{planOf}
 use Rattle.chart.specs.Chart.{chartOf}
 use Rattle.chart.specs.Bytes.{bytesOf}
@@ -28,4 +28,4 @@ drawn-size s out = go (readSheet s) refl
   where
     go : (r : Reading) → readSheet s ≡ r → written (charted (readSheet s)) out .size ≤ 20465
     go (refused k) e = rw e (omega arith)
-    go (held p) e = rw e (omega (arith, written-size (bytesOf (chartOf p)) out, chart-bytes p (read-triangulated s p e) (omega (arith, read-counted s p e .0))))
+    go (held p) e = let v = read-valid s p e in rw e (omega (arith, written-size (bytesOf (chartOf p)) out, chart-bytes p (v .triangulated) (v .most)))

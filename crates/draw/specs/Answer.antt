@@ -1,4 +1,4 @@
--- Document 01, "Operations and their refusals": Draw gives the chart's bytes, their length, and the bars. "1 to 7; 8: either output too short."
+-- Document 01, "Operations and their refusals": Draw gives the chart's bytes, their length, and the bars. "1 to 7; 8: either output too short." Request (xi) adds 23 to the tests of a sheet.
 use mathlib.Core.List.{List}
 use Prim.Native.Nat.{ℕ}
 use Rattle.codec.specs.Answer.{Outcome, refuse, write}

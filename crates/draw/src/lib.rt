@@ -86,8 +86,9 @@ pub fn draw_for(sheet: &[u8], out: &mut [u8], room: usize) -> BothWritten
         ≡ drawnWithBars (now (sheet .entry)) (now (out .entry)) (map barOf bars)) ⌝ }
     ensures fits { λ r. ⌜ RecordsFit r room (length (now (out .entry))) ⌝ }
 {
+    let mut bends = [0u32; DIAGONALS];
     let mut keys = [0u32; DIAGONALS];
-    match read_sheet(sheet, &mut keys) {
+    match read_sheet(sheet, &mut bends, &mut keys) {
         Read::Refused(k) => BothWritten::Refused(k),
         Read::Held(h) => {
             let n = h.n;

@@ -1,5 +1,5 @@
 // What the program bend does with its input: the chart to be saved and the line to be printed. specs/Program.antt says it of the whole input.
-// No sheet is longer than 4,091 bytes, so the first 4,092 bytes of a longer input get the refusal of the whole (`long-input` in the crate sheet).
+// No sheet is longer than LONGEST bytes, so the first bytes of a longer input, one more than that, get the refusal of the whole (`long-input` in the crate sheet).
 ghost use mathlib.Core.Path.{_≡_};
 ghost use mathlib.Core.List.{List};
 ghost use Prim.Native.Nat.{ℕ, _≤_};
@@ -18,12 +18,13 @@ use levels::fill;
 use log_line::put_refused;
 use plan::counts_of;
 use sheet::Head;
+use sheet::LONGEST;
 use sheet::Read;
 use sheet::reader::read_sheet;
 use tree::PLACES;
 
 // Room for an input, one byte more than the longest sheet has; for the longest chart; for the longest line.
-pub const INPUT_ROOM: usize = 4092;
+pub const INPUT_ROOM: usize = LONGEST + 1;
 
 pub const CHART_ROOM: usize = 20465;
 
@@ -69,14 +70,15 @@ fn draw_first(lent: &[u8], end: usize, chart: &mut [u8], text: &mut [u8]) -> Sho
         ≡ output (take end (now (lent .entry))) (now (chart .entry)) (now (text .entry)) ⌝ }
     ensures within { λ r. ⌜ Lengths r (now (chart .exit)) (now (text .exit)) ⌝ }
 {
+    let mut bends = [0u32; DIAGONALS];
     let mut keys = [0u32; DIAGONALS];
-    match read_sheet(&lent[..end], &mut keys) {
+    match read_sheet(&lent[..end], &mut bends, &mut keys) {
         Read::Refused(k) => Shown::Refused(put_refused(k as usize, text)),
         Read::Held(h) => show_part(h, &keys, chart, text),
     }
 }
 
-// What is done with an input, of which the first `size` bytes lent are all, or the first 4,092 bytes if it is longer.
+// What is done with an input, of which the first `size` bytes lent are all, or its first INPUT_ROOM bytes if it is longer.
 pub fn draw_input(
     lent: &[u8; INPUT_ROOM],
     size: usize,

@@ -11,6 +11,7 @@ use Rattle.polygon.specs.Polygon.{Edge, _—_, Ascending, Diagonal, Triangulate
 use Rattle.polygon.proofs.Order.{low-of, high-of}
 use Rattle.edit.specs.Rules.{addEar, up, both, entering, earAdded}
 use Rattle.edit.proofs.Rule.{Takes, given}
+use Rattle.edit.proofs.Result.{result-valid}
 use Rattle.edit.proofs.Renumber.{up-is, up-mono, BothEnds, renumbered-ascending, renumbered-free}
 use Rattle.edit.proofs.Enter.{ApartFrom, entered}
 
@@ -68,8 +69,5 @@ module _ (n i : ℕ) (ds : List Edge) (P : Triangulated n ds) (h : i < n) where
       entering-apart
 
 pub add-valid : (p : Polygon) (i : ℕ) → Valid p → Takes (addEar i) p → Valid (given (addEar i) p)
-add-valid p i A (h, k) = record {
-  least = omega (arith, A .least);
-  most = omega (arith, A .most);
-  triangulated = add-triangulated (p .n) i (p .ds) (A .triangulated) h;
-}
+add-valid p i A (h, k) =
+    result-valid (p .n) _ _ _ (p .angles) (omega (arith, A .least)) (omega (arith, A .most)) (add-triangulated (p .n) i (p .ds) (A .triangulated) h) (A .allowed)

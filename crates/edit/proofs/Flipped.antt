@@ -1,18 +1,22 @@
--- A diagonal of a valid polygon has exactly two common neighbours (`two-common`); flipping it gives a valid polygon; flipping the new diagonal gives the old polygon back.
-use mathlib.Core.Path.{_≡_, ap, _∙_}
+-- A diagonal of a valid polygon has exactly two common neighbours (`two-common`); flipping it gives a valid polygon; flipping the new diagonal gives the old polygon back, but for a 0 on the diagonal.
+use mathlib.Core.Path.{_≡_, refl, ap, sym, _∙_}
 use mathlib.Core.Logic.{_⊎_, inl, inr}
-use mathlib.Core.List.{List, [], _∷_}
+use mathlib.Core.List.{List, [], _∷_, map}
 use Prim.Native.Nat.{ℕ, _<_}
 use native.Mathlib.Omega.{arith}
-use Rattle.lists.specs.Lists.{All, Mem, all-cons, all-nil, head, sorted-cons, sorted-nil, tail}
-use Rattle.lists.proofs.Lists.{all-both, all-imp, all-mem, all-self, here, keep-sorted, sorted-same, there}
+use Rattle.lists.specs.Lists.{All, Mem, all-cons, all-nil, choose, head, sorted-cons, sorted-nil, tail}
+use Rattle.lists.proofs.Lists.{all-both, all-imp, all-mem, all-of, all-self, choose-no, choose-yes, here, keep-sorted, not-empty, sorted-same, there}
 use Rattle.lists.proofs.Places.{below-sorted}
 use Rattle.polygon.specs.Polygon.{Edge, _—_, Cross, Diagonal, Triangulated, Polygon, Valid, Linked, Joined}
-use Rattle.polygon.specs.Order.{remove, insert, lower-first}
-use Rattle.polygon.proofs.Order.{low-of, high-of, remove-all, remove-other, remove-ascending, remove-length, remove-mem, insert-mem}
+use Rattle.polygon.specs.Angles.{Angles, none, each}
+use Rattle.polygon.specs.Order.{same?, remove, insert, lower-first}
+use Rattle.polygon.specs.Carried.{angleOf, carried}
+use Rattle.polygon.proofs.Angles.{map-same, angle-given, angle-unlisted}
+use Rattle.polygon.proofs.Order.{low-of, high-of, remove-all, remove-other, remove-ascending, remove-length, remove-mem, insert-all, insert-mem}
 use Rattle.sheet.specs.Sheet.{held}
 use Rattle.sheet.proofs.Normal.{lower-first-same}
-use Rattle.edit.specs.Rules.{flip, common, enter, flipped, rule}
+use Rattle.edit.specs.Rules.{flip, common, enter, flipped, result, zeroAt, flatAt, rule}
+use Rattle.edit.proofs.Result.{result-valid, result-over}
 use Rattle.edit.proofs.Rule.{Takes, given, rule-takes, rule-taken}
 use Rattle.edit.proofs.Reading.{common-reads}
 use Rattle.edit.proofs.Enter.{ApartFrom, entered, remove-insert, insert-remove}
@@ -58,7 +62,7 @@ module _ (n : ℕ) (ds : List Edge) (P : Triangulated n ds) (e f : Edge) (A : Ac
   flipped-is = rw common-is
 
   module _ (m : Mem e ds) where
-    fresh : ¬ Mem f ds
+    pub fresh : ¬ Mem f ds
     fresh k = elim (A .crossing) [ inl x ↦ all-mem (all-mem (P .none-cross) m) k x | inr x ↦ all-mem (all-mem (P .none-cross) k) m x ]
 
     apart : (g : Edge) → Mem g ds → ¬ (g ≡ e) → ApartFrom f g
@@ -119,27 +123,47 @@ pub flip-valid : (p : Polygon) (a b : ℕ) → Valid p → Takes (flip a b) p �
 flip-valid p a b A (h, m) =
     let e = lower-first (a, b) in
     let (f, X) = across (p .n) (p .ds) (A .triangulated) e m in
-    record {
-      least = A .least;
-      most = A .most;
-      triangulated = rw (flipped-is (p .n) (p .ds) (A .triangulated) e f X) (flip-triangulated (p .n) (p .ds) (A .triangulated) e f X m);
-    }
+    result-valid (p .n) (p .n) (p .ds) _ (p .angles) (A .least) (A .most) (rw (flipped-is (p .n) (p .ds) (A .triangulated) e f X) (flip-triangulated (p .n) (p .ds) (A .triangulated) e f X m)) (A .allowed)
+
+-- a part with a diagonal has more than 3 corners
+pub over-three : (n : ℕ) {ds : List Edge} {e : Edge} → Triangulated n ds → Mem e ds → 3 < n
+over-three n {ds = []} T m = absurd (not-empty m)
+over-three n {ds = d ∷ ds} T m = omega (arith, T .full)
+
+-- to the diagonals after the turn and back, an angle is lost at the turned diagonal only
+angles-lost : (ds rest : List Edge) (e : Edge) (xs : Angles) → ¬ Mem e rest → ((d : Edge) → Mem d ds → ¬ (d ≡ e) → Mem d rest) → carried rest (carried ds xs rest) ds ≡ zeroAt e ds xs
+unfolding carried
+angles-lost ds rest e none gone kept = refl
+angles-lost ds rest e (each vs) gone kept = ap each (map-same (all-of ds at))
+  where
+    at : (d : Edge) → Mem d ds → angleOf rest (map (angleOf ds vs) rest) d ≡ choose (same? d e) 0 (angleOf ds vs d)
+    at d m = go (same? d e)
+      where
+        go : Dec (d ≡ e) → angleOf rest (map (angleOf ds vs) rest) d ≡ choose (same? d e) 0 (angleOf ds vs d)
+        go (yes q) = angle-unlisted rest (map (angleOf ds vs) rest) d (λ k. gone (rw q at k)) ∙ sym (choose-yes (same? d e) _ q)
+        go (no q) = angle-given (angleOf ds vs) rest d (kept d m q) ∙ sym (choose-no (same? d e) _ q)
 
 -- the new diagonal, flipped
-flip-again : (p : Polygon) (e f : Edge) → Valid p → Across (p .n) (p .ds) e f → Mem e (p .ds) → rule (flip (f .0) (f .1)) (record { n = p .n; ds = insert f (remove e (p .ds)) }) ≡ held p
+flip-again : (p : Polygon) (e f : Edge) → Valid p → Across (p .n) (p .ds) e f → Mem e (p .ds)
+    → let q = insert f (remove e (p .ds)) in rule (flip (f .0) (f .1)) (record { n = p .n; ds = q; angles = carried (p .ds) (p .angles) q }) ≡ held (flatAt e p)
 flip-again p e f A X m =
     let P = A .triangulated in
+    let q : List Edge = insert f (remove e (p .ds)) in
     let l = lower-first-same f (omega (arith, corners (X .crossing) .order)) in
-    let k : Mem (lower-first f) (insert f (remove e (p .ds))) = rw l (insert-mem f (remove e (p .ds)) f here) in
+    let k : Mem (lower-first f) q = rw l (insert-mem f (remove e (p .ds)) f here) in
+    let back : flipped (p .n) (lower-first f) q ≡ p .ds = rw l (flipped-back (p .n) (p .ds) P e f X m) in
+    let gone : ¬ Mem e q = λ i. all-mem (insert-all f (λ (j : f ≡ e). fresh (p .n) (p .ds) P e f X m (rw j m)) (remove-other e (p .ds))) i refl in
+    let lost = angles-lost (p .ds) q e (p .angles) gone (λ d i j. insert-mem f (remove e (p .ds)) d (there (remove-mem e (p .ds) i j))) in
     rule-takes (flip (f .0) (f .1)) _ ((joined-corners (p .n) (p .ds) P _ _ (X .low-low) .1, joined-corners (p .n) (p .ds) P _ _ (X .low-high) .1), k)
-    ∙ rw (l, flipped-back (p .n) (p .ds) P e f X m)
+    ∙ ap held (ap (result (p .n) q _) back ∙ (result-over (p .n) q (p .ds) _ (over-three (p .n) P m) ∙ (λ i. record { n = p .n; ds = p .ds; angles = lost i })))
 
 pub flip-back : (p : Polygon) (a b : ℕ) {q : Polygon} → Valid p → rule (flip a b) p ≡ held q
-    → (f : Edge) × (q .ds ≡ insert f (remove (lower-first (a, b)) (p .ds))) × (¬ Mem f (p .ds)) × (rule (flip (f .0) (f .1)) q ≡ held p)
+    → (f : Edge) × (q .ds ≡ insert f (remove (lower-first (a, b)) (p .ds))) × (¬ Mem f (p .ds)) × (rule (flip (f .0) (f .1)) q ≡ held (flatAt (lower-first (a, b)) p))
 flip-back p a b {q} A r =
     let P = A .triangulated in
     let e = lower-first (a, b) in
     let ((h, m), g) = rule-taken (flip a b) p r in
     let (f, X) = across (p .n) (p .ds) P e m in
-    let s : q ≡ record { n = p .n; ds = insert f (remove e (p .ds)) } = g ∙ (λ i. record { n = p .n; ds = flipped-is (p .n) (p .ds) P e f X i }) in
-    (f, ap (λ (x : Polygon). x .ds) s, fresh (p .n) (p .ds) P e f X m, ap (rule (flip (f .0) (f .1))) s ∙ flip-again p e f A X m)
+    let new = flipped-is (p .n) (p .ds) P e f X in
+    let turned = g ∙ (ap (result (p .n) (p .ds) (p .angles)) new ∙ result-over (p .n) (p .ds) _ (p .angles) (over-three (p .n) P m)) in
+    (f, ap (λ (x : Polygon). x .ds) turned, fresh (p .n) (p .ds) P e f X m, ap (rule (flip (f .0) (f .1))) turned ∙ flip-again p e f A X m)

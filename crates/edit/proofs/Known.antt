@@ -5,14 +5,20 @@ use mathlib.Core.List.{List, [], _∷_, map}
 use Prim.Native.Nat.{ℕ, _-_}
 use native.Mathlib.Decide.{decLt, ℕ-discrete}
 use Rattle.lists.specs.Lists.{All, all-cons, all-nil, all?, below, choose, either?, keep, mem?, not?, numbers, put}
+use Rattle.polygon.specs.Angles.{Angle, none, each}
 use Rattle.polygon.specs.Polygon.{Edge, _—_, Polygon}
+use Rattle.polygon.specs.Carried.{angleOf, carried}
 use Rattle.polygon.specs.Order.{before?, same?, remove, place, insert, lower-first}
 use Rattle.sheet.specs.Sheet.{Reading, refused, held, ask}
-use Rattle.edit.specs.Rules.{Edit, addEar, removeEar, flip, up, down, both, entering, earAdded, neighbours, earRemoved, away?, side?, linked?, joined?, common, enter, flipped, rule}
+use Rattle.edit.specs.Rules.{Edit, addEar, removeEar, flip, up, down, both, entering, earAdded, neighbours, earRemoved, away?, side?, linked?, joined?, common, enter, flipped, result, rule}
 
 -- a part with these diagonals
 abbrev part : ℕ → List Edge → Polygon
-part n ds = record { n = n; ds = ds }
+part n ds = record { n = n; ds = ds; angles = none }
+
+-- and with these angles
+abbrev bent : ℕ → List Edge → List Angle → Polygon
+bent n ds vs = record { n = n; ds = ds; angles = each vs }
 
 -- n corners, each diagonal at corner 0
 abbrev fan : ℕ → Polygon
@@ -49,11 +55,20 @@ cases =
     ∷ (flip 1 3, fan 4, refused 13)
     ∷ (flip 0 1, fan 4, refused 13)
     ∷ (flip 2 2, fan 4, refused 13)
+    -- with angles: the new diagonal starts at 0, the others keep theirs, though their places change
+    ∷ (addEar 1, bent 5 ((0 — 2) ∷ (2 — 4) ∷ []) (7 ∷ 65535 ∷ []), held (bent 6 ((0 — 3) ∷ (1 — 3) ∷ (3 — 5) ∷ []) (7 ∷ 0 ∷ 65535 ∷ [])))
+    ∷ (removeEar 2, bent 6 ((0 — 3) ∷ (1 — 3) ∷ (3 — 5) ∷ []) (7 ∷ 5 ∷ 65535 ∷ []), held (bent 5 ((0 — 2) ∷ (2 — 4) ∷ []) (7 ∷ 65535 ∷ [])))
+    ∷ (flip 0 2, bent 5 ((0 — 2) ∷ (2 — 4) ∷ []) (7 ∷ 65535 ∷ []), held (bent 5 ((1 — 4) ∷ (2 — 4) ∷ []) (0 ∷ 65535 ∷ [])))
+    -- a turned diagonal starts at 0 also when it is turned back
+    ∷ (flip 0 2, bent 4 ((0 — 2) ∷ []) (9 ∷ []), held (bent 4 ((1 — 3) ∷ []) (0 ∷ [])))
+    ∷ (flip 1 3, bent 4 ((1 — 3) ∷ []) (0 ∷ []), held (bent 4 ((0 — 2) ∷ []) (0 ∷ [])))
+    -- a triangle has no angles, and remembers none
+    ∷ (removeEar 1, bent 4 ((0 — 2) ∷ []) (9 ∷ []), held (part 3 []))
+    ∷ (addEar 1, part 3 [], held (part 4 ((1 — 3) ∷ [])))
     ∷ []
 
 -- Each known edit gives what it should.
 pub known : All (λ (c : Case). rule (c .0) (c .1) ≡ c .2) cases
-unfolding rule ask Dec·and decLt ℕ-discrete choose put keep numbers below not? either? all? mem? before? same? remove place insert lower-first up down both entering earAdded neighbours earRemoved away? side? linked? joined? common enter flipped
+unfolding rule ask Dec·and decLt ℕ-discrete choose put keep numbers below not? either? all? mem? before? same? remove place insert lower-first up down both entering earAdded neighbours earRemoved away? side? linked? joined? common enter flipped result carried angleOf
 known =
-    all-cons refl (all-cons refl (all-cons refl (all-cons refl (all-cons refl (all-cons refl (all-cons refl (all-cons refl (all-cons refl (all-cons refl
-    (all-cons refl (all-cons refl (all-cons refl (all-cons refl (all-cons refl (all-cons refl (all-cons refl (all-cons refl (all-cons refl (all-cons refl all-nil)))))))))))))))))))
+    all-cons refl (all-cons refl (all-cons refl (all-cons refl (all-cons refl (all-cons refl (all-cons refl (all-cons refl (all-cons refl (all-cons refl (all-cons refl (all-cons refl (all-cons refl (all-cons refl (all-cons refl (all-cons refl (all-cons refl (all-cons refl (all-cons refl (all-cons refl (all-cons refl (all-cons refl (all-cons refl (all-cons refl (all-cons refl (all-cons refl (all-cons refl (all-nil)))))))))))))))))))))))))))

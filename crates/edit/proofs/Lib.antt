@@ -1,4 +1,5 @@
 pub mod Rule
+pub mod Result
 pub mod Reading
 pub mod Renumber
 pub mod Enter
@@ -9,6 +10,7 @@ pub mod Flipped
 pub mod Keeps
 pub mod List
 pub mod Known
+pub mod Angles
 pub mod Theorems
 pub mod Shifting
 pub mod Marking

@@ -1,22 +1,27 @@
 -- Removing an ear from a valid polygon gives a valid polygon, and the diagonal between its neighbours was there to be taken (`ear-diagonal`).
 -- Removing an ear that was added gives the polygon back (`remove-added`).
-use mathlib.Core.Path.{_≡_, refl, ap₂, _∙_}
+use mathlib.Core.Path.{_≡_, refl, ap, ap₂, _∙_}
 use mathlib.Core.Logic.{_⊎_, inl, inr}
 use mathlib.Core.List.{List, [], _∷_, map}
 use Prim.Native.Nat.{ℕ, zero, suc, _+_, _-_, _≤_, _<_}
 use native.Mathlib.Decide.{decLe, decLt, ℕ-discrete}
 use native.Mathlib.Omega.{arith}
-use lib.ListN.{length-map}
-use Rattle.lists.specs.Lists.{All, Mem, choose}
-use Rattle.lists.proofs.Lists.{all-both, all-imp, all-map, all-of}
+use lib.ListN.{length, length-map}
+use Rattle.lists.specs.Lists.{All, Mem, Sub, choose}
+use Rattle.lists.proofs.Lists.{all-both, all-imp, all-map, all-mem, all-of, there}
+use Rattle.polygon.specs.Angles.{Angles, none, each, Allowed}
 use Rattle.polygon.specs.Polygon.{Edge, _—_, Diagonal, Triangulated, Polygon, Valid}
-use Rattle.polygon.specs.Order.{remove}
-use Rattle.polygon.proofs.Order.{edge, remove-all, remove-other, remove-ascending, remove-length, removed, insert-all}
+use Rattle.polygon.specs.Order.{insert, remove}
+use Rattle.polygon.specs.Carried.{carried}
+use Rattle.polygon.proofs.Angles.{carried-via, carried-self, carried-renamed, allowed-each}
+use Rattle.polygon.proofs.Order.{edge, low-of, high-of, remove-all, remove-other, remove-ascending, remove-length, removed, insert-all, insert-mem}
+use Rattle.polygon.proofs.Sort.{distinct-of}
 use Rattle.polygon.proofs.TreeTheorem.{from-enough}
 use Rattle.sheet.specs.Sheet.{held}
-use Rattle.edit.specs.Rules.{addEar, removeEar, up, down, both, entering, earAdded, neighbours, earRemoved, Away, rule}
+use Rattle.edit.specs.Rules.{addEar, removeEar, up, down, both, entering, earAdded, neighbours, earRemoved, Away, result, rule}
+use Rattle.edit.proofs.Result.{result-valid, result-over}
 use Rattle.edit.proofs.Rule.{Takes, given, rule-takes, rule-taken}
-use Rattle.edit.proofs.Renumber.{up-is, down-is, down-mono, down-up, renumbered-ascending, renumbered-free}
+use Rattle.edit.proofs.Renumber.{up-is, down-is, down-mono, down-same, down-up, renumbered-ascending, renumbered-free}
 use Rattle.edit.proofs.Reading.{entering-joins}
 use Rattle.edit.proofs.Enter.{remove-insert}
 use Rattle.edit.proofs.Add.{moved-ascending, entering-apart}
@@ -82,11 +87,9 @@ module _ (n k : ℕ) (ds : List Edge) (P : Triangulated n ds) (h : k < n) (b : 3
   pair-there = removed pair ds (omega (arith, remove-triangulated .full, length-map (remove pair ds) (both (down k)), P .full))
 
 pub remove-valid : (p : Polygon) (k : ℕ) → Valid p → Takes (removeEar k) p → Valid (given (removeEar k) p)
-remove-valid p k A (h, f, a) = record {
-  least = omega (arith, A .least);
-  most = omega (arith, A .most);
-  triangulated = remove-triangulated (p .n) k (p .ds) (A .triangulated) h (omega (arith, A .least)) a;
-}
+remove-valid p k A (h, f, a) =
+    let b : 3 < p .n = omega (arith, A .least) in
+    result-valid (p .n) _ _ _ (p .angles) (omega arith) (omega (arith, A .most)) (remove-triangulated (p .n) k (p .ds) (A .triangulated) h b a) (A .allowed)
 
 pub ear-diagonal : (p : Polygon) (k : ℕ) → Valid p → Takes (removeEar k) p → Mem (neighbours (p .n) k) (p .ds)
 ear-diagonal p k A (h, f, a) = pair-there (p .n) k (p .ds) (A .triangulated) h (omega (arith, A .least)) a
@@ -119,10 +122,39 @@ module _ (n i : ℕ) (ds : List Edge) (P : Triangulated n ds) (h : i < n) where
   unfolding earAdded earRemoved
   added-off = rw (← entering-joins n i, remove-insert (entering n i) (map (both (up i)) ds) (moved-ascending n i ds P h) (all-imp (λ e a. a .other) (entering-apart n i ds P h))) (down-up-edges i ds)
 
+  -- the angles that went up come down again, each with its diagonal
+  down-one : (x y : Edge) → Away (suc i) x → Away (suc i) y → both (down (suc i)) x ≡ both (down (suc i)) y → x ≡ y
+  unfolding both
+  down-one x y a b q = edge (down-same (suc i) (x .0) (y .0) (a .0) (b .0) (low-of q)) (down-same (suc i) (x .1) (y .1) (a .1) (b .1) (high-of q))
+
+  angles-off : (xs : Angles) → Allowed n xs → carried (map (both (down (suc i))) (earAdded n i ds)) (carried (map (both (up i)) ds) xs (earAdded n i ds)) ds ≡ xs
+  unfolding earAdded
+  angles-off xs A =
+      let F : List Edge = map (both (up i)) ds in
+      let Q : List Edge = insert (entering n i) F in
+      let sub : Sub F Q = λ e m. insert-mem (entering n i) F e (there m) in
+      let away : (e : Edge) → Mem e F → Away (suc i) e = λ e m. all-mem added-away (sub e m) in
+      let renamed = carried-renamed (both (down (suc i))) Q F (carried F xs Q) (λ x y m k. down-one x y (all-mem added-away m) (away y k)) in
+      let own = carried-self xs (distinct-of (moved-ascending n i ds P h)) (allowed-each n (length F) xs (omega (arith, length-map ds (both (up i)), P .full)) A) in
+      rw (down-up-edges i ds) at renamed ∙ (carried-via F Q F xs sub ∙ own)
+
+  result-off : (xs : Angles) → Allowed n xs → result n (map (both (down (suc i))) (earAdded n i ds)) (carried (map (both (up i)) ds) xs (earAdded n i ds)) ds ≡ record { n = n; ds = ds; angles = xs }
+  unfolding result choose
+  result-off xs A = let e = go (decLt 3 n) in λ j. record { n = n; ds = ds; angles = e j }
+    where
+      bare : (ys : Angles) → Allowed n ys → ¬ (3 < n) → none ≡ ys
+      bare none a f = refl
+      bare (each vs) a f = absurd (f (a .0))
+
+      go : (d : Dec (3 < n)) → choose d (carried (map (both (down (suc i))) (earAdded n i ds)) (carried (map (both (up i)) ds) xs (earAdded n i ds)) ds) none ≡ xs
+      go (yes k) = angles-off xs A
+      go (no k) = bare xs A k
+
 pub remove-added : (p : Polygon) (i : ℕ) {q : Polygon} → Valid p → rule (addEar i) p ≡ held q → rule (removeEar (suc i)) q ≡ held p
 remove-added p i A r =
     let ((h, k), g) = rule-taken (addEar i) p r in
     let P = A .triangulated in
+    let added = g ∙ result-over (suc (p .n)) _ _ (p .angles) (omega (arith, A .least)) in
     let size : suc (p .n) - 1 ≡ p .n = omega arith in
-    rw g (rule-takes (removeEar (suc i)) (given (addEar i) p) (omega arith, omega (arith, A .least), added-away (p .n) i (p .ds) P h)
-    ∙ rw (size, added-off (p .n) i (p .ds) P h))
+    rw added (rule-takes (removeEar (suc i)) _ (omega arith, omega (arith, A .least), added-away (p .n) i (p .ds) P h)
+    ∙ ap held (rw (size, added-off (p .n) i (p .ds) P h) (result-off (p .n) i (p .ds) P h (p .angles) (A .allowed))))

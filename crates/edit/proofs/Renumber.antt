@@ -30,8 +30,24 @@ down-is k x = go (decLt k x)
 pub up-mono : (i x y : ℕ) → x < y → up i x < up i y
 up-mono i x y h = omega (arith, up-is i x, up-is i y)
 
+pub up-same : (i x y : ℕ) → up i x ≡ up i y → x ≡ y
+up-same i x y e = go (decLt x y) (decLt y x)
+  where
+    go : Dec (x < y) → Dec (y < x) → x ≡ y
+    go (yes h) d = absurd (omega (arith, up-mono i x y h))
+    go (no h) (yes d) = absurd (omega (arith, up-mono i y x d))
+    go (no h) (no d) = omega arith
+
 pub down-mono : (k x y : ℕ) → ¬ (x ≡ k) → ¬ (y ≡ k) → x < y → down k x < down k y
 down-mono k x y f g h = omega (arith, down-is k x, down-is k y)
+
+pub down-same : (k x y : ℕ) → ¬ (x ≡ k) → ¬ (y ≡ k) → down k x ≡ down k y → x ≡ y
+down-same k x y f g e = go (decLt x y) (decLt y x)
+  where
+    go : Dec (x < y) → Dec (y < x) → x ≡ y
+    go (yes h) d = absurd (omega (arith, down-mono k x y f g h))
+    go (no h) (yes d) = absurd (omega (arith, down-mono k y x g f d))
+    go (no h) (no d) = omega arith
 
 pub down-up : (i x : ℕ) → down (suc i) (up i x) ≡ x
 down-up i x = omega (arith, up-is i x, down-is (suc i) (up i x))

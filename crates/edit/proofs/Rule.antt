@@ -1,11 +1,12 @@
 -- When a rule takes an edit, and what it then gives (`rule-takes`, `rule-taken`); else it refuses (`rule-settled`).
 use mathlib.Core.Path.{_≡_, refl, ap}
+use mathlib.Core.List.{map}
 use Prim.Native.Nat.{ℕ, suc, _-_, _<_}
 use Rattle.lists.specs.Lists.{Mem, All}
 use Rattle.polygon.specs.Polygon.{Polygon}
 use Rattle.polygon.specs.Order.{lower-first}
 use Rattle.sheet.specs.Sheet.{Reading, refused, held, ask}
-use Rattle.edit.specs.Rules.{Edit, addEar, removeEar, flip, Away, earAdded, earRemoved, flipped, rule}
+use Rattle.edit.specs.Rules.{Edit, addEar, removeEar, flip, up, down, both, Away, earAdded, earRemoved, flipped, result, rule}
 
 -- a test is passed, or it refuses
 ask-cases : {P : Type 0} (Q : Reading → Type 0) (k : ℕ) (d : Dec P) (r : Reading) → (¬ P → Q (refused k)) → (P → Q r) → Q (ask k d r)
@@ -21,9 +22,9 @@ Takes (flip a b) p = ((a < p .n) × (b < p .n)) × Mem (lower-first (a, b)) (p .
 
 -- what it then gives
 abbrev pub given : Edit → Polygon → Polygon
-given (addEar i) p = record { n = suc (p .n); ds = earAdded (p .n) i (p .ds) }
-given (removeEar k) p = record { n = p .n - 1; ds = earRemoved (p .n) k (p .ds) }
-given (flip a b) p = record { n = p .n; ds = flipped (p .n) (lower-first (a, b)) (p .ds) }
+given (addEar i) p = result (suc (p .n)) (map (both (up i)) (p .ds)) (p .angles) (earAdded (p .n) i (p .ds))
+given (removeEar k) p = result (p .n - 1) (map (both (down k)) (p .ds)) (p .angles) (earRemoved (p .n) k (p .ds))
+given (flip a b) p = result (p .n) (p .ds) (p .angles) (flipped (p .n) (lower-first (a, b)) (p .ds))
 
 abbrev pub Ruled : Edit → Polygon → Reading → Type 0
 Ruled e p (refused k) = ¬ Takes e p

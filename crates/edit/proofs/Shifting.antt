@@ -1,48 +1,79 @@
--- A table of keys renumbered place after place.
-use mathlib.Core.Path.{_≡_, ap, _∙_}
+-- A table of bends renumbered place after place: their edges are renumbered, and their angles stay.
+use mathlib.Core.Path.{_≡_, refl, ap, ap₂, sym, _∙_}
 use mathlib.Core.List.{List, [], _∷_, map, map-append}
-use Prim.Native.Nat.{ℕ, _+_, _/_, _%_, _<_, _≤_}
+use Prim.Native.Nat.{ℕ, _+_, _-_, _/_, _%_, _<_, _≤_}
 use native.Mathlib.Decide.{decLt}
 use native.Mathlib.Numerals.{add-one}
 use native.Mathlib.Omega.{arith}
-use lib.ListN.{length, take, set, getD, length-set}
+use lib.ListN.{length, take, set, getD, length-set, length-map, List·getD-map}
 use lib.Seq.{take-suc, take-suc-set, take-all}
-use Rattle.lists.specs.Lists.{choose}
-use Rattle.polygon.specs.Polygon.{_—_}
-use Rattle.keys.specs.Keys.{keyOf, edgeOf, edgesOf}
-use Rattle.keys.proofs.InOrder.{edge-of-key}
-use Rattle.edit.specs.declared.shift.Shift.the-variants.{Up}
+use Rattle.lists.specs.Lists.{all-cons, choose}
+use Rattle.keys.specs.Keys.{keyOf, edgeOf, edgesOf, pairOf, pairsOf, angleIn, anglesIn}
+use Rattle.keys.proofs.InOrder.{edge-of-key, edges-at}
+use Rattle.edit.specs.declared.shift.Shift.{Shift}
+use Rattle.edit.specs.declared.shift.Shift.the-variants.{Up, Down}
 use Rattle.edit.specs.Rules.{up, both}
-use Rattle.edit.specs.Tables.{moved}
+use Rattle.edit.specs.Tables.{moved, movedBend, Movable, AllMovable}
 
 -- the rule of an added corner is the case of one
 pub up-one : (i : ℕ) → moved (Up i 1) ≡ up i
 unfolding up
 up-one i = λ j x. choose (decLt i x) (add-one x j) x
 
--- what the loop keeps: the edges before j are renumbered by f
-pub record Mapping (f : ℕ → ℕ) (keys : List ℕ) (size : ℕ) (out : List ℕ) (j : ℕ) : Type 0 where
-  pub upto : j ≤ length keys
-  pub kept : length out ≡ size
-  pub done : edgesOf (take j out) ≡ map (both f) (edgesOf (take j keys))
+-- a bend with its corners renumbered: its edge, and its angle
+module _ (s : Shift) (b : ℕ) (low : moved s (edgeOf (pairOf b) .0) < 1024) (high : moved s (edgeOf (pairOf b) .1) < 1024) where
+  moved-pair : pairOf (movedBend s b) ≡ keyOf (both (moved s) (edgeOf (pairOf b)))
+  moved-pair = omega arith
 
-module _ {f : ℕ → ℕ} {keys : List ℕ} {size : ℕ} {out : List ℕ} {j : ℕ} (M : Mapping f keys size out j) where
-  pub mapping-next : length keys ≤ size → j < length keys → {a b v : ℕ} → a ≡ f (getD keys j 0 / 1024) → b ≡ f (getD keys j 0 % 1024) → b < 1024 → v ≡ keyOf (a — b)
-      → Mapping f keys size (set out j v) (j + 1)
+  moved-edge : edgeOf (pairOf (movedBend s b)) ≡ both (moved s) (edgeOf (pairOf b))
   unfolding both
-  mapping-next fits more {a} {b} {v} p q small e =
-      let k : ℕ = getD keys j 0 in
-      let new : edgeOf v ≡ both f (edgeOf k) = ap edgeOf e ∙ (edge-of-key (a — b) small ∙ rw (p, q)) in
-      let out-next = map-append edgeOf (take j out) (v ∷ []) in
-      let keys-next = map-append edgeOf (take j keys) (k ∷ []) in
-      let both-next = map-append (both f) (edgesOf (take j keys)) (edgeOf k ∷ []) in
-      record {
-        upto = omega arith;
-        kept = simp length-set (M .kept);
-        done = rw (add-one j, take-suc-set out j v (omega (arith, M .kept)), take-suc keys j 0 more, out-next, M .done, new, keys-next, both-next);
-      }
+  moved-edge = ap edgeOf moved-pair ∙ edge-of-key (both (moved s) (edgeOf (pairOf b))) high
 
-  pub mapping-end : length keys ≤ j → edgesOf (take (length keys) out) ≡ map (both f) (edgesOf keys)
+moved-angle : (s : Shift) (b : ℕ) → angleIn (movedBend s b) ≡ angleIn b
+moved-angle s b = let e : movedBend s b % 4096 ≡ b % 4096 = omega arith in ap (λ (c : ℕ). (c + 63736) % 65536) e
+
+-- the corners of bends that can be renumbered stay below 1,024
+moved-low : (s : Shift) (x : ℕ) → Movable s x → moved s x < 1024
+unfolding choose
+moved-low (Up at by) x (h, f) = go (decLt at x)
+  where
+    go : (d : Dec (at < x)) → choose d (x + by) x < 1024
+    go (yes l) = f l
+    go (no l) = h
+moved-low (Down at by) x (h, f) = go (decLt at x)
+  where
+    go : (d : Dec (at < x)) → choose d (x - by) x < 1024
+    go (yes l) = omega arith
+    go (no l) = h
+
+pub moved-edges : (s : Shift) (bs : List ℕ) → AllMovable s bs → edgesOf (pairsOf (map (movedBend s) bs)) ≡ map (both (moved s)) (edgesOf (pairsOf bs))
+moved-edges s [] a = refl
+moved-edges s (b ∷ bs) (all-cons (h, k) a) = ap₂ _∷_ (moved-edge s b (moved-low s _ h) (moved-low s _ k)) (moved-edges s bs a)
+
+pub moved-angles : (s : Shift) (bs : List ℕ) → anglesIn (map (movedBend s) bs) ≡ anglesIn bs
+moved-angles s [] = refl
+moved-angles s (b ∷ bs) = ap₂ _∷_ (moved-angle s b) (moved-angles s bs)
+
+-- the corners of the bend at j
+pub movable-at : (s : Shift) (bs : List ℕ) → AllMovable s bs → (j : ℕ) → j < length bs → Movable s (pairOf (getD bs j 0) / 1024) × Movable s (pairOf (getD bs j 0) % 1024)
+movable-at s bs a j h =
+    rw (List·getD-map pairOf bs j 0) at (edges-at {Q = λ e. Movable s (e .0) × Movable s (e .1)} (pairsOf bs) a j (omega (arith, length-map bs pairOf)))
+
+-- what the loop keeps: the bends before j are renumbered
+pub record Mapping (s : Shift) (bends : List ℕ) (size : ℕ) (out : List ℕ) (j : ℕ) : Type 0 where
+  pub upto : j ≤ length bends
+  pub kept : length out ≡ size
+  pub done : take j out ≡ map (movedBend s) (take j bends)
+
+module _ {s : Shift} {bends : List ℕ} {size : ℕ} {out : List ℕ} {j : ℕ} (M : Mapping s bends size out j) where
+  pub mapping-next : length bends ≤ size → j < length bends → {v : ℕ} → v ≡ movedBend s (getD bends j 0) → Mapping s bends size (set out j v) (j + 1)
+  mapping-next fits more {v} e = record {
+    upto = omega arith;
+    kept = simp length-set (M .kept);
+    done = rw (add-one j, take-suc-set out j v (omega (arith, M .kept)), take-suc bends j 0 more, M .done, e) (sym (map-append (movedBend s) (take j bends) (getD bends j 0 ∷ [])));
+  }
+
+  pub mapping-end : length bends ≤ j → take (length bends) out ≡ map (movedBend s) bends
   mapping-end h =
-      let e : j ≡ length keys = omega (arith, M .upto) in
-      rw (e, take-all (length keys) keys (omega arith)) at (M .done)
+      let e : j ≡ length bends = omega (arith, M .upto) in
+      rw (e, take-all (length bends) bends (omega arith)) at (M .done)

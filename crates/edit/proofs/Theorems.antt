@@ -6,9 +6,10 @@ use Prim.Native.Nat.{ℕ, suc, _≤_, _<_}
 use Rattle.lists.specs.Lists.{Mem}
 use Rattle.polygon.specs.Polygon.{Edge, Side, Joined, Polygon, Valid}
 use Rattle.polygon.specs.Order.{remove, insert, lower-first}
-use Rattle.sheet.specs.Sheet.{held, readSheet}
+use Rattle.polygon.specs.Carried.{angleAt}
+use Rattle.sheet.specs.Sheet.{held, angled, readSheet}
 use Rattle.sheet.specs.Refusals.{RefusedBy}
-use Rattle.edit.specs.Rules.{Edit, addEar, removeEar, flip, neighbours, common, rule, ruleTests}
+use Rattle.edit.specs.Rules.{Edit, addEar, removeEar, flip, up, down, both, entering, neighbours, common, flatAt, rule, ruleTests}
 use Rattle.edit.specs.Calls.{Call}
 use Rattle.edit.proofs.Rule as rules
 use Rattle.edit.proofs.Refusals as refusals
@@ -16,6 +17,7 @@ use Rattle.edit.proofs.Keeps as keeps
 use Rattle.edit.proofs.Reading as reading
 use Rattle.edit.proofs.Remove as ears
 use Rattle.edit.proofs.Flipped as flips
+use Rattle.edit.proofs.Angles as angles
 use Rattle.edit.proofs.List as list
 
 -- An edit that is taken gives a valid part.
@@ -45,14 +47,32 @@ common-reads = reading.common-reads
 pub two-common : (p : Polygon) (e : Edge) → Valid p → Mem e (p .ds) → (x : ℕ) × (y : ℕ) × (x < y) × (common (p .n) (p .ds) e ≡ x ∷ (y ∷ []))
 two-common = flips.two-common
 
--- Turning a diagonal puts one diagonal that was not there in its place, and turning that one gives the part back.
+-- Turning a diagonal puts one diagonal that was not there in its place, and turning that one gives the part back, but for the angle 0 at the diagonal.
 pub flip-back : (p q : Polygon) (a b : ℕ) → Valid p → rule (flip a b) p ≡ held q
-    → (f : Edge) × (q .ds ≡ insert f (remove (lower-first (a, b)) (p .ds))) × (¬ Mem f (p .ds)) × (rule (flip (f .0) (f .1)) q ≡ held p)
+    → (f : Edge) × (q .ds ≡ insert f (remove (lower-first (a, b)) (p .ds))) × (¬ Mem f (p .ds)) × (rule (flip (f .0) (f .1)) q ≡ held (flatAt (lower-first (a, b)) p))
 flip-back p q a b A r = flips.flip-back p a b A r
 
 -- A diagonal may be named in either order.
 pub flip-either : (a b : ℕ) (p : Polygon) → rule (flip a b) p ≡ rule (flip b a) p
 flip-either = reading.flip-either
+
+-- Request (xi). An edit leaves each diagonal its angle: a turned one was not there before (`flip-back`) and so starts at 0 (`angle-none` of the crate polygon),
+pub turn-angles : (p q : Polygon) (a b : ℕ) → Valid p → rule (flip a b) p ≡ held q → (d : Edge) → Mem d (q .ds) → angleAt q d ≡ angleAt p d
+turn-angles = angles.turn-angles
+
+-- the diagonal of an added corner starts at 0 and the others keep theirs under their new numbers,
+pub add-angles : (p q : Polygon) (i : ℕ) → Valid p → rule (addEar i) p ≡ held q
+    → ((d : Edge) → Mem d (p .ds) → angleAt q (both (up i) d) ≡ angleAt p d) × (angleAt q (entering (p .n) i) ≡ 0)
+add-angles = angles.add-angles
+
+-- and when a corner is taken off all keep theirs but the one that becomes a side.
+pub off-angles : (p q : Polygon) (k : ℕ) → Valid p → rule (removeEar k) p ≡ held q → 3 < q .n
+    → (d : Edge) → Mem d (p .ds) → ¬ (d ≡ neighbours (p .n) k) → angleAt q (both (down k) d) ≡ angleAt p d
+off-angles = angles.off-angles
+
+-- A result has angles exactly when the part before has and its own n is over 3.
+pub result-angled : (e : Edit) (p q : Polygon) → rule e p ≡ held q → (angled (q .angles) ≡ 1) ↔ ((angled (p .angles) ≡ 1) × (3 < q .n))
+result-angled = angles.result-angled
 
 -- THE LIST OF EDITS (demand 3, as far as it needs no chart). Calls of the three operations, from any accepted sheet, one after another, each on what the last taken one wrote:
 -- the numbers answered are the plain part's, and the sheet left is the plain part's normal sheet, or the first sheet if no edit was taken (`Follows` in List.antt).

@@ -1,33 +1,37 @@
 -- A diagonal turned in the code's table: it is taken out, and the pair of its ends' two common neighbours put in.
-use mathlib.Core.Path.{_≡_, ap, _∙_}
+use mathlib.Core.Path.{_≡_, refl, ap, sym, _∙_}
 use mathlib.Core.Logic.{_⊎_, inl, inr}
 use mathlib.Core.List.{List, [], _∷_}
-use Prim.Native.Nat.{ℕ, _+_, _-_, _≤_, _<_}
+use Prim.Native.Nat.{ℕ, _+_, _*_, _-_, _≤_, _<_}
 use native.Mathlib.Decide.{decLt}
 use native.Mathlib.Omega.{arith}
 use lib.ListN.{length, take, getD}
 use Rattle.lists.specs.Lists.{Mem, Sorted, all-cons, head, sorted-cons, tail}
-use Rattle.lists.proofs.Lists.{here, keep-sorted, not-empty, there}
+use Rattle.lists.proofs.Lists.{all-imp, all-mem, all-of, all-self, here, keep-sorted, not-empty, there}
 use Rattle.lists.proofs.Places.{below-sorted}
 use Rattle.polygon.specs.Polygon.{Edge, _—_}
 use Rattle.polygon.specs.Order.{insert, remove, lower-first}
-use Rattle.keys.specs.Keys.{keyOf, edgeOf, edgesOf}
-use Rattle.keys.specs.Sort.{merge}
-use Rattle.keys.specs.Change.{removeKey}
+use Rattle.polygon.proofs.Order.{remove-all}
+use Rattle.polygon.proofs.Sort.{distinct-of}
+use Rattle.keys.specs.Keys.{keyOf, edgeOf, pairsOf}
+use Rattle.keys.specs.Sort.{insertKey, merge}
+use Rattle.keys.specs.Change.{removePair}
 use Rattle.keys.proofs.InOrder.{edge-of-key}
+use Rattle.keys.proofs.Insert.{merge-one}
 use Rattle.keys.proofs.Removal.{edges-mem, mem-edges}
+use Rattle.keys.proofs.Beside.{edgesIn}
 use Rattle.sheet.specs.declared.Head.{Head}
 use Rattle.sheet.specs.Sheet.{refused}
 use Rattle.sheet.specs.declared.Read.the-variants.{Held}
-use Rattle.sheet.specs.Held.{polygonOf, InHand, Reads}
+use Rattle.sheet.specs.Held.{anglesBy, partOf, BentInHand, ReadsBent}
 use Rattle.sheet.proofs.Asks.{ask-yes, ask-no}
 use Rattle.sheet.proofs.Normal.{lower-first-same}
-use Rattle.edit.specs.Rules.{flip, rule, common}
+use Rattle.edit.specs.Rules.{flip, rule, common, flipped, result}
 use Rattle.edit.specs.Tables.{Near, Common}
 use Rattle.edit.proofs.Reading.{common-reads}
 use Rattle.edit.proofs.Quad.{across, joined-corners}
-use Rattle.edit.proofs.Flipped.{common-is, flipped-is}
-use Rattle.edit.proofs.InHand.{edited, inserted, Without, taken-out}
+use Rattle.edit.proofs.Flipped.{common-is, flipped-is, fresh}
+use Rattle.edit.proofs.InHand.{edited, result-part, keeps-angles, inserted, new-comes, Without, taken-out}
 
 -- two tables of near corners, and the first and second corner marked in both
 module _ (n a b : ℕ) (ds : List Edge) (p q : List ℕ) (A : Near n ds a p) (B : Near n ds b q) (x y : ℕ) (two : common n ds (a — b) ≡ x ∷ (y ∷ [])) where
@@ -76,8 +80,11 @@ module _ (n a b : ℕ) (ds : List Edge) (p q : List ℕ) (A : Near n ds a p) (B 
       go (l, inr e) = (e, omega (arith, marked y (there here) .0))
       go (l, inl e) = absurd (omega (arith, C .low))
 
-module _ {h : Head} {ks : List ℕ} (P : InHand h ks) (a b : ℕ) where
-  pub turn-outside : ¬ ((a < h .n) × (b < h .n)) → rule (flip a b) (polygonOf h ks) ≡ refused 9
+module _ {h : Head} {bs : List ℕ} (P : BentInHand h bs) (a b : ℕ) where
+  abbrev old : List ℕ
+  old = take (h .n - 3) bs
+
+  pub turn-outside : ¬ ((a < h .n) × (b < h .n)) → rule (flip a b) (partOf h bs) ≡ refused 9
   unfolding rule
   turn-outside f = ask-no 9 _ _ f
 
@@ -85,22 +92,32 @@ module _ {h : Head} {ks : List ℕ} (P : InHand h ks) (a b : ℕ) where
     edge-k : edgeOf k ≡ a — b
     edge-k = ap edgeOf K ∙ edge-of-key (a — b) (omega (arith, P .valid .most))
 
-    pub turn-lacks : ¬ Mem k (take (h .n - 3) ks) → rule (flip a b) (polygonOf h ks) ≡ refused 13
+    pub turn-lacks : ¬ Mem k (pairsOf old) → rule (flip a b) (partOf h bs) ≡ refused 13
     unfolding rule
-    turn-lacks f = ask-yes 9 _ _ (omega arith, inside) ∙ ask-no 13 _ _ (λ m. f (edges-mem k (take (h .n - 3) ks) (rw (edge-k, ← lower-first-same (a — b) up) m)))
+    turn-lacks f = ask-yes 9 _ _ (omega arith, inside) ∙ ask-no 13 _ _ (λ m. f (edges-mem k (pairsOf old) (rw (edge-k, ← lower-first-same (a — b) up) m)))
 
-    pub turn-out : Mem k (take (h .n - 3) ks) → {rest : List ℕ} → rest ≡ removeKey k (take (h .n - 3) ks) → Without h ks (a — b) rest
-    turn-out M = taken-out P (a — b) (rw edge-k at (mem-edges k (take (h .n - 3) ks) M)) K
+    pub turn-out : Mem k (pairsOf old) → {rest : List ℕ} → rest ≡ removePair k old → Without h bs (a — b) rest
+    turn-out M = taken-out P (a — b) (rw edge-k at (mem-edges k (pairsOf old) M)) K
 
-  pub flipped-over : a ≤ b → b < h .n → {rest : List ℕ} → Without h ks (a — b) rest → {other : ℕ} → ((x y : ℕ) → common (h .n) (edgesOf (take (h .n - 3) ks)) (a — b) ≡ x ∷ (y ∷ []) → other ≡ keyOf (x — y))
-      → (after : List ℕ) → take (1 + length rest) after ≡ merge (other ∷ []) rest → 1021 ≤ length after → Reads (rule (flip a b) (polygonOf h ks)) (Held h) after
-  flipped-over up inside {rest} W {other} O after I long =
+  pub flipped-over : a ≤ b → b < h .n → {rest : List ℕ} → Without h bs (a — b) rest → {other turned : ℕ}
+      → ((x y : ℕ) → common (h .n) (edgesIn old) (a — b) ≡ x ∷ (y ∷ []) → other ≡ keyOf (x — y)) → turned ≡ other * 4096 + 1800
+      → (after : List ℕ) → take (1 + length rest) after ≡ merge (turned ∷ []) rest → 1021 ≤ length after → ReadsBent (rule (flip a b) (partOf h bs)) (Held h) after
+  flipped-over up inside {rest} W {other} {turned} O B after I long =
       let T = P .valid .triangulated in
-      let ds : List Edge = edgesOf (take (h .n - 3) ks) in
+      let ds : List Edge = edgesIn old in
       let (f, A) = across (h .n) ds T (a — b) (W .member) in
       let low : f .1 < 1024 = omega (arith, joined-corners (h .n) ds T _ _ (A .low-high) .1, P .valid .most) in
-      let new : other ≡ keyOf f = O (f .0) (f .1) (common-is (h .n) ds T (a — b) f A) in
+      let key : turned ≡ keyOf f * 4096 + 1800 = B ∙ ap (λ (k : ℕ). k * 4096 + 1800) (O (f .0) (f .1) (common-is (h .n) ds T (a — b) f A)) in
       let m : h .n - 3 ≡ 1 + length rest = omega (arith, W .size) in
-      let edges : edgesOf (take (h .n - 3) after) ≡ insert f (remove (a — b) ds) = ap (λ (j : ℕ). edgesOf (take j after)) m ∙ (ap edgesOf I ∙ (inserted other f rest new low ∙ ap (insert f) (W .left))) in
-      let there : Mem (lower-first (a, b)) ds = rw (lower-first-same (a — b) up) (W .member) in
-      edited (flip a b) P ((omega arith, inside), there) (rw (edges, lower-first-same (a — b) up, flipped-is (h .n) ds T (a — b) f A)) long
+      let new : ¬ Mem f ds = fresh (h .n) ds T (a — b) f A (W .member) in
+      let newer : ¬ Mem f (edgesIn rest) = λ k. new (all-mem (remove-all (a — b) (all-self ds)) (rw (W .left) at k)) in
+      let edges : edgesIn (insertKey turned rest) ≡ insert f (remove (a — b) ds) = inserted turned f rest key low newer ∙ ap (insert f) (W .left) in
+      let first : take (h .n - 3) after ≡ insertKey turned rest = ap (λ (j : ℕ). take j after) m ∙ (I ∙ merge-one turned rest) in
+      let comes = new-comes turned f rest key low newer new (all-imp (λ c q. inl q) (all-of rest (W .kept))) in
+      let over : 3 < h .n = omega (arith, W .size) in
+      let same = lower-first-same (a — b) up in
+      let turn : insert f (remove (a — b) ds) ≡ flipped (h .n) (lower-first (a, b)) ds = rw same (sym (flipped-is (h .n) ds T (a — b) f A)) in
+      edited (flip a b) P ((omega arith, inside), rw same (W .member))
+      (result-part (h .angled) (h .n) old (insertKey turned rest) old refl (distinct-of (T .ascending)) comes after refl (keeps-angles (h .angled) (h .n) over) first
+      ∙ ap (result (h .n) ds (anglesBy (h .angled) old)) (edges ∙ turn))
+      long

@@ -1,4 +1,5 @@
 -- Document 01, "The plain part and demand 3": what the edit rules give, on n and the set of diagonals (kept as its ascending list). Request (xii): "the plain part keeps none", no part number.
+-- Request (xi): "The plain part keeps bit 3 and the angles by these same rules".
 -- An ear is a corner at which no diagonal ends, with its two sides.
 use mathlib.Core.Path.{_≡_}
 use mathlib.Core.Logic.{Dec·and}
@@ -6,8 +7,10 @@ use mathlib.Core.List.{List, [], _∷_, map}
 use Prim.Native.Nat.{ℕ, zero, suc, _+_, _-_}
 use native.Mathlib.Decide.{decLt, ℕ-discrete}
 use Rattle.lists.specs.Lists.{all?, below, choose, either?, keep, mem?, not?}
+use Rattle.polygon.specs.Angles.{Angles, none, each}
 use Rattle.polygon.specs.Polygon.{Edge, _—_, Side, Linked, Joined, Polygon}
 use Rattle.polygon.specs.Order.{same?, insert, remove, lower-first}
+use Rattle.polygon.specs.Carried.{angleOf, carried}
 use Rattle.sheet.specs.Sheet.{Reading, held, ask}
 
 -- an edit's kind and its numbers: "Add a corner on side i", "Take off corner k", "Turn diagonal (a,b)"
@@ -75,6 +78,20 @@ enter (x ∷ (y ∷ (z ∷ zs))) ds = ds
 unfoldable pub flipped : ℕ → Edge → List Edge → List Edge
 flipped n e ds = enter (common n ds e) (remove e ds)
 
+-- The part that an edit gives, n corners with the diagonals ds, where es are the diagonals before it under their new numbers and xs their angles.
+-- Each keeps its angle. "A turned diagonal starts at 0, as does the diagonal of an added corner": it is not among es. "an angle is dropped when its diagonal becomes a side": that one is not among ds.
+-- "A result has bit 3 exactly when a sheet it comes from has and its own n is over 3".
+unfoldable pub result : ℕ → List Edge → Angles → List Edge → Polygon
+result n es xs ds = record { n = n; ds = ds; angles = choose (decLt 3 n) (carried es xs ds) none }
+
+-- The part with the angle 0 at its diagonal e. (`flip-back` in proofs/Theorems.antt: what is left of a part when a diagonal is turned and turned back.)
+abbrev pub zeroAt : Edge → List Edge → Angles → Angles
+zeroAt e ds none = none
+zeroAt e ds (each vs) = each (map (λ d. choose (same? d e) 0 (angleOf ds vs d)) ds)
+
+abbrev pub flatAt : Edge → Polygon → Polygon
+flatAt e p = record { n = p .n; ds = p .ds; angles = zeroAt e (p .ds) (p .angles) }
+
 -- The rules. Add on side i: "Refused by 9 if i ≥ n, by 10 if n is 1,024."
 -- Take off k: "Refused by 9 if k ≥ n, by 11 if n is 3, by 12 if a diagonal ends at k."
 -- Turn (a,b): "Refused by 9 if a or b ≥ n, by 13 if the pair, either way round, is not in the set."
@@ -82,17 +99,17 @@ unfoldable pub rule : Edit → Polygon → Reading
 rule (addEar i) p =
     ask 9 (decLt i (p .n))
     (ask 10 (not? (ℕ-discrete (p .n) 1024))
-    (held (record { n = suc (p .n); ds = earAdded (p .n) i (p .ds) })))
+    (held (result (suc (p .n)) (map (both (up i)) (p .ds)) (p .angles) (earAdded (p .n) i (p .ds)))))
 rule (removeEar k) p =
     ask 9 (decLt k (p .n))
     (ask 11 (not? (ℕ-discrete (p .n) 3))
     (ask 12 (all? (away? k) (p .ds))
-    (held (record { n = p .n - 1; ds = earRemoved (p .n) k (p .ds) }))))
+    (held (result (p .n - 1) (map (both (down k)) (p .ds)) (p .angles) (earRemoved (p .n) k (p .ds))))))
 rule (flip a b) p =
     let e = lower-first (a, b) in
     ask 9 (Dec·and (decLt a (p .n)) (decLt b (p .n)))
     (ask 13 (mem? same? e (p .ds))
-    (held (record { n = p .n; ds = flipped (p .n) e (p .ds) })))
+    (held (result (p .n) (p .ds) (p .angles) (flipped (p .n) e (p .ds)))))
 
 -- the numbers that each rule refuses by
 abbrev pub ruleTests : Edit → List ℕ

@@ -2,17 +2,17 @@
 use mathlib.Core.Path.{_≡_}
 use mathlib.Core.Logic.{_⊎_}
 use mathlib.Core.List.{List}
-use Prim.Native.Nat.{ℕ, _+_, _-_, _<_, _≤_}
+use Prim.Native.Nat.{ℕ, _+_, _*_, _-_, _%_, _<_, _≤_}
 use native.Mathlib.Decide.{decLt}
 use lib.ListN.{getD}
 use Rattle.lists.specs.Lists.{All, choose}
 use Rattle.polygon.specs.Polygon.{Edge, Joined}
-use Rattle.keys.specs.Keys.{edgesOf}
+use Rattle.keys.specs.Keys.{keyOf, edgeOf, edgesOf, pairOf, pairsOf}
 use Rattle.edit.specs.declared.held.Edit as code
 use Rattle.edit.specs.declared.held.Edit.the-variants.{AddEar, RemoveEar, Flip}
 use Rattle.edit.specs.declared.shift.Shift.{Shift}
 use Rattle.edit.specs.declared.shift.Shift.the-variants.{Up, Down}
-use Rattle.edit.specs.Rules.{Edit, addEar, removeEar, flip}
+use Rattle.edit.specs.Rules.{Edit, addEar, removeEar, flip, both}
 
 -- the edit that the code's value stands for
 abbrev pub editOf : code.Edit → Edit
@@ -29,9 +29,13 @@ abbrev pub Movable : Shift → ℕ → Type 0
 Movable (Up at by) x = (x < 1024) × (at < x → x + by < 1024)
 Movable (Down at by) x = (x < 1024) × (at < x → by ≤ x)
 
--- the corners of the keys can be renumbered
+-- the corners of the bends can be renumbered
 abbrev pub AllMovable : Shift → List ℕ → Type 0
-AllMovable s ks = All (λ e. Movable s (e .0) × Movable s (e .1)) (edgesOf ks)
+AllMovable s bs = All (λ e. Movable s (e .0) × Movable s (e .1)) (edgesOf (pairsOf bs))
+
+-- a bend with its corners renumbered, and its angle
+abbrev pub movedBend : Shift → ℕ → ℕ
+movedBend s b = keyOf (both (moved s) (edgeOf (pairOf b))) * 4096 + b % 4096
 
 -- r is the other end of an edge with an end at c, or 1,024 if neither end is c
 abbrev pub OtherEnd : Edge → ℕ → ℕ → Type 0

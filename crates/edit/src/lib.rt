@@ -22,12 +22,13 @@ pub mod shift;
 pub fn edit(sheet: &[u8], e: Edit, out: &mut [u8]) -> Written
     ensures { λ r. ⌜ answered r (now (out .exit)) ≡ written (edited (editOf e) (now (sheet .entry))) (now (out .entry)) ⌝ }
 {
+    let mut bends = [0u32; DIAGONALS];
     let mut keys = [0u32; DIAGONALS];
-    match read_sheet(sheet, &mut keys) {
+    match read_sheet(sheet, &mut bends, &mut keys) {
         Read::Refused(k) => Written::Refused(k),
-        Read::Held(h) => match edit_part(h, &mut keys, e) {
+        Read::Held(h) => match edit_part(h, &mut bends, &keys, e) {
             Read::Refused(k) => Written::Refused(k),
-            Read::Held(g) => write_sheet(g, &keys, out),
+            Read::Held(g) => write_sheet(g, &bends, out),
         },
     }
 }

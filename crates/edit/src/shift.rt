@@ -1,11 +1,12 @@
-// Renumbering the corners of a table of keys: those above a corner go up or down.
+// Renumbering the corners of a table of bends: those above a corner go up or down, and each bend keeps its angle.
 ghost use mathlib.Core.Path.{_≡_};
 ghost use mathlib.Core.List.{map};
 ghost use Prim.Native.Nat.{_<_, _≤_};
 ghost use lib.ListN.{length, take};
-ghost use Rattle.keys.specs.Keys.{edgesOf};
-ghost use Rattle.edit.specs.Rules.{both};
-ghost use Rattle.edit.specs.Tables.{moved, Movable, AllMovable};
+ghost use Rattle.edit.specs.Tables.{moved, movedBend, Movable, AllMovable};
+use keys::bend::bend;
+use keys::bend::code;
+use keys::bend::pair;
 use keys::high;
 use keys::key;
 use keys::low;
@@ -27,16 +28,17 @@ fn moved(shift: Shift, x: usize) -> usize
     }
 }
 
-// Puts the keys with their corners renumbered at the front of `out`.
-pub fn renumber(keys: &[u32], shift: Shift, out: &mut [u32])
-    requires { ⌜ (length (now keys) ≤ length (now out)) × AllMovable shift (now keys) ⌝ }
-    ensures { λ _. ⌜ edgesOf (take (length (now (keys .entry))) (now (out .exit))) ≡ map (both (moved shift)) (edgesOf (now (keys .entry))) ⌝ }
+// Puts the bends with their corners renumbered at the front of `out`.
+pub fn renumber(bends: &[u32], shift: Shift, out: &mut [u32])
+    requires { ⌜ (length (now bends) ≤ length (now out)) × AllMovable shift (now bends) ⌝ }
+    ensures { λ _. ⌜ take (length (now (bends .entry))) (now (out .exit)) ≡ map (movedBend shift) (now (bends .entry)) ⌝ }
 {
     let mut j: usize = 0;
-    while j < keys.len() {
-        let a = moved(shift, low(keys[j]));
-        let b = moved(shift, high(keys[j]));
-        out[j] = key(a, b);
+    while j < bends.len() {
+        let k = pair(bends[j]);
+        let a = moved(shift, low(k));
+        let b = moved(shift, high(k));
+        out[j] = bend(key(a, b), code(bends[j]));
         j += 1;
     }
 }

@@ -5,12 +5,14 @@ use mathlib.Core.List.{List, [], _∷_, _++_}
 use Prim.Native.Nat.{ℕ}
 use native.Mathlib.Decide.{decLe, decLt, ℕ-discrete}
 use lib.ListN.{replicate}
-use Rattle.lists.specs.Lists.{All, all-cons, all-nil, all?, below, choose, either?, keep, mem?, not?, numbers, put, sorted?}
+use Rattle.lists.specs.Lists.{All, all-cons, all-nil, all?, below, choose, either?, keep, mem?, not?, numbers, put, recast?, sorted?, three?}
+use Rattle.polygon.specs.Angles.{in-range?, allowed?}
+use Rattle.polygon.specs.Carried.{angleOf, carried}
 use Rattle.polygon.specs.Order.{before?, same?, cross?, none-cross?, diagonal?, distinct?, place, insert, remove, sort, lower-first}
 use Rattle.codec.specs.Numbers.{run16}
 use Rattle.codec.specs.Answer.{fit, written}
-use Rattle.sheet.specs.Sheet.{ask, pairs, count?, more, readSheet, pairBytes, mapByte, normalSheet, outcome}
-use Rattle.edit.specs.Rules.{up, both, entering, earAdded, away?, side?, linked?, joined?, common, enter, flipped, rule}
+use Rattle.sheet.specs.Sheet.{ask, pairs, angles, count?, more, readSheet, pairBytes, mapByte, normalSheet, outcome}
+use Rattle.edit.specs.Rules.{up, down, both, entering, earAdded, neighbours, earRemoved, away?, side?, linked?, joined?, common, enter, flipped, result, rule}
 use Rattle.edit.specs.Calls.{onHeld, edited, called}
 use Rattle.edit_list.specs.Script.{editBy, editAt, edits, scriptOf, kinds?, rooms?, test, faultOf}
 use Rattle.edit_list.specs.Desk.{placed, other, answerOf, answeredDesk, deskStep, deskAfter, numbersOf}
@@ -35,6 +37,13 @@ squareWithBit2 = 7 ∷ 0 ∷ 4 ∷ 0 ∷ 0 ∷ 0 ∷ 2 ∷ 0 ∷ 0 ∷ 0 ∷ 9 �
 
 abbrev pub turnIn : ℕ → List ℕ
 turnIn room = 2 ∷ 0 ∷ 0 ∷ 0 ∷ 0 ∷ 0 ∷ 0 ∷ 0 ∷ 2 ∷ 0 ∷ 0 ∷ 0 ∷ room ∷ []
+
+-- the square with an angle at its diagonal; a corner taken off, and one added
+abbrev pub squareWithAngle : List ℕ
+squareWithAngle = 11 ∷ 0 ∷ 4 ∷ 0 ∷ 0 ∷ 0 ∷ 2 ∷ 0 ∷ 9 ∷ []
+
+abbrev pub offAndOn : List ℕ
+offAndOn = 1 ∷ 0 ∷ 0 ∷ 0 ∷ 0 ∷ 0 ∷ 0 ∷ 0 ∷ 0 ∷ 0 ∷ 0 ∷ 0 ∷ 9 ∷ 0 ∷ 0 ∷ 0 ∷ 0 ∷ 0 ∷ 0 ∷ 0 ∷ 0 ∷ 0 ∷ 0 ∷ 0 ∷ 0 ∷ 9 ∷ []
 
 -- a first sheet, a list, the bytes of the front buffer, of the back buffer and of the output for the numbers, and what running the list gives
 abbrev pub Run : Type 0
@@ -69,14 +78,32 @@ runs =
     )
     -- with room for six only: none is taken, and the first sheet, of eleven bytes, is left as it is
     ∷ (squareWithBit2, turnIn 6, replicate 7 7, replicate 7 8, replicate 4 9, record { number = 0; place = 0; size = 11; front = replicate 7 7; back = replicate 7 8; outs = 0 ∷ 8 ∷ 9 ∷ 9 ∷ [] })
+    -- with an angle: (0,2) turned, with room for eight bytes and for nine; (1,3) starts at 0, and bit 3 stays
+    ∷ (
+      squareWithAngle,
+      turnIn 8 ++ turnIn 9,
+      replicate 9 7,
+      replicate 9 8,
+      replicate 4 9,
+      record { number = 0; place = 1; size = 9; front = 11 ∷ 0 ∷ 4 ∷ 0 ∷ 1 ∷ 0 ∷ 3 ∷ 0 ∷ 0 ∷ []; back = replicate 9 8; outs = 0 ∷ 8 ∷ 0 ∷ 0 ∷ [] },
+    )
+    -- corner 0 off and a corner on again: the triangle has no bit 3, and so the square that is left has none
+    ∷ (
+      squareWithAngle,
+      turnIn 9 ++ offAndOn,
+      replicate 9 7,
+      replicate 9 8,
+      replicate 6 9,
+      record { number = 0; place = 1; size = 7; front = 3 ∷ 0 ∷ 4 ∷ 0 ∷ 0 ∷ 0 ∷ 2 ∷ 0 ∷ 0 ∷ []; back = 1 ∷ 0 ∷ 3 ∷ replicate 6 8; outs = replicate 6 0 },
+    )
     ∷ []
 
 pub known-runs : All (λ (x : Run). resultOf (x .0) (x .1) (x .2) (x .3) (x .4) ≡ x .5) runs
 unfolding resultOf finished numbered scriptOf edits editAt editBy faultOf test kinds? rooms? deskAfter deskStep numbersOf answerOf answeredDesk placed other
-    called edited onHeld outcome written fit run16 rule ask up both entering earAdded away? side? linked? joined? common enter flipped readSheet pairs
-    count? more pairBytes mapByte normalSheet Dec·and decLe decLt ℕ-discrete choose put keep numbers below not? either? all? sorted? mem?
+    called edited onHeld outcome written fit run16 rule ask up both entering earAdded away? side? linked? joined? common enter flipped result carried angleOf down neighbours earRemoved readSheet pairs angles
+    allowed? in-range? three? recast? count? more pairBytes mapByte normalSheet Dec·and decLe decLt ℕ-discrete choose put keep numbers below not? either? all? sorted? mem?
     before? same? cross? none-cross? diagonal? distinct? place insert remove sort lower-first
-known-runs = all-cons refl (all-cons refl (all-cons refl all-nil))
+known-runs = all-cons refl (all-cons refl (all-cons refl (all-cons refl (all-cons refl all-nil))))
 
 -- a list, the lengths of the front buffer, the back buffer and the output for the numbers, and the number of the first test that fails, or 0
 abbrev pub Case : Type 0

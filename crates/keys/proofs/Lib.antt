@@ -4,6 +4,8 @@ pub mod Merging
 pub mod Removal
 pub mod Buckets
 pub mod Counting
+pub mod Bends
 pub mod Apexes
 pub mod Crosses
 pub mod InOrder
+pub mod Beside

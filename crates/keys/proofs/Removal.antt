@@ -1,4 +1,4 @@
--- A key taken out, one step of a pass over the list at a time; keys and edges without one are the same.
+-- A bend taken out by its key, one step of a pass over the list at a time; bends and edges without one are the same.
 use mathlib.Core.Path.{_≡_, refl, ap, sym, _∙_}
 use mathlib.Core.List.{List, [], _∷_, _++_, append-nil}
 use Prim.Native.Nat.{ℕ, _+_, _<_, _≤_}
@@ -7,44 +7,44 @@ use native.Mathlib.Numerals.{add-one}
 use native.Mathlib.Omega.{arith}
 use lib.ListN.{length, take, set, getD, length-set}
 use lib.Seq.{take-suc, take-suc-set, take-all, length-take-le}
-use Rattle.lists.specs.Lists.{Mem, head, keep, not?, put, tail}
-use Rattle.lists.proofs.Lists.{keep-append}
+use Rattle.lists.specs.Lists.{Mem, Sub, head, keep, not?, put, tail}
+use Rattle.lists.proofs.Lists.{keep-append, keep-sub}
 use Rattle.polygon.specs.Polygon.{Edge}
 use Rattle.polygon.specs.Order.{same?, remove}
-use Rattle.keys.specs.Keys.{edgeOf, edgesOf}
-use Rattle.keys.specs.Change.{removeKey}
+use Rattle.keys.specs.Keys.{edgeOf, edgesOf, pairOf, pairsOf}
+use Rattle.keys.specs.Change.{removePair}
 
 module _ (k : ℕ) (xs : List ℕ) (y : ℕ) where
-  remove-same : y ≡ k → removeKey k (xs ++ (y ∷ [])) ≡ removeKey k xs
-  unfolding removeKey keep not? put
-  remove-same e = keep-append _ xs (y ∷ []) ∙ go (ℕ-discrete y k)
+  remove-same : pairOf y ≡ k → removePair k (xs ++ (y ∷ [])) ≡ removePair k xs
+  unfolding removePair keep not? put
+  remove-same e = keep-append _ xs (y ∷ []) ∙ go (ℕ-discrete (pairOf y) k)
     where
-      go : (d : Dec (y ≡ k)) → removeKey k xs ++ put (not? d) y [] ≡ removeKey k xs
-      go (yes p) = append-nil (removeKey k xs)
+      go : (d : Dec (pairOf y ≡ k)) → removePair k xs ++ put (not? d) y [] ≡ removePair k xs
+      go (yes p) = append-nil (removePair k xs)
       go (no p) = absurd (p e)
 
-  remove-other : ¬ (y ≡ k) → removeKey k (xs ++ (y ∷ [])) ≡ removeKey k xs ++ (y ∷ [])
-  unfolding removeKey keep not? put
-  remove-other f = keep-append _ xs (y ∷ []) ∙ go (ℕ-discrete y k)
+  remove-other : ¬ (pairOf y ≡ k) → removePair k (xs ++ (y ∷ [])) ≡ removePair k xs ++ (y ∷ [])
+  unfolding removePair keep not? put
+  remove-other f = keep-append _ xs (y ∷ []) ∙ go (ℕ-discrete (pairOf y) k)
     where
-      go : (d : Dec (y ≡ k)) → removeKey k xs ++ put (not? d) y [] ≡ removeKey k xs ++ (y ∷ [])
+      go : (d : Dec (pairOf y ≡ k)) → removePair k xs ++ put (not? d) y [] ≡ removePair k xs ++ (y ∷ [])
       go (yes p) = absurd (f p)
       go (no p) = refl
 
--- what the loop keeps: the first `left` keys of `out` are those before j without k
+-- what the loop keeps: the first `left` bends of `out` are those before j without that of k
 pub record Removing (k : ℕ) (keys : List ℕ) (size : ℕ) (out : List ℕ) (left j : ℕ) : Type 0 where
   pub upto : j ≤ length keys
   pub low : left ≤ j
   pub kept : length out ≡ size
-  pub done : take left out ≡ removeKey k (take j keys)
+  pub done : take left out ≡ removePair k (take j keys)
 
 pub removing-begin : (k : ℕ) (keys out : List ℕ) → Removing k keys (length out) out 0 0
-unfolding removeKey keep
+unfolding removePair keep
 removing-begin k keys out = record { upto = omega arith; low = omega arith; kept = refl; done = refl }
 
 module _ {k : ℕ} {keys : List ℕ} {size : ℕ} {out : List ℕ} {left j : ℕ} (R : Removing k keys size out left j) (fits : length keys ≤ size) where
   module _ (more : j < length keys) where
-    pub removing-same : getD keys j 0 ≡ k → Removing k keys size out left (j + 1)
+    pub removing-same : pairOf (getD keys j 0) ≡ k → Removing k keys size out left (j + 1)
     removing-same e = record {
       upto = omega arith;
       low = omega (arith, R .low);
@@ -52,7 +52,7 @@ module _ {k : ℕ} {keys : List ℕ} {size : ℕ} {out : List ℕ} {left j : ℕ
       done = R .done ∙ rw (add-one j, take-suc keys j 0 more) (sym (remove-same k (take j keys) (getD keys j 0) e));
     }
 
-    pub removing-other : ¬ (getD keys j 0 ≡ k) → Removing k keys size (set out left (getD keys j 0)) (left + 1) (j + 1)
+    pub removing-other : ¬ (pairOf (getD keys j 0) ≡ k) → Removing k keys size (set out left (getD keys j 0)) (left + 1) (j + 1)
     removing-other f = record {
       upto = omega arith;
       low = omega (arith, R .low);
@@ -62,25 +62,30 @@ module _ {k : ℕ} {keys : List ℕ} {size : ℕ} {out : List ℕ} {left j : ℕ
           (sym (remove-other k (take j keys) (getD keys j 0) f));
     }
 
-  pub removing-end : length keys ≤ j → (take left out ≡ removeKey k keys) × (left ≡ length (removeKey k keys))
+  pub removing-end : length keys ≤ j → (take left out ≡ removePair k keys) × (left ≡ length (removePair k keys))
   removing-end h =
-      let d : take left out ≡ removeKey k keys = R .done ∙ ap (removeKey k) (take-all j keys h) in
+      let d : take left out ≡ removePair k keys = R .done ∙ ap (removePair k) (take-all j keys h) in
       (d, sym (length-take-le left out (omega (arith, R .low, R .upto, R .kept))) ∙ ap length d)
 
 -- edges are the same only if their keys are
 key-of-edge : (x y : ℕ) → edgeOf x ≡ edgeOf y → x ≡ y
 key-of-edge x y e = omega (arith, ap (λ (p : Edge). p .0) e, ap (λ (p : Edge). p .1) e)
 
-pub remove-edges : (k : ℕ) (ks : List ℕ) → edgesOf (removeKey k ks) ≡ remove (edgeOf k) (edgesOf ks)
-unfolding removeKey remove keep put not?
+pub remove-edges : (k : ℕ) (bs : List ℕ) → edgesOf (pairsOf (removePair k bs)) ≡ remove (edgeOf k) (edgesOf (pairsOf bs))
+unfolding removePair remove keep put not?
 remove-edges k [] = refl
-remove-edges k (x ∷ xs) = go (ℕ-discrete x k) (same? (edgeOf x) (edgeOf k)) (remove-edges k xs)
+remove-edges k (b ∷ bs) = go (ℕ-discrete (pairOf b) k) (same? (edgeOf (pairOf b)) (edgeOf k)) (remove-edges k bs)
   where
-    go : (d : Dec (x ≡ k)) (e : Dec (edgeOf x ≡ edgeOf k)) → edgesOf (removeKey k xs) ≡ remove (edgeOf k) (edgesOf xs) → edgesOf (put (not? d) x (removeKey k xs)) ≡ put (not? e) (edgeOf x) (remove (edgeOf k) (edgesOf xs))
+    go : (d : Dec (pairOf b ≡ k)) (e : Dec (edgeOf (pairOf b) ≡ edgeOf k)) → edgesOf (pairsOf (removePair k bs)) ≡ remove (edgeOf k) (edgesOf (pairsOf bs))
+        → edgesOf (pairsOf (put (not? d) b (removePair k bs))) ≡ put (not? e) (edgeOf (pairOf b)) (remove (edgeOf k) (edgesOf (pairsOf bs)))
     go (yes p) (yes q) h = h
     go (yes p) (no q) h = absurd (q (ap edgeOf p))
-    go (no p) (yes q) h = absurd (p (key-of-edge x k q))
-    go (no p) (no q) h = ap (λ (l : List Edge). edgeOf x ∷ l) h
+    go (no p) (yes q) h = absurd (p (key-of-edge (pairOf b) k q))
+    go (no p) (no q) h = ap (λ (l : List Edge). edgeOf (pairOf b) ∷ l) h
+
+pub remove-sub : (k : ℕ) (bs : List ℕ) → Sub (removePair k bs) bs
+unfolding removePair
+remove-sub k bs = keep-sub _ bs
 
 -- a key is among the keys exactly if its edge is among the edges
 pub mem-edges : (k : ℕ) (ks : List ℕ) → Mem k ks → Mem (edgeOf k) (edgesOf ks)

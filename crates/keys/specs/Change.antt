@@ -1,8 +1,9 @@
--- A list of keys without one of them.
+-- A list of bends without that of a key.
 use mathlib.Core.List.{List}
 use Prim.Native.Nat.{ℕ}
 use native.Mathlib.Decide.{ℕ-discrete}
 use Rattle.lists.specs.Lists.{keep, not?}
+use Rattle.keys.specs.Keys.{pairOf}
 
-unfoldable pub removeKey : ℕ → List ℕ → List ℕ
-removeKey k ks = keep (λ x. not? (ℕ-discrete x k)) ks
+unfoldable pub removePair : ℕ → List ℕ → List ℕ
+removePair k bs = keep (λ b. not? (ℕ-discrete (pairOf b) k)) bs

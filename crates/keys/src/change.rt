@@ -1,21 +1,22 @@
-// A table without a key, and whether a key is in a table.
+// A table of bends without a key's, and whether a key is in a table.
 ghost use mathlib.Core.Path.{_≡_};
 ghost use mathlib.Core.Bool.{true, false};
 ghost use Prim.Native.Nat.{_≤_};
 ghost use lib.ListN.{length, take};
 ghost use Rattle.lists.specs.Lists.{Mem};
-ghost use Rattle.keys.specs.Change.{removeKey};
+ghost use Rattle.keys.specs.Change.{removePair};
+use crate::bend::pair;
 
-// Puts the keys other than k at the front of `out`, and says how many they are.
-pub fn remove(keys: &[u32], k: u32, out: &mut [u32]) -> usize
-    requires { ⌜ length (now keys) ≤ length (now out) ⌝ }
-    ensures { λ r. ⌜ (take r (now (out .exit)) ≡ removeKey k (now (keys .entry))) × (r ≡ length (removeKey k (now (keys .entry)))) ⌝ }
+// Puts the bends with another key than k at the front of `out`, and says how many they are.
+pub fn remove(bends: &[u32], k: u32, out: &mut [u32]) -> usize
+    requires { ⌜ length (now bends) ≤ length (now out) ⌝ }
+    ensures { λ r. ⌜ (take r (now (out .exit)) ≡ removePair k (now (bends .entry))) × (r ≡ length (removePair k (now (bends .entry)))) ⌝ }
 {
     let mut left: usize = 0;
     let mut j: usize = 0;
-    while j < keys.len() {
-        let y = keys[j];
-        if y != k {
+    while j < bends.len() {
+        let y = bends[j];
+        if pair(y) != k {
             out[left] = y;
             left += 1;
         }

@@ -1,10 +1,12 @@
 // Diagonals as keys in the code: the edge (a,b), lower corner first, is the number a * 1,024 + b, so that keys ascend as edges do.
-// sort.rt puts keys in order, merge.rt merges ascending tables, cross.rt finds out whether two diagonals cross, change.rt looks for a key and takes one out.
+// A bend is such a number with its angle beside it (bend.rt).
+// sort.rt puts bends in order, merge.rt merges ascending tables, cross.rt finds out whether two diagonals cross, change.rt looks for a key and takes a bend out.
 ghost use mathlib.Core.Path.{_≡_};
 ghost use Prim.Native.Nat.{_+_, _*_, _/_, _%_, _<_};
 ghost use Rattle.keys.specs.Keys.{keyOf};
 ghost use Rattle.polygon.specs.Polygon.{_—_};
 
+pub mod bend;
 pub mod change;
 pub mod cross;
 pub mod merge;

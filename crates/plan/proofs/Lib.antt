@@ -1,5 +1,6 @@
--- The counts (Counted, Counting) and the operation's answer (Answers, ReadBack).
+-- The counts (Counted, Counting) and the operation's answer (Answers, Bare, ReadBack).
 pub mod Counted
 pub mod Counting
 pub mod Answers
+pub mod Bare
 pub mod ReadBack

@@ -10,8 +10,7 @@ use Rattle.polygon.proofs.TreeTheorem.{tree-of}
 use Rattle.sheet.specs.Sheet.{Reading, held, readSheet}
 use Rattle.sheet.specs.Refusals.{sheetTests, RefusedBy, by, holds}
 use Rattle.sheet.proofs.Refusals.{read-refuses, tests-proper}
-use Rattle.sheet.proofs.Size.{read-counted}
-use Rattle.sheet.proofs.Valid.{read-triangulated}
+use Rattle.sheet.proofs.Valid.{read-valid}
 use Rattle.umbrella.specs.Best.{planOf}
 use Rattle.umbrella.proofs.Theorems.{umbrellas-bound}
 use Rattle.plan.specs.Answer.{PlanAnswer, answer, planned, PlanReadsBack}
@@ -27,8 +26,9 @@ held-small : (s : List ℕ) (p : Polygon) → readSheet s ≡ held p → Small (
 unfolding answer
 held-small s p e =
     let b = umbrellas-bound (planOf p) in
-    let t = tree-of (p .n) (p .ds) (read-triangulated s p e) .size in
-    let c = read-counted s p e .0 in
+    let v = read-valid s p e in
+    let t = tree-of (p .n) (p .ds) (v .triangulated) .size in
+    let c = v .most in
     record { number-small = omega arith; levels-small = omega (arith, b .0, b .2); umbrellas-small = omega (arith, b .2); stems-small = omega (arith, b .1, b .2) }
 
 planned-small : (s : List ℕ) → Small (planned s)

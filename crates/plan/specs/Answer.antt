@@ -1,4 +1,4 @@
--- Document 01, "Operations and their refusals": Plan gives levels, umbrellas and stems of the plan drawn, or a refusal 1 to 7 and zeros.
+-- Document 01, "Operations and their refusals": Plan gives levels, umbrellas and stems of the plan drawn, or a refusal 1 to 7, or 23 of request (xi), and zeros.
 use mathlib.Core.Path.{_≡_}
 use mathlib.Core.List.{List}
 use Prim.Native.Nat.{ℕ, _+_, _*_}

@@ -66,8 +66,9 @@ pub fn plan_part(h: Head, keys: &[u32]) -> Totals
 pub fn plan(sheet: &[u8]) -> Planned
     ensures { λ r. ⌜ plannedOf r ≡ planned (now (sheet .entry)) ⌝ }
 {
+    let mut bends = [0u32; DIAGONALS];
     let mut keys = [0u32; DIAGONALS];
-    match read_sheet(sheet, &mut keys) {
+    match read_sheet(sheet, &mut bends, &mut keys) {
         Read::Refused(k) => Planned::Refused(k),
         Read::Held(h) => {
             let c = plan_part(h, &keys);

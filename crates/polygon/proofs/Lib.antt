@@ -11,5 +11,7 @@ pub mod Apex
 pub mod PieceTheorem
 pub mod Crossing
 pub mod Scan
+pub mod Angles
+pub mod Signed
 pub mod Reading
 pub mod Theorems

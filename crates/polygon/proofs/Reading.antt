@@ -7,7 +7,7 @@ use native.Mathlib.Decide.{decLt, ℕ-discrete}
 use native.Mathlib.Omega.{arith}
 use Rattle.lists.specs.Lists.{Sub}
 use Rattle.lists.proofs.Lists.{sorted-same}
-use Rattle.polygon.specs.Polygon.{Edge, _—_, Side, Diagonal, Triangulated}
+use Rattle.polygon.specs.Polygon.{Edge, _—_, Side, Diagonal, Triangulated, Polygon, bare, Valid}
 use Rattle.polygon.proofs.Order.{one-way}
 
 -- a diagonal: two corners, lower first, that no side joins
@@ -24,6 +24,10 @@ diagonal-reads n a b = (there, back)
         go (yes p) q = absurd (f (inl (p, k)))
         go (no p) (yes q) = absurd (f (inr (omega arith, omega arith)))
         go (no p) (no q) = omega arith
+
+-- a valid part without its angles is valid
+pub bare-valid : (p : Polygon) → Valid p → Valid (bare p)
+bare-valid p v = record { least = v .least; most = v .most; triangulated = v .triangulated; allowed = tt }
 
 -- the set of diagonals determines the list
 pub same-set : (n m : ℕ) (ds es : List Edge) → Triangulated n ds → Triangulated m es → Sub ds es → Sub es ds → ds ≡ es

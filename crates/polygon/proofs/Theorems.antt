@@ -6,6 +6,7 @@ use Prim.Native.Nat.{ℕ, suc, _+_, _-_, _≤_}
 use native.Mathlib.Omega.{arith}
 use lib.ListN.{length}
 use Rattle.lists.specs.Lists.{All, Sub}
+use Rattle.polygon.specs.Angles.{Angles, Allowed}
 use Rattle.polygon.specs.Polygon.{Edge, Ascending, NoneCross, Diagonal, Polygon, Valid, Linked}
 use Rattle.polygon.specs.Tree.{Tree, leaf, span, inner, far, treeOf, itself, PieceOf}
 use Rattle.polygon.proofs.TreeTheorem.{tree-of, tree-unique, tree-triangulates}
@@ -22,9 +23,9 @@ polygon-is-tree p v =
     let T = tree-of (p .n) (p .ds) (v .triangulated) in
     (T .size, T .same, λ t h e. sym (tree-unique (p .n) (p .ds) t (v .least) (record { size = h; same = e })))
 
--- A tree of span 2 to 1,023 is a valid polygon: one corner more than its span, with its inner edges as diagonals.
-pub tree-is-polygon : (t : Tree) → 2 ≤ span t → span t ≤ 1023 → Valid (record { n = suc (span t); ds = inner 0 t })
-tree-is-polygon t h k = record { least = omega arith; most = omega arith; triangulated = tree-triangulates t h }
+-- A tree of span 2 to 1,023 is a valid polygon: one corner more than its span, with its inner edges as diagonals and any angles that are allowed.
+pub tree-is-polygon : (t : Tree) (xs : Angles) → 2 ≤ span t → span t ≤ 1023 → Allowed (suc (span t)) xs → Valid (record { n = suc (span t); ds = inner 0 t; angles = xs })
+tree-is-polygon t xs h k a = record { least = omega arith; most = omega arith; triangulated = tree-triangulates t h; allowed = a }
 
 -- "The whole part is the piece (0, n-1)."
 pub whole-part : (p : Polygon) → Valid p → PieceOf (p .n) (p .ds) 0 (treeOf (p .n) (p .ds)) × (0 + span (treeOf (p .n) (p .ds)) ≡ p .n - 1)

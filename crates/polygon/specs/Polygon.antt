@@ -1,4 +1,4 @@
--- Document 01, "The part": a triangulated polygon, n corners with n - 3 diagonals of which no two cross.
+-- Document 01, "The part": a triangulated polygon, n corners with n - 3 diagonals of which no two cross. Request (xi): a part with angles or without.
 -- The set of its diagonals is kept as one list, lower corner first, strictly ascending: two polygons with the same set have the same list.
 use mathlib.Core.Path.{_≡_}
 use mathlib.Core.Logic.{_⊎_}
@@ -6,6 +6,7 @@ use mathlib.Core.List.{List}
 use Prim.Native.Nat.{ℕ, suc, _+_, _≤_, _<_}
 use lib.ListN.{length}
 use Rattle.lists.specs.Lists.{All, Mem, Sorted}
+use Rattle.polygon.specs.Angles.{Angles, none, Allowed}
 
 -- an edge by its two corners, lower corner first
 abbrev pub Edge : Type 0
@@ -49,16 +50,22 @@ pub record Triangulated (n : ℕ) (ds : List Edge) : Type 0 where
   pub none-cross : NoneCross ds
   pub full : length ds + 3 ≡ n
 
--- a part
+-- a part; its angles, if it has any, stand in the order of its diagonals
 pub record Polygon : Type 0 where
   pub n : ℕ
   pub ds : List Edge
+  pub angles : Angles
+
+-- the same part without angles
+abbrev pub bare : Polygon → Polygon
+bare p = record { n = p .n; ds = p .ds; angles = none }
 
 -- "A part has n corners, 3 to 1,024"
 pub record Valid (p : Polygon) : Type 0 where
   pub least : 3 ≤ p .n
   pub most : p .n ≤ 1024
   pub triangulated : Triangulated (p .n) (p .ds)
+  pub allowed : Allowed (p .n) (p .angles)
 
 -- a side or a diagonal joins the lower corner x to the higher y; and either way round
 abbrev pub Linked : ℕ → List Edge → ℕ → ℕ → Type 0

@@ -3,12 +3,15 @@ use mathlib.Core.Path.{refl}
 use mathlib.Core.Logic.{Dec·and}
 use mathlib.Core.List.{flatMap}
 use native.Mathlib.Decide.{decLe, decLt, ℕ-discrete}
-use Rattle.lists.specs.Lists.{All, all-cons, all-nil, all?, below, choose, either?, keep, mem?, not?, numbers, put, sorted?}
+use Rattle.lists.specs.Lists.{All, all-cons, all-nil, all?, below, choose, either?, keep, mem?, not?, numbers, put, recast?, sorted?, three?}
+use Rattle.polygon.specs.Angles.{in-range?, allowed?}
+use Rattle.polygon.specs.Carried.{angleOf, carried}
 use Rattle.polygon.specs.Order.{before?, same?, cross?, none-cross?, diagonal?, distinct?, remove, place, insert, sort, lower-first}
 use Rattle.polygon.specs.Tree.{span, chordsAt, treeOf, grow, far, farther, near?}
 use Rattle.codec.specs.Answer.{fit, written}
-use Rattle.sheet.specs.Sheet.{ask, pairs, count?, more, readSheet, pairBytes, mapByte, normalSheet, outcome, ordered}
-use Rattle.edit.specs.Rules.{side?, linked?, joined?, common, enter, flipped, rule}
+use Rattle.codec.specs.Numbers.{run16}
+use Rattle.sheet.specs.Sheet.{ask, pairs, angles, count?, more, readSheet, pairBytes, mapByte, normalSheet, outcome, ordered}
+use Rattle.edit.specs.Rules.{up, down, both, entering, earAdded, neighbours, earRemoved, away?, result, side?, linked?, joined?, common, enter, flipped, rule}
 use Rattle.edit.specs.Calls.{onHeld, edited}
 use Rattle.umbrella.specs.Plan.{fold}
 use Rattle.umbrella.specs.Numbers.{ud}
@@ -24,13 +27,10 @@ use Rattle.draw.specs.Printed.{printedOf, printed}
 use Rattle.promises.specs.Known.{sheet, barsIn, columnsIn, Holds, cases}
 
 pub known : All Holds cases
-unfolding sheet barsIn columnsIn readSheet ask pairs count? more pairBytes mapByte normalSheet outcome ordered written fit Dec·and choose put keep
+unfolding sheet barsIn columnsIn readSheet ask pairs angles carried angleOf allowed? in-range? three? recast? count? more pairBytes run16 mapByte normalSheet outcome ordered written fit Dec·and choose put keep
     numbers below all? diagonal? distinct? sorted? not? mem? same? none-cross? cross? sort insert place before? either? lower-first remove decLe ℕ-discrete decLt
-    side? linked? joined? common enter flipped rule onHeld edited planned answer draw.drawn draw.charted printed printedOf digits decimal line
+    side? linked? joined? common enter flipped result up down both entering earAdded neighbours earRemoved away? rule onHeld edited planned answer draw.drawn draw.charted printed printedOf digits decimal line
     refusedLine chartOf chart layout treeOf grow far farther near? span chordsAt best umbrella leftAt rightAt stemAt over-node ud fold cols rows edges edgesAt
     edgesPast barsOf meets? first last stroke barBytes strokeBytes bytesOf flatMap
 known =
-    all-cons refl (all-cons refl (all-cons refl (all-cons refl (all-cons refl (all-cons refl (all-cons refl
-    (all-cons refl (all-cons refl (all-cons refl (all-cons refl (all-cons refl (all-cons refl (all-cons refl
-    (all-cons refl (all-cons refl (all-cons refl (all-cons refl (all-cons refl (all-cons refl (all-cons refl
-    (all-cons refl (all-cons refl (all-cons refl (all-cons refl all-nil))))))))))))))))))))))))
+    all-cons refl (all-cons refl (all-cons refl (all-cons refl (all-cons refl (all-cons refl (all-cons refl (all-cons refl (all-cons refl (all-cons refl (all-cons refl (all-cons refl (all-cons refl (all-cons refl (all-cons refl (all-cons refl (all-cons refl (all-cons refl (all-cons refl (all-cons refl (all-cons refl (all-cons refl (all-cons refl (all-cons refl (all-cons refl (all-cons refl (all-cons refl (all-cons refl (all-cons refl (all-cons refl (all-cons refl (all-cons refl (all-cons refl (all-cons refl (all-cons refl (all-cons refl (all-cons refl (all-cons refl (all-cons refl (all-cons refl (all-cons refl (all-cons refl (all-cons refl (all-cons refl (all-cons refl (all-cons refl (all-nil))))))))))))))))))))))))))))))))))))))))))))))

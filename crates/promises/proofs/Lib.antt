@@ -4,3 +4,4 @@ pub mod DemandTwo
 pub mod DemandOne
 pub mod Runs
 pub mod PartNumbers
+pub mod BendAngles

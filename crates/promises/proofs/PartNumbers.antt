@@ -26,7 +26,7 @@ use Rattle.promises.proofs.Runs.{alike-called, run-alike}
 use Rattle.promises.specs.PartNumbers.{NoBit2, WritesNone, SameAnswers, LeftBy, PartNumbersGo}
 
 normal-bare : (p : Polygon) → NoBit2 (normalSheet p)
-normal-bare p = rw (normal-map p) (map-byte (p .n) .bare)
+normal-bare p = rw (normal-map p) (map-byte (p .n) (p .angles) .bare)
 
 outcome-bare : (r : Reading) → WritesNone (outcome r)
 unfolding outcome

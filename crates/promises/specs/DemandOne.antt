@@ -1,6 +1,6 @@
 -- Demand 1: every answer is a finished result or one refusal. "A refusal gives its number and zeros, and changes no lent memory. Success gives 0; bytes or records beyond the result stay."
 -- One claim about every public operation, every input and everything lent to it.
--- `Finished`, `Refusal` and `Settled` are the two cases for an operation that writes bytes (crate codec, specs/Refusals.antt). The lists of numbers are document 01's, under each operation.
+-- `Finished`, `Refusal` and `Settled` are the two cases for an operation that writes bytes (crate codec, specs/Refusals.antt). The lists of numbers are document 01's, under each operation, and request (xi)'s: 23 "right after 7".
 use mathlib.Core.Path.{_≡_}
 use mathlib.Core.Logic.{_⊎_}
 use mathlib.Core.List.{List, [], _∷_}
@@ -85,18 +85,18 @@ RunAnswers ks first list = (front back outs : List ℕ)
 
 pub record DemandOne : Type 0 where
   -- Set in order
-  pub order : (s : List ℕ) → Answers (1 ∷ 2 ∷ 3 ∷ 4 ∷ 5 ∷ 6 ∷ 7 ∷ 8 ∷ []) (ordered s)
+  pub order : (s : List ℕ) → Answers (1 ∷ 2 ∷ 3 ∷ 4 ∷ 5 ∷ 6 ∷ 7 ∷ 23 ∷ 8 ∷ []) (ordered s)
   -- Add a corner on side i. "1 to 7 as above; 9: i ≥ n; 10: n is 1,024; 8."
-  pub add : (s : List ℕ) (i : ℕ) → Answers (1 ∷ 2 ∷ 3 ∷ 4 ∷ 5 ∷ 6 ∷ 7 ∷ 9 ∷ 10 ∷ 8 ∷ []) (edited (addEar i) s)
+  pub add : (s : List ℕ) (i : ℕ) → Answers (1 ∷ 2 ∷ 3 ∷ 4 ∷ 5 ∷ 6 ∷ 7 ∷ 23 ∷ 9 ∷ 10 ∷ 8 ∷ []) (edited (addEar i) s)
   -- Take off corner k. "1 to 7; 9: k ≥ n; 11: n is 3; 12: a diagonal ends at k; 8."
-  pub take-off : (s : List ℕ) (k : ℕ) → Answers (1 ∷ 2 ∷ 3 ∷ 4 ∷ 5 ∷ 6 ∷ 7 ∷ 9 ∷ 11 ∷ 12 ∷ 8 ∷ []) (edited (removeEar k) s)
+  pub take-off : (s : List ℕ) (k : ℕ) → Answers (1 ∷ 2 ∷ 3 ∷ 4 ∷ 5 ∷ 6 ∷ 7 ∷ 23 ∷ 9 ∷ 11 ∷ 12 ∷ 8 ∷ []) (edited (removeEar k) s)
   -- Turn diagonal (a,b). "1 to 7; 9: a or b ≥ n; 13: the part lacks it; 8."
-  pub turn : (s : List ℕ) (a b : ℕ) → Answers (1 ∷ 2 ∷ 3 ∷ 4 ∷ 5 ∷ 6 ∷ 7 ∷ 9 ∷ 13 ∷ 8 ∷ []) (edited (flip a b) s)
+  pub turn : (s : List ℕ) (a b : ℕ) → Answers (1 ∷ 2 ∷ 3 ∷ 4 ∷ 5 ∷ 6 ∷ 7 ∷ 23 ∷ 9 ∷ 13 ∷ 8 ∷ []) (edited (flip a b) s)
   -- Plan. "1 to 7."
-  pub plan : (s : List ℕ) → PlanAnswers (1 ∷ 2 ∷ 3 ∷ 4 ∷ 5 ∷ 6 ∷ 7 ∷ []) s
+  pub plan : (s : List ℕ) → PlanAnswers (1 ∷ 2 ∷ 3 ∷ 4 ∷ 5 ∷ 6 ∷ 7 ∷ 23 ∷ []) s
   -- Draw. "1 to 7; 8: either output too short." Without the bar list and with it:
-  pub draw : (s : List ℕ) → Answers (1 ∷ 2 ∷ 3 ∷ 4 ∷ 5 ∷ 6 ∷ 7 ∷ 8 ∷ []) (drawn s)
-  pub draw-bars : (s : List ℕ) → BothAnswers (1 ∷ 2 ∷ 3 ∷ 4 ∷ 5 ∷ 6 ∷ 7 ∷ 8 ∷ []) s
+  pub draw : (s : List ℕ) → Answers (1 ∷ 2 ∷ 3 ∷ 4 ∷ 5 ∷ 6 ∷ 7 ∷ 23 ∷ 8 ∷ []) (drawn s)
+  pub draw-bars : (s : List ℕ) → BothAnswers (1 ∷ 2 ∷ 3 ∷ 4 ∷ 5 ∷ 6 ∷ 7 ∷ 23 ∷ 8 ∷ []) s
   -- Read a chart. "14 .. 15 .. 16 .. 17 .. 18 .. 8."
   pub read-chart : (c : List ℕ) → Answers (14 ∷ 15 ∷ 16 ∷ 17 ∷ 18 ∷ 8 ∷ []) (chartRead c)
   -- A list of edits in bytes: 32 to 35 (crate edit_list, specs/Script.antt).

@@ -68,7 +68,7 @@ pub record DemandThree (s : List ℕ) (p : Polygon) (cs : List Call) : Type 0 wh
   -- "each column from 0 to columns - 1 is named by exactly one upright stroke."
   pub named : (j : ℕ) → j < chartLeft p cs .columns → (e : Edge) × Mem (upright e j) (chartLeft p cs .strokes) × ((f : Edge) → Mem (upright f j) (chartLeft p cs .strokes) → f ≡ e)
 
--- "the same n and the same set"
+-- "the same n and the same set", whatever the angles
 pub record SamePart (p q : Polygon) : Type 0 where
   pub corners : p .n ≡ q .n
   pub there : Sub (p .ds) (q .ds)

@@ -1,4 +1,4 @@
--- The known parts of document 01 that are marked M, one part more, and the known sheets of request (xii), as one list of cases, each on a sheet's bytes. proofs/Known.antt proves them all.
+-- The known parts of document 01 that are marked M, one part more, and the known sheets of requests (xi) and (xii), as one list of cases, each on a sheet's bytes. proofs/Known.antt proves them all.
 use mathlib.Core.Path.{_≡_}
 use mathlib.Core.List.{List, [], _∷_, _++_}
 use Prim.Native.Nat.{ℕ}
@@ -6,7 +6,7 @@ use Rattle.polygon.specs.Polygon.{Edge, _—_}
 use Rattle.codec.specs.Numbers.{bytes16}
 use Rattle.codec.specs.Answer.{Answer, write, written}
 use Rattle.sheet.specs.Sheet.{Reading, refused, held, readSheet, pairBytes, ordered}
-use Rattle.edit.specs.Rules.{flip}
+use Rattle.edit.specs.Rules.{Edit, addEar, removeEar, flip}
 use Rattle.edit.specs.Calls.{edited}
 use Rattle.plan.specs.Answer.{planned}
 use Rattle.chart.specs.Chart.{Bar, barsOf, chartOf}
@@ -24,6 +24,10 @@ numberedTriangle = 5 ∷ 0 ∷ 3 ∷ 0 ∷ 0 ∷ 0 ∷ 9 ∷ []
 
 abbrev pub numberedSquare : List ℕ
 numberedSquare = 7 ∷ 0 ∷ 4 ∷ 0 ∷ 2 ∷ 0 ∷ 0 ∷ 255 ∷ 255 ∷ 255 ∷ 255 ∷ []
+
+-- the square's sheet with bit 3 and these two bytes for its angle, its diagonal higher corner first
+abbrev pub bentSquare : ℕ → ℕ → List ℕ
+bentSquare high low = 11 ∷ 0 ∷ 4 ∷ 0 ∷ 2 ∷ 0 ∷ 0 ∷ high ∷ low ∷ []
 
 -- the triangle's line
 abbrev pub triangleLine : List ℕ
@@ -44,7 +48,7 @@ columnsIn (held p) = chartOf p .columns
 abbrev pub bar : ℕ → ℕ → ℕ → Bar
 bar r l s = record { row = r; left = l; right = s }
 
--- a case: a sheet refused by a number; one with these levels, umbrellas and stems; with these chart bytes; with these bars; with so many columns; a sheet whose diagonal is turned; one with this line;
+-- a case: a sheet refused by a number; one with these levels, umbrellas and stems; with these chart bytes; with these bars; with so many columns; a sheet whose diagonal is turned; one that is edited; one with this line;
 -- a sheet and an output, and the answer of setting in order
 pub data Case : Type 0 where
   refusedBy : List ℕ → ℕ → Case
@@ -53,6 +57,7 @@ pub data Case : Type 0 where
   barred : List ℕ → List Bar → Case
   wide : List ℕ → ℕ → Case
   turned : List ℕ → ℕ → ℕ → List ℕ → Case
+  changed : List ℕ → Edit → List ℕ → Case
   lined : List ℕ → List ℕ → Case
   inOrder : List ℕ → List ℕ → Answer → Case
 
@@ -63,6 +68,7 @@ Holds (charted s bs) = drawn s ≡ write bs
 Holds (barred s bs) = barsIn (readSheet s) ≡ bs
 Holds (wide s k) = columnsIn (readSheet s) ≡ k
 Holds (turned s a b t) = edited (flip a b) s ≡ write t
+Holds (changed s e t) = edited e s ≡ write t
 Holds (lined s bs) = printed s ≡ bs
 Holds (inOrder s out a) = written (ordered s) out ≡ a
 
@@ -106,13 +112,43 @@ cases =
     -- Not document 01's, whose bars are all of parts without a hung piece. Here (1,3) hangs on row 1, downwards and reversed, and (4,6) and (6,9) on row 2D, upwards; the stem is built from the right.
     ∷ counted manyHung 2 4 1
     ∷ barred manyHung (bar 0 0 12 ∷ bar 1 10 11 ∷ bar 3 9 10 ∷ bar 1 0 9 ∷ bar 4 0 1 ∷ bar 2 1 2 ∷ bar 4 2 5 ∷ bar 2 4 4 ∷ bar 2 5 6 ∷ bar 4 6 13 ∷ bar 0 13 13 ∷ [])
-    -- Request (xii), "A sheet that still has it is read and its four bytes are skipped": without them the length is not exact; bits 3 to 7 are refused as before.
+    -- Request (xii), "A sheet that still has it is read and its four bytes are skipped": without them the length is not exact
     ∷ refusedBy (5 ∷ 0 ∷ 3 ∷ []) 2
-    ∷ refusedBy (13 ∷ 0 ∷ 3 ∷ 0 ∷ 0 ∷ 0 ∷ 9 ∷ []) 1
     -- "the result has none": room for three bytes is enough, for two it is not
     ∷ inOrder numberedTriangle (7 ∷ 7 ∷ 7 ∷ []) (record { number = 0; size = 3; bytes = 1 ∷ 0 ∷ 3 ∷ [] })
     ∷ inOrder numberedTriangle (7 ∷ 7 ∷ []) (record { number = 8; size = 0; bytes = 7 ∷ 7 ∷ [] })
     ∷ turned numberedSquare 2 0 (sheet 4 ((1 — 3) ∷ []))
     -- "and the log prints `-` always"
     ∷ lined numberedTriangle triangleLine
+    -- Request (xi), "bit 3 with n = 3": 23, also behind the four bytes of bit 2; with two bytes more the length is not exact; with bit 1 it is 4. "Refusal 1 now covers bits 4 to 7."
+    ∷ refusedBy (9 ∷ 0 ∷ 3 ∷ []) 23
+    ∷ refusedBy (13 ∷ 0 ∷ 3 ∷ 0 ∷ 0 ∷ 0 ∷ 9 ∷ []) 23
+    ∷ refusedBy (9 ∷ 0 ∷ 3 ∷ 0 ∷ 0 ∷ []) 2
+    ∷ refusedBy (11 ∷ 0 ∷ 3 ∷ []) 4
+    ∷ refusedBy (17 ∷ 0 ∷ 3 ∷ []) 1
+    -- "an angle outside −1,800 to 1,800": −1,801, 1,801, 32,767 and −32,768; "none may be missing when the bit stands"
+    ∷ refusedBy (bentSquare 248 247) 23
+    ∷ refusedBy (bentSquare 7 9) 23
+    ∷ refusedBy (bentSquare 127 255) 23
+    ∷ refusedBy (bentSquare 128 0) 23
+    ∷ refusedBy (11 ∷ 0 ∷ 4 ∷ 0 ∷ 2 ∷ 0 ∷ 0 ∷ []) 2
+    -- −1,800 and 1,800, in all the room there must be; "An angle may be 0", and bit 3 is kept
+    ∷ inOrder (bentSquare 248 248) (7 ∷ 7 ∷ 7 ∷ 7 ∷ 7 ∷ 7 ∷ 7 ∷ 7 ∷ 7 ∷ []) (record { number = 0; size = 9; bytes = 11 ∷ 0 ∷ 4 ∷ 0 ∷ 0 ∷ 0 ∷ 2 ∷ 248 ∷ 248 ∷ [] })
+    ∷ inOrder (bentSquare 7 8) (7 ∷ 7 ∷ 7 ∷ 7 ∷ 7 ∷ 7 ∷ 7 ∷ 7 ∷ []) (record { number = 8; size = 0; bytes = 7 ∷ 7 ∷ 7 ∷ 7 ∷ 7 ∷ 7 ∷ 7 ∷ 7 ∷ [] })
+    ∷ inOrder (bentSquare 0 0) (7 ∷ 7 ∷ 7 ∷ 7 ∷ 7 ∷ 7 ∷ 7 ∷ 7 ∷ 7 ∷ []) (record { number = 0; size = 9; bytes = 11 ∷ 0 ∷ 4 ∷ 0 ∷ 0 ∷ 0 ∷ 2 ∷ 0 ∷ 0 ∷ [] })
+    -- "right after 7": two that cross, with angles out of range
+    ∷ refusedBy (11 ∷ (bytes16 5 ++ (pairBytes ((0 — 2) ∷ (1 — 3) ∷ []) ++ (127 ∷ 255 ∷ 128 ∷ 0 ∷ [])))) 7
+    -- "setting in order moves each with its pair": (1,3) with 10 and (3,0) with −1, behind the four bytes of bit 2
+    ∷ inOrder (15 ∷ (bytes16 5 ++ (pairBytes ((1 — 3) ∷ (3 — 0) ∷ []) ++ (9 ∷ 9 ∷ 9 ∷ 9 ∷ 0 ∷ 10 ∷ 255 ∷ 255 ∷ [])))) (7 ∷ 7 ∷ 7 ∷ 7 ∷ 7 ∷ 7 ∷ 7 ∷ 7 ∷ 7 ∷ 7 ∷ 7 ∷ 7 ∷ 7 ∷ 7 ∷ 7 ∷ [])
+    (record { number = 0; size = 15; bytes = 11 ∷ (bytes16 5 ++ (pairBytes ((0 — 3) ∷ (1 — 3) ∷ []) ++ (255 ∷ 255 ∷ 0 ∷ 10 ∷ []))) })
+    -- "A turned diagonal starts at 0", also when it is turned back
+    ∷ turned (bentSquare 1 194) 2 0 (11 ∷ 0 ∷ 4 ∷ 0 ∷ 1 ∷ 0 ∷ 3 ∷ 0 ∷ 0 ∷ [])
+    ∷ turned (11 ∷ 0 ∷ 4 ∷ 0 ∷ 1 ∷ 0 ∷ 3 ∷ 0 ∷ 0 ∷ []) 1 3 (11 ∷ 0 ∷ 4 ∷ 0 ∷ 0 ∷ 0 ∷ 2 ∷ 0 ∷ 0 ∷ [])
+    -- "as does the diagonal of an added corner"; "its own n is over 3": a corner off, and one on again
+    ∷ changed (bentSquare 1 194) (addEar 3) (11 ∷ (bytes16 5 ++ (pairBytes ((0 — 2) ∷ (0 — 3) ∷ []) ++ (1 ∷ 194 ∷ 0 ∷ 0 ∷ []))))
+    ∷ changed (bentSquare 1 194) (removeEar 1) (sheet 3 [])
+    ∷ changed (sheet 3 []) (addEar 0) (sheet 4 ((0 — 2) ∷ []))
+    -- "The chart doesn't depend on angles."
+    ∷ counted (bentSquare 1 194) 1 1 0
+    ∷ barred (bentSquare 1 194) (bar 0 0 1 ∷ bar 2 0 0 ∷ bar 2 1 2 ∷ bar 0 2 2 ∷ [])
     ∷ []

@@ -1,6 +1,7 @@
--- Read beside document 01, and beside request (xii).
+-- Read beside document 01, and beside requests (xi) and (xii).
 pub mod DemandOne
 pub mod DemandTwo
 pub mod DemandThree
 pub mod PartNumbers
+pub mod BendAngles
 pub mod Known

@@ -1,5 +1,5 @@
 -- Request (xii), "Part numbers go", sentence by sentence. `skipped s` is the sheet s without bit 2 and its four bytes; `OnlyThere s t` says that s and t differ only there (crate sheet,
--- specs/Skipped.antt). "the plain part keeps none": a `Polygon` is n and the diagonals, and nothing else.
+-- specs/Skipped.antt). "the plain part keeps none": a `Polygon` is n, the diagonals and their angles, and nothing else.
 use mathlib.Core.Path.{_≡_}
 use mathlib.Core.Bool.{true, false}
 use mathlib.Core.List.{List, [], _∷_, _++_, map}
@@ -66,8 +66,9 @@ pub record PartNumbersGo : Type 0 where
   pub skips : (s : List ℕ) → readSheet s ≡ readSheet (skipped s)
   -- "and the log prints `-` always.": it begins `part - `
   pub log : (f : Facts) → take 7 (line f) ≡ 112 ∷ 97 ∷ 114 ∷ 116 ∷ 32 ∷ 45 ∷ 32 ∷ []
-  -- "Two sheets that differ only there", as a sheet that ends with its pairs, without bit 2, and the same sheet with bit 2 and any four bytes behind it,
-  pub there : (m : ℕ) (bs four : List ℕ) → bit2 m ≡ 0 → length (m ∷ bs) ≡ pairsEnd (m ∷ bs) → length four ≡ 4 → OnlyThere (m ∷ bs) ((m + 4) ∷ (bs ++ four))
+  -- "Two sheets that differ only there", as a sheet without bit 2 and the same sheet with bit 2 and any four bytes behind its pairs, before its angles if it has any,
+  pub there : (m : ℕ) (front four back : List ℕ) → bit2 m ≡ 0 → length (m ∷ front) ≡ pairsEnd (m ∷ front) → length four ≡ 4
+      → OnlyThere (m ∷ (front ++ back)) ((m + 4) ∷ (front ++ (four ++ back)))
   -- "now give the same normal sheet.": and the same plan, chart and line
   pub same : (s t : List ℕ) → OnlyThere s t → SameAnswers s t
   -- "The rule .. that a number is kept lapses": after a list of edits the sheet left has no bit 2, or is the first one, bit 2 and all, if no edit was taken

@@ -6,17 +6,23 @@ use native.Mathlib.Decide.{decLt, ℕ-discrete}
 use native.Mathlib.Omega.{arith}
 use lib.Count.{ones, ones-step}
 use Rattle.lists.proofs.Lists.{choose-no, choose-yes}
-use Rattle.sheet.specs.Sheet.{bit0, bit1, bit2, field, sheetLength, more}
+use Rattle.sheet.specs.Sheet.{bit0, bit1, bit2, bit3, field, sheetLength, anglesAt, more}
 
 no-ones : (m : ℕ) → m ≡ 0 → ones m ≡ 0
 unfolding ones
 no-ones m e = rw e
 
--- "The number of fields present is the number of bits that stand"
-pub fields : (m : ℕ) → m < 8 → ones m ≡ bit0 m + bit1 m + bit2 m
-fields m h =
+three-bits : (m : ℕ) → m < 8 → ones m ≡ bit0 m + bit1 m + bit2 m
+three-bits m h =
     let e : m / 2 / 2 ≡ m / 4 = omega arith in
     omega (arith, ones-step m, ones-step (m / 2), ones-step (m / 2 / 2), no-ones (m / 2 / 2 / 2) (omega arith))
+
+-- "The number of fields present is the number of bits that stand"
+pub fields : (m : ℕ) → m < 16 → ones m ≡ bit0 m + bit1 m + bit2 m + bit3 m
+fields m h =
+    let e : m / 2 / 2 ≡ m / 4 = omega arith in
+    let f : m / 2 / 4 ≡ m / 8 = omega arith in
+    ones-step m ∙ rw (three-bits (m / 2) (omega arith), e, f) (omega arith)
 
 -- bit 1 stands exactly when n > 3
 pub more-yes : (n : ℕ) → 3 < n → more n ≡ 1
@@ -56,12 +62,17 @@ field-is zero size h = omega arith
 field-is (suc zero) size h = omega arith
 field-is (suc (suc b)) size h = absurd (omega arith)
 
-pub length-is : (m n : ℕ) → bit0 m ≡ 1 → 3 ≤ n → bit1 m ≡ more n → sheetLength m n ≡ 3 + 4 * (n - 3) + 4 * bit2 m
+pub length-is : (m n : ℕ) → bit0 m ≡ 1 → 3 ≤ n → bit1 m ≡ more n → sheetLength m n ≡ anglesAt m n + field (bit3 m) (2 * (n - 3))
 length-is m n low least agrees = go (decLt 3 n)
   where
-    last : field (bit2 m) 4 ≡ bit2 m * 4
-    last = field-is (bit2 m) 4 (omega arith)
+    go : Dec (3 < n) → sheetLength m n ≡ anglesAt m n + field (bit3 m) (2 * (n - 3))
+    go (yes h) = rw (low, agrees, more-yes n h)
+    go (no h) = let e : n ≡ 3 = omega arith in rw (low, agrees, more-no n (omega arith), e)
 
-    go : Dec (3 < n) → sheetLength m n ≡ 3 + 4 * (n - 3) + 4 * bit2 m
-    go (yes h) = rw (low, agrees, more-yes n h) (omega (arith, last))
-    go (no h) = rw (low, agrees, more-no n (omega arith)) (omega (arith, last))
+-- where the angles stand, and how many bytes they have at most
+pub angles-at : (m n : ℕ) → anglesAt m n ≡ 3 + 4 * (n - 3) + 4 * bit2 m
+angles-at m n = omega (arith, field-is (bit2 m) 4 (omega arith))
+
+pub field-most : (b size : ℕ) → field b size ≤ size
+field-most zero size = omega arith
+field-most (suc b) size = omega arith

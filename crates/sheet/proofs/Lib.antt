@@ -5,6 +5,7 @@ pub mod Valid
 pub mod Accepts
 pub mod Back
 pub mod Known
+pub mod Coded
 pub mod Pairs
 pub mod Frame
 pub mod Found

@@ -1,21 +1,23 @@
 -- Writing a normal sheet field by field into an output: stores one behind the other are the sheet's bytes, followed by what was there.
-use mathlib.Core.Path.{_≡_, refl, ap, sym}
-use mathlib.Core.List.{List, [], _∷_, _++_, map-append}
-use Prim.Native.Nat.{ℕ, _+_, _*_, _-_, _/_, _%_, _≤_, _<_}
+use mathlib.Core.Path.{_≡_, refl, ap, sym, _∙_}
+use mathlib.Core.Bool.{Bool, true, false}
+use mathlib.Core.List.{List, [], _∷_, _++_, map, map-append}
+use Prim.Native.Nat.{ℕ, zero, suc, _+_, _*_, _-_, _/_, _%_, _≤_, _<_}
 use native.Mathlib.Numerals.{add-one}
 use native.Mathlib.Omega.{arith}
-use lib.ListN.{length, take, set, getD, length-map}
+use lib.ListN.{length, take, drop, set, getD, length-append, length-map}
 use lib.Seq.{sets, take-suc, length-take-le}
 use Rattle.polygon.specs.Polygon.{Edge}
-use Rattle.codec.specs.Numbers.{bytes16}
+use Rattle.codec.specs.Numbers.{bytes16, run16}
+use Rattle.codec.proofs.Numbers.{length-run16, run16-next}
 use Rattle.codec.specs.Answer.{Answer, refusal, written, write}
 use Rattle.lists.proofs.Stores.{sets-append, sets-front}
 use Rattle.codec.proofs.Answers.{written-short, written-fits}
-use Rattle.keys.specs.Keys.{edgeOf, edgesOf}
+use Rattle.keys.specs.Keys.{edgeOf, edgesOf, pairOf, pairsOf, angleIn, anglesIn}
 use Rattle.sheet.specs.declared.Head.{Head}
-use Rattle.sheet.specs.Sheet.{pairBytes, mapByte, normalSheet}
-use Rattle.sheet.specs.Held.{polygonOf, InHand}
-use Rattle.sheet.proofs.Hand.{keys-count}
+use Rattle.sheet.specs.Sheet.{field, pairBytes, angleBytes, mapByte, normalSheet}
+use Rattle.sheet.specs.Held.{bit, anglesBy, partOf, BentInHand}
+use Rattle.sheet.proofs.Hand.{bends-count}
 use Rattle.sheet.proofs.Normal.{pairs-length}
 
 pairs-snoc : (es : List Edge) (e : Edge) → pairBytes (es ++ (e ∷ [])) ≡ pairBytes es ++ (bytes16 (e .0) ++ bytes16 (e .1))
@@ -24,34 +26,85 @@ pairs-snoc [] e = refl
 pairs-snoc (x ∷ es) e = ap (λ (l : List ℕ). bytes16 (x .0) ++ (bytes16 (x .1) ++ l)) (pairs-snoc es e)
 
 -- one more edge: in the list, and in an output
-pub edges-more : (ks : List ℕ) (j : ℕ) → j < length ks → edgesOf (take (j + 1) ks) ≡ edgesOf (take j ks) ++ (edgeOf (getD ks j 0) ∷ [])
-edges-more ks j h = rw (add-one j, take-suc ks j 0 h) (map-append edgeOf (take j ks) (getD ks j 0 ∷ []))
+edges-more : (bs : List ℕ) (j : ℕ) → j < length bs → edgesOf (pairsOf (take (j + 1) bs)) ≡ edgesOf (pairsOf (take j bs)) ++ (edgeOf (pairOf (getD bs j 0)) ∷ [])
+edges-more bs j h = rw (add-one j, take-suc bs j 0 h, map-append pairOf (take j bs) (getD bs j 0 ∷ [])) (map-append edgeOf (pairsOf (take j bs)) (pairOf (getD bs j 0) ∷ []))
 
-pub edges-next : (keys out : List ℕ) (at i : ℕ) → i < length keys
-    → sets (sets (sets out at (pairBytes (edgesOf (take i keys)))) (at + i * 4) (bytes16 (getD keys i 0 / 1024))) (at + i * 4 + 2) (bytes16 (getD keys i 0 % 1024))
-    ≡ sets out at (pairBytes (edgesOf (take (i + 1) keys)))
-edges-next keys out at i h =
-    let es : List Edge = edgesOf (take i keys) in
-    let k : ℕ = getD keys i 0 in
-    let n : length (pairBytes es) ≡ i * 4 = omega (arith, pairs-length es, length-map (take i keys) edgeOf, length-take-le i keys (omega arith)) in
+pub edges-next : (bends out : List ℕ) (at i : ℕ) → i < length bends
+    → sets (sets (sets out at (pairBytes (edgesOf (pairsOf (take i bends))))) (at + i * 4) (bytes16 (pairOf (getD bends i 0) / 1024))) (at + i * 4 + 2) (bytes16 (pairOf (getD bends i 0) % 1024))
+    ≡ sets out at (pairBytes (edgesOf (pairsOf (take (i + 1) bends))))
+edges-next bends out at i h =
+    let es : List Edge = edgesOf (pairsOf (take i bends)) in
+    let k : ℕ = pairOf (getD bends i 0) in
+    let n : length (pairBytes es) ≡ i * 4 = omega (arith, pairs-length es, length-map (pairsOf (take i bends)) edgeOf, length-map (take i bends) pairOf, length-take-le i bends (omega arith)) in
     let high : List ℕ = bytes16 (k / 1024) in
     let low : List ℕ = bytes16 (k % 1024) in
-    rw (edges-more keys i h, pairs-snoc es (edgeOf k), sets-append (pairBytes es) (high ++ low) out at, n, sets-append high low (sets out at (pairBytes es)) (at + i * 4))
+    rw (edges-more bends i h, pairs-snoc es (edgeOf k), sets-append (pairBytes es) (high ++ low) out at, n, sets-append high low (sets out at (pairBytes es)) (at + i * 4))
+
+map-take : {A B : Type 0} (f : A → B) (xs : List A) (i : ℕ) → map f (take i xs) ≡ take i (map f xs)
+map-take f xs zero = refl
+map-take f [] (suc i) = refl
+map-take f (x ∷ xs) (suc i) = ap (λ (l : List _). f x ∷ l) (map-take f xs i)
+
+map-at : (f : ℕ → ℕ) (xs : List ℕ) (i : ℕ) → i < length xs → getD (map f xs) i 0 ≡ f (getD xs i 0)
+map-at f [] i h = absurd (omega arith)
+map-at f (x ∷ xs) zero h = refl
+map-at f (x ∷ xs) (suc i) h = map-at f xs i (omega arith)
+
+-- one more angle
+pub angles-next : (bends out : List ℕ) (at i : ℕ) → i < length bends
+    → sets (sets out at (run16 (anglesIn (take i bends)))) (at + i * 2) (bytes16 (angleIn (getD bends i 0))) ≡ sets out at (run16 (anglesIn (take (i + 1) bends)))
+angles-next bends out at i h = rw (map-take angleIn bends i, map-take angleIn bends (i + 1), ← map-at angleIn bends i h) (run16-next (anglesIn bends) out at i (omega (arith, length-map bends angleIn)))
+
+-- the angles' bit, and their bytes, by the head
+pub map-of : (n : ℕ) (b : Bool) (bs : List ℕ) → mapByte n (anglesBy b []) ≡ mapByte n (anglesBy b bs)
+unfolding mapByte
+map-of n true bs = refl
+map-of n false bs = refl
+
+bytes-by : (b : Bool) (bs : List ℕ) → length (angleBytes (anglesBy b bs)) ≡ field (bit b) (2 * length bs)
+bytes-by true bs = omega (arith, length-run16 (anglesIn bs), length-map bs angleIn)
+bytes-by false bs = refl
 
 -- the part that the code holds
-module _ {h : Head} {ks : List ℕ} (P : InHand h ks) (out : List ℕ) where
-  sheet-size : length (normalSheet (polygonOf h ks)) ≡ 3 + (h .n - 3) * 4
+module _ {h : Head} {bs : List ℕ} (P : BentInHand h bs) (out : List ℕ) where
+  abbrev bends : List ℕ
+  bends = take (h .n - 3) bs
+
+  abbrev size : ℕ
+  size = 3 + 4 * (h .n - 3) + field (bit (h .angled)) (2 * (h .n - 3))
+
+  pairs-size : length (pairBytes (edgesOf (pairsOf bends))) ≡ 4 * (h .n - 3)
+  pairs-size = omega (arith, pairs-length (edgesOf (pairsOf bends)), length-map (pairsOf bends) edgeOf, length-map bends pairOf, bends-count P)
+
+  sheet-size : length (normalSheet (partOf h bs)) ≡ size
   unfolding normalSheet
-  sheet-size = omega (arith, pairs-length (edgesOf (take (h .n - 3) ks)), length-map (take (h .n - 3) ks) edgeOf, keys-count P)
+  sheet-size = omega (arith, pairs-size, length-append (pairBytes (edgesOf (pairsOf bends))) (angleBytes (anglesBy (h .angled) bends)), rw (bends-count P) at (bytes-by (h .angled) bends))
 
-  pub too-short : length out < 3 + (h .n - 3) * 4 → refusal 8 out ≡ written (write (normalSheet (polygonOf h ks))) out
-  too-short k = sym (written-short (normalSheet (polygonOf h ks)) out (omega (arith, sheet-size)))
+  pub too-short : length out < size → refusal 8 out ≡ written (write (normalSheet (partOf h bs))) out
+  too-short k = sym (written-short (normalSheet (partOf h bs)) out (omega (arith, sheet-size)))
 
-  pub finished : (o : List ℕ) → 3 + (h .n - 3) * 4 ≤ length out
-      → o ≡ sets (sets (set out 0 (mapByte (h .n))) 1 (bytes16 (h .n))) 3 (pairBytes (edgesOf (take (h .n - 3) ks)))
-      → _≡_ {A = Answer} (record { number = 0; size = 3 + (h .n - 3) * 4; bytes = o }) (written (write (normalSheet (polygonOf h ks))) out)
+  abbrev pub stored : List ℕ
+  stored = sets (sets (set out 0 (mapByte (h .n) (anglesBy (h .angled) []))) 1 (bytes16 (h .n))) 3 (pairBytes (edgesOf (pairsOf bends)))
+
+  finished : (o : List ℕ) → size ≤ length out → o ≡ sets stored (3 + 4 * (h .n - 3)) (angleBytes (anglesBy (h .angled) bends))
+      → _≡_ {A = Answer} (record { number = 0; size = size; bytes = o }) (written (write (normalSheet (partOf h bs))) out)
   unfolding normalSheet
   finished o fits e =
-      let es : List ℕ = pairBytes (edgesOf (take (h .n - 3) ks)) in
-      let k : length (normalSheet (polygonOf h ks)) ≤ length out = omega (arith, sheet-size) in
-      rw (written-fits (normalSheet (polygonOf h ks)) out k, ← sheet-size, e, ← sets-append (bytes16 (h .n)) es (set out 0 (mapByte (h .n))) 1, sets-front (mapByte (h .n) ∷ (bytes16 (h .n) ++ es)) out k)
+      let es : List ℕ = pairBytes (edgesOf (pairsOf bends)) in
+      let vs : List ℕ = angleBytes (anglesBy (h .angled) bends) in
+      let m : ℕ = mapByte (h .n) (anglesBy (h .angled) bends) in
+      let k : length (normalSheet (partOf h bs)) ≤ length out = omega (arith, sheet-size) in
+      let at : 3 + 4 * (h .n - 3) ≡ 3 + length es = omega (arith, pairs-size) in
+      let count : List ℕ = sets (set out 0 m) 1 (bytes16 (h .n)) in
+      let one : sets (sets count 3 es) (3 + 4 * (h .n - 3)) vs ≡ normalSheet (partOf h bs) ++ drop (length (normalSheet (partOf h bs))) out =
+      ap (λ (j : ℕ). sets (sets count 3 es) j vs) at ∙ (sym (sets-append es vs count 3) ∙ (sym (sets-append (bytes16 (h .n)) (es ++ vs) (set out 0 m) 1) ∙ sets-front (m ∷ (bytes16 (h .n) ++ (es ++ vs))) out k)) in
+      let b : o ≡ normalSheet (partOf h bs) ++ drop (length (normalSheet (partOf h bs))) out = rw (map-of (h .n) (h .angled) bends) at e ∙ one in
+      let n = sym sheet-size in
+      (λ i. record { number = 0; size = n i; bytes = b i }) ∙ sym (written-fits (normalSheet (partOf h bs)) out k)
+
+  -- without angles, and with them
+  pub finished-plain : (o : List ℕ) → h .angled ≡ false → size ≤ length out → o ≡ stored → _≡_ {A = Answer} (record { number = 0; size = size; bytes = o }) (written (write (normalSheet (partOf h bs))) out)
+  finished-plain o a fits e = finished o fits (e ∙ sym (ap (λ (b : Bool). sets stored (3 + 4 * (h .n - 3)) (angleBytes (anglesBy b bends))) a))
+
+  pub finished-bent : (o : List ℕ) → h .angled ≡ true → size ≤ length out → o ≡ sets stored (3 + 4 * (h .n - 3)) (run16 (anglesIn bends)) → _≡_ {A = Answer} (record { number = 0; size = size; bytes = o }) (written (write (normalSheet (partOf h bs))) out)
+  finished-bent o a fits e = finished o fits (e ∙ sym (ap (λ (b : Bool). sets stored (3 + 4 * (h .n - 3)) (angleBytes (anglesBy b bends))) a))

@@ -1,23 +1,26 @@
--- How the code holds a part: a head, and the keys of its diagonals at the start of a table.
+-- How the code holds a part: a head, and the bends of its diagonals at the start of a table; the keys alone where its angles do not matter.
 use mathlib.Core.Path.{_≡_}
-use mathlib.Core.List.{List}
-use Prim.Native.Nat.{ℕ, _+_, _-_, _≤_, _<_}
+use mathlib.Core.Bool.{Bool, true, false}
+use mathlib.Core.List.{List, map}
+use Prim.Native.Nat.{ℕ, _+_, _*_, _-_, _%_, _≤_, _<_}
 use lib.ListN.{length, take, getD}
-use Rattle.polygon.specs.Polygon.{Edge, Diagonal, Polygon, Valid}
+use Rattle.polygon.specs.Angles.{Angles, none, each}
+use Rattle.polygon.specs.Polygon.{Edge, Diagonal, Polygon, bare, Valid}
 use Rattle.polygon.specs.Order.{lower-first}
 use Rattle.codec.specs.Numbers.{get16}
-use Rattle.keys.specs.Keys.{keyOf, edgesOf}
+use Rattle.lists.specs.Lists.{All}
+use Rattle.keys.specs.Keys.{keyOf, edgesOf, pairsOf, anglesIn, codeOf}
 use Rattle.sheet.specs.declared.Head.{Head}
 use Rattle.sheet.specs.declared.Read.{Read}
 use Rattle.sheet.specs.declared.Read.the-variants.{Refused, Held}
-use Rattle.sheet.specs.Sheet.{Reading, refused, held, readSheet}
+use Rattle.sheet.specs.Sheet.{Reading, refused, held, bit3, pairs, angles, readSheet}
 use Rattle.sheet.specs.Framed.{Framed}
 
--- the part of a head and a table that begins with the keys of its diagonals
+-- the part without angles of a head and a table that begins with the keys of its diagonals
 abbrev pub polygonOf : Head → List ℕ → Polygon
-polygonOf h ks = record { n = h .n; ds = edgesOf (take (h .n - 3) ks) }
+polygonOf h ks = record { n = h .n; ds = edgesOf (take (h .n - 3) ks); angles = none }
 
--- a part in the code's hands: valid, in a table with room for the keys of any part
+-- such a part in the code's hands: valid, in a table with room for the keys of any part
 pub record InHand (h : Head) (ks : List ℕ) : Type 0 where
   pub valid : Valid (polygonOf h ks)
   pub room : 1021 ≤ length ks
@@ -27,14 +30,51 @@ pub data Reads (q : Reading) : Read → List ℕ → Type 0 where
   refuses : {k : ℕ} {ks : List ℕ} → q ≡ refused k → Reads q (Refused k) ks
   gives : {h : Head} {ks : List ℕ} → q ≡ held (polygonOf h ks) → InHand h ks → Reads q (Held h) ks
 
+-- the angles beside the keys of bends, if the head says that there are any
+abbrev pub anglesBy : Bool → List ℕ → Angles
+anglesBy true bs = each (anglesIn bs)
+anglesBy false bs = none
+
+-- the same with angles: the part of a head and a table that begins with the bends of its diagonals
+abbrev pub partOf : Head → List ℕ → Polygon
+partOf h bs = record { n = h .n; ds = edgesOf (pairsOf (take (h .n - 3) bs)); angles = anglesBy (h .angled) (take (h .n - 3) bs) }
+
+pub record BentInHand (h : Head) (bs : List ℕ) : Type 0 where
+  pub valid : Valid (partOf h bs)
+  pub room : 1021 ≤ length bs
+
+pub data ReadsBent (q : Reading) : Read → List ℕ → Type 0 where
+  refuses-bent : {k : ℕ} {bs : List ℕ} → q ≡ refused k → ReadsBent q (Refused k) bs
+  gives-bent : {h : Head} {bs : List ℕ} → q ≡ held (partOf h bs) → BentInHand h bs → ReadsBent q (Held h) bs
+
+-- the keys of a part's bends stand at the start of a second table
+pub record KeysOf (h : Head) (bs ks : List ℕ) : Type 0 where
+  pub same : take (h .n - 3) ks ≡ pairsOf (take (h .n - 3) bs)
+  pub room : 1021 ≤ length ks
+
+abbrev pub KeysSay : Read → List ℕ → List ℕ → Type 0
+KeysSay (Refused k) bs ks = Unit {0}
+KeysSay (Held h) bs ks = KeysOf h bs ks
+
+-- what is read of a sheet by one who does not ask for angles
+unfoldable pub bared : Reading → Reading
+bared (refused k) = refused k
+bared (held p) = held (bare p)
+
 -- the keys are of edges whose corners are below 1,024
 abbrev pub SmallKeys : List ℕ → Type 0
 SmallKeys ks = (j : ℕ) → j < length ks → getD ks j 0 < 1048576
+
+-- 1 for true
+abbrev pub bit : Bool → ℕ
+bit true = 1
+bit false = 0
 
 -- a head that was read: the sheet refused, or its frame and what the head holds of it
 pub record HeadOf (s : List ℕ) (h : Head) : Type 0 where
   pub frame : Framed s
   pub corners : h .n ≡ get16 s 1
+  pub with-angles : bit (h .angled) ≡ bit3 (getD s 0 0)
 
 abbrev pub HeadSays : List ℕ → Read → Type 0
 HeadSays s (Refused k) = readSheet s ≡ refused k
@@ -48,3 +88,21 @@ pairAt s at = lower-first (get16 s at, get16 s (at + 2))
 pub record KeyIs (n : ℕ) (e : Edge) (r : ℕ) : Type 0 where
   pub none : r ≡ 0 → ¬ Diagonal n e
   pub some : ¬ (r ≡ 0) → Diagonal n e × (r ≡ keyOf e)
+
+-- the bends that were read of a sheet's pairs, all of them diagonals, in the listed order; with their angles' bits, if there are any
+pub record BendsRead (s : List ℕ) (n : ℕ) (angled : Bool) (bs : List ℕ) : Type 0 where
+  pub diagonals : All (Diagonal n) (pairs s 3 (n - 3))
+  pub edges : edgesOf (pairsOf (take (n - 3) bs)) ≡ pairs s 3 (n - 3)
+  pub codes : angled ≡ true → map (λ b. b % 4096) (take (n - 3) bs) ≡ map codeOf (angles s (length s - 2 * (n - 3)) (n - 3))
+
+-- the angle of a bend is in range
+abbrev pub Fits : ℕ → Type 0
+Fits b = b % 4096 ≤ 3600
+
+-- the angles of bends are allowed
+abbrev pub CodesBy : Bool → ℕ → List ℕ → Type 0
+CodesBy true n bs = (3 < n) × All Fits bs
+CodesBy false n bs = Unit {0}
+
+abbrev pub CodesAllowed : Head → List ℕ → Type 0
+CodesAllowed h bs = CodesBy (h .angled) (h .n) bs

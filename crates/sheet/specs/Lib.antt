@@ -1,4 +1,4 @@
--- Read beside document 01, and beside request (xii).
+-- Read beside document 01, and beside requests (xi) and (xii).
 pub mod Sheet
 pub mod Listing
 pub mod Refusals

@@ -1,53 +1,116 @@
 // Writing a part as a sheet in normal order.
 ghost use mathlib.Core.Path.{_≡_};
-ghost use Prim.Native.Nat.{_+_, _*_, _≤_};
-ghost use lib.ListN.{length};
+ghost use mathlib.Core.Bool.{false};
+ghost use mathlib.Core.List.{[]};
+ghost use Prim.Native.Nat.{_+_, _*_, _-_, _≤_, _<_};
+ghost use lib.ListN.{length, take};
 ghost use lib.Seq.{sets};
 ghost use Rattle.codec.specs.Answer.{answered, written, write};
-ghost use Rattle.keys.specs.Keys.{edgesOf};
-ghost use Rattle.sheet.specs.Sheet.{normalSheet, pairBytes, mapByte};
-ghost use Rattle.sheet.specs.Held.{polygonOf, SmallKeys, InHand};
+ghost use Rattle.codec.specs.Numbers.{run16};
+ghost use Rattle.keys.specs.Keys.{edgesOf, pairsOf, anglesIn};
+ghost use Rattle.sheet.specs.Sheet.{field, more, normalSheet, pairBytes, mapByte};
+ghost use Rattle.sheet.specs.Held.{bit, polygonOf, InHand, SmallKeys, partOf, anglesBy, BentInHand};
 use crate::Head;
 use codec::Written;
 use codec::put16;
+use keys::DIAGONALS;
+use keys::bend::FLAT;
+use keys::bend::angle;
+use keys::bend::bend;
+use keys::bend::pair;
 use keys::high;
 use keys::low;
 
-// The map byte: bit 0, and bit 1 if there are more than 3 corners.
-fn map_byte(n: usize) -> u8
-    ensures { λ r. ⌜ r ≡ mapByte n ⌝ }
+// Bits 0 and 1 of the map byte: bit 0, and bit 1 if there are more than 3 corners.
+fn low_bits(n: usize) -> u8
+    ensures { λ r. ⌜ (r ≡ 1 + more n * 2) × (r < 4) ⌝ }
 {
     if n > 3 { 3 } else { 1 }
 }
 
-// Writes the corners of each key's edge.
-fn put_edges(out: &mut [u8], at: usize, keys: &[u32])
-    requires room { ⌜ at + length (now keys) * 4 ≤ length (now out) ⌝ }
-    requires keys { ⌜ SmallKeys (now keys) ⌝ }
-    ensures { λ _. ⌜ now (out .exit) ≡ sets (now (out .entry)) at (pairBytes (edgesOf (now (keys .entry)))) ⌝ }
+// The map byte: these, and bit 3 if there are angles.
+fn map_byte(h: Head) -> u8
+    ensures { λ r. ⌜ r ≡ mapByte (h .n) (anglesBy (h .angled) []) ⌝ }
+{
+    let map = low_bits(h.n);
+    if h.angled { map + 8 } else { map }
+}
+
+// Writes the corners of each bend.
+fn put_edges(out: &mut [u8], at: usize, bends: &[u32])
+    requires { ⌜ at + length (now bends) * 4 ≤ length (now out) ⌝ }
+    ensures { λ _. ⌜ now (out .exit) ≡ sets (now (out .entry)) at (pairBytes (edgesOf (pairsOf (now (bends .entry))))) ⌝ }
 {
     let mut i = 0;
-    while i < keys.len() {
-        let k = keys[i];
+    while i < bends.len() {
+        let k = pair(bends[i]);
         put16(out, at + i * 4, low(k));
         put16(out, at + i * 4 + 2, high(k));
         i += 1;
     }
 }
 
-// Writes the part of a head and its keys in normal order, if the output is long enough.
-pub fn write_sheet(h: Head, keys: &[u32], out: &mut [u8]) -> Written
-    requires { ⌜ InHand h (now keys) ⌝ }
-    ensures { λ r. ⌜ answered r (now (out .exit)) ≡ written (write (normalSheet (polygonOf h (now (keys .entry))))) (now (out .entry)) ⌝ }
+// Writes the angle of each bend.
+fn put_angles(out: &mut [u8], at: usize, bends: &[u32])
+    requires { ⌜ at + length (now bends) * 2 ≤ length (now out) ⌝ }
+    ensures { λ _. ⌜ now (out .exit) ≡ sets (now (out .entry)) at (run16 (anglesIn (now (bends .entry)))) ⌝ }
+{
+    let mut i = 0;
+    while i < bends.len() {
+        put16(out, at + i * 2, angle(bends[i]));
+        i += 1;
+    }
+}
+
+// How long the sheet of a part is in normal order.
+fn size_of(h: Head) -> usize
+    requires { ⌜ (3 ≤ h .n) × (h .n ≤ 1024) ⌝ }
+    ensures { λ r. ⌜ r ≡ 3 + 4 * (h .n - 3) + field (bit (h .angled)) (2 * (h .n - 3)) ⌝ }
+{
+    let m = h.n - 3;
+    if h.angled { 3 + m * 6 } else { 3 + m * 4 }
+}
+
+// Writes the part of a head and its bends in normal order, if the output is long enough.
+pub fn write_sheet(h: Head, bends: &[u32], out: &mut [u8]) -> Written
+    requires { ⌜ BentInHand h (now bends) ⌝ }
+    ensures { λ r. ⌜ answered r (now (out .exit)) ≡ written (write (normalSheet (partOf h (now (bends .entry))))) (now (out .entry)) ⌝ }
 {
     let n = h.n;
+    let angled = h.angled;
     let m = n - 3;
-    let size = 3 + m * 4;
+    let size = size_of(h);
     if out.len() < size {
         return Written::Refused(8);
     }
-    out[0] = map_byte(n);
+    out[0] = map_byte(h);
     put16(out, 1, n);
-    put_edges(out, 3, &keys[..m]);
+    put_edges(out, 3, &bends[..m]);
+    if angled {
+        put_angles(out, 3 + 4 * m, &bends[..m]);
+    }
     Written::Bytes(size)
+}
+
+// Puts the bends of diagonals without angles at the front of a table.
+fn flat_bends(keys: &[u32], bends: &mut [u32])
+    requires { ⌜ (length (now keys) ≤ length (now bends)) × SmallKeys (now keys) ⌝ }
+    ensures { λ _. ⌜ pairsOf (take (length (now (keys .entry))) (now (bends .exit))) ≡ now (keys .entry) ⌝ }
+{
+    let mut j = 0;
+    while j < keys.len() {
+        bends[j] = bend(keys[j], FLAT);
+        j += 1;
+    }
+}
+
+// Writes the part without angles of a head and its keys.
+pub fn write_keys(h: Head, keys: &[u32], out: &mut [u8]) -> Written
+    requires { ⌜ InHand h (now keys) × (h .angled ≡ false) ⌝ }
+    ensures { λ r. ⌜ answered r (now (out .exit)) ≡ written (write (normalSheet (polygonOf h (now (keys .entry))))) (now (out .entry)) ⌝ }
+{
+    let m = h.n - 3;
+    let mut bends = [0u32; DIAGONALS];
+    flat_bends(&keys[..m], &mut bends);
+    write_sheet(h, &bends, out)
 }

@@ -5,6 +5,7 @@ use mathlib.Core.List.{[], _∷_}
 use Prim.Native.Nat.{ℕ}
 use native.Mathlib.Decide.{decLe, decLt, ℕ-discrete}
 use Rattle.lists.specs.Lists.{choose}
+use Rattle.polygon.specs.Angles.{none}
 use Rattle.polygon.specs.Polygon.{_—_, Polygon}
 use Rattle.polygon.specs.Tree.{treeOf, grow, far, farther, near?}
 use Rattle.umbrella.specs.Plan.{fold, levels, umbrellas, stems}
@@ -16,13 +17,13 @@ abbrev pub counts : Polygon → ℕ × ℕ × ℕ
 counts p = (levels (planOf p), umbrellas (planOf p), stems (planOf p))
 
 abbrev pub three : Polygon
-three = record { n = 3; ds = [] }
+three = record { n = 3; ds = []; angles = none }
 
 abbrev pub hexagon : Polygon
-hexagon = record { n = 6; ds = (0 — 2) ∷ (0 — 4) ∷ (2 — 4) ∷ [] }
+hexagon = record { n = 6; ds = (0 — 2) ∷ (0 — 4) ∷ (2 — 4) ∷ []; angles = none }
 
 abbrev pub seven : Polygon
-seven = record { n = 7; ds = (0 — 5) ∷ (1 — 3) ∷ (1 — 5) ∷ (3 — 5) ∷ [] }
+seven = record { n = 7; ds = (0 — 5) ∷ (1 — 3) ∷ (1 — 5) ∷ (3 — 5) ∷ []; angles = none }
 
 pub record Known : Type 0 where
   -- "n = 3: 1 level .. levels 1 umbrellas 1 stems 0"

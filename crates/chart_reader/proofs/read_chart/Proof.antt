@@ -8,22 +8,25 @@ use Rattle.chart_reader.specs.Reader.{chartRead}
 use Rattle.chart_reader.proofs.read_chart.Statement.{statement}
 use Rattle.chart_reader.proofs.read_chart.Tie as tie
 
-write-sheet-requires : tie.Need-write-sheet-requires
-write-sheet-requires c κs = in-hand (c .before .before .before .before .before .before .read-part .ensures) (c .before .before .before .h .given .1)
+write-keys-requires : tie.Need-write-keys-requires
+write-keys-requires c κs =
+    let (part, bare) = c .before .before .before .before .before .before .read-part .ensures in
+    let is = c .before .before .before .h .given .1 in
+    (in-hand part is, rw is at bare)
 
 returns : tie.Need-returns
 unfolding chartRead outcome written
-returns c = read-is (λ (q : Reading). written (outcome q) (c .before .before .before .before .before .before .before .before .args .out .now)) (c .before .before .before .before .read-part .ensures) (c .before .k .given .1)
+returns c = read-is (λ (q : Reading). written (outcome q) (c .before .before .before .before .before .before .before .before .args .out .now)) (c .before .before .before .before .read-part .ensures .0) (c .before .k .given .1)
 
 returns-2 : tie.Need-returns-2
 unfolding chartRead outcome
 returns-2 c =
     let at-h = c .before .before .before .before .before .before in
     let at-read-part = at-h .before .before .before in
-    c .before .before .write-sheet .ensures ∙ read-is (λ (q : Reading). written (outcome q) (at-read-part .before .before .before .before .args .out .now)) (at-read-part .read-part .ensures) (at-h .h .given .1)
+    c .before .before .write-keys .ensures ∙ read-is (λ (q : Reading). written (outcome q) (at-read-part .before .before .before .before .args .out .now)) (at-read-part .read-part .ensures .0) (at-h .h .given .1)
 
 pub read-chart-spec : {M : Type 1} → statement M
 read-chart-spec =
     tie.close
-    (tie.spec (λ c. search needs) (λ c κs. search needs) (λ c. search needs) (λ c. search needs) (λ c. search needs) write-sheet-requires returns (λ c. search needs)
+    (tie.spec (λ c. search needs) (λ c κs. search needs) (λ c. search needs) (λ c. search needs) (λ c. search needs) write-keys-requires returns (λ c. search needs)
     returns-2)

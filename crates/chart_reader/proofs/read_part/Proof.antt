@@ -1,5 +1,5 @@
 -- The tests in their order, by the laws of Found.antt.
-use mathlib.Core.Path.{_≡_, sym}
+use mathlib.Core.Path.{_≡_, refl, sym}
 use mathlib.Core.List.{List}
 use Prim.Native.Nat.{ℕ, _*_, _-_, _≤_}
 use borrow.Author.Needs.{needs}
@@ -44,13 +44,13 @@ edges-size : (c : tie.Else3) → length (take (2 * count (c .before .before .bef
 edges-size c = length-take-le _ (c .before .before .strokes-keep .last .1 .1 .1 .0) (omega (arith, c .before .before .strokes-keep .kept .1 .1 .1 .0, corners (c .before .before .before .before .before .before .before)))
 
 returns : tie.Need-returns
-returns c = refuses (read-by (c .before .before .before .before .before .before .args .chart .now) (by-14 (c .before .before .frame .ensures .0 (c .if1 .taken))))
+returns c = (refuses (read-by (c .before .before .before .before .before .before .args .chart .now) (by-14 (c .before .before .frame .ensures .0 (c .if1 .taken)))), tt)
 
 bars-keep-requires : tie.Need-bars-keep-requires
 bars-keep-requires c κs = bars-room _ _ _ (placed c)
 
 returns-2 : tie.Need-returns-2
-returns-2 c = refuses (read-by (c .before .before .before .before .before .before .before .before .args .chart .now) (by-15 (placed (c .before .before) .formed) (c .before .bars-keep .ensures .1 (not-true _ (c .if2 .taken)))))
+returns-2 c = (refuses (read-by (c .before .before .before .before .before .before .before .before .args .chart .now) (by-15 (placed (c .before .before) .formed) (c .before .bars-keep .ensures .1 (not-true _ (c .if2 .taken))))), tt)
 
 mul-m : tie.Need-mul-m
 mul-m c = omega (arith, corners (c .before .before))
@@ -70,7 +70,7 @@ strokes-keep-requires c κs = (placed (c .before .before .before .before), omega
 returns-3 : tie.Need-returns-3
 returns-3 c =
     let bars = c .before .before .before .before .before .before .bars-keep .ensures .0 (not-false _ (c .before .before .before .before .before .if2 .left)) in
-    refuses (read-by (chart (c .before .before .before .before .before .before .before)) (by-16 (placed (c .before .before .before .before .before .before .before) .formed) bars (c .before .before .strokes-keep .ensures .1 (not-true _ (c .if3 .taken)))))
+    (refuses (read-by (chart (c .before .before .before .before .before .before .before)) (by-16 (placed (c .before .before .before .before .before .before .before) .formed) bars (c .before .before .strokes-keep .ensures .1 (not-true _ (c .if3 .taken))))), tt)
 
 array-share-prefix-at-2 : tie.Need-array-share-prefix-at-2
 array-share-prefix-at-2 c = omega (arith, corners (c .before .before .before .before .before .before .before), c .before .before .before .before .before .before .before .before .before .frame .kept .1 .0)
@@ -84,7 +84,7 @@ gaps-keep-requires c κs = let E = edged (c .before) in (E .placed, E .bars, E .
 returns-4 : tie.Need-returns-4
 returns-4 c =
     let E = edged (c .before .before .before) in
-    refuses (read-by (chart (c .before .before .before .before .before .before .before .before .before .before)) (by-17 (E .placed .formed) (E .bars) (E .strokes) (c .before .gaps-keep .ensures .1 (not-true _ (c .if4 .taken)))))
+    (refuses (read-by (chart (c .before .before .before .before .before .before .before .before .before .before)) (by-17 (E .placed .formed) (E .bars) (E .strokes) (c .before .gaps-keep .ensures .1 (not-true _ (c .if4 .taken))))), tt)
 
 array-share-prefix-edges : tie.Need-array-share-prefix-edges
 array-share-prefix-edges c = omega (arith, corners (c .before .before .before .before .before .before .before .before .before .before), c .before .before .before .before .before .strokes-keep .kept .1 .1 .1 .0)
@@ -101,14 +101,14 @@ part-requires c κs =
 returns-5 : tie.Need-returns-5
 returns-5 c =
     let gaps = c .before .before .before .before .before .before .before .gaps-keep .ensures .0 (not-false _ (c .before .before .before .before .before .before .if4 .left)) in
-    no-part (edged (c .before .before .before .before .before .before .before .before .before)) gaps (c .before .before .before .part .ensures .1 (not-true _ (c .if5 .taken)))
+    (no-part (edged (c .before .before .before .before .before .before .before .before .before)) gaps (c .before .before .before .part .ensures .1 (not-true _ (c .if5 .taken))), tt)
 
 returns-6 : tie.Need-returns-6
 returns-6 c =
     let gaps = c .before .before .before .before .before .before .before .gaps-keep .ensures .0 (not-false _ (c .before .before .before .before .before .before .if4 .left)) in
     let at-part = c .before .before .before in
     let start = at-part .before .before .before .before .before .before .before .before .before .before .before .before .before .before .before .before .before .before .before in
-    part-read (edged (c .before .before .before .before .before .before .before .before .before)) gaps (at-part .part .last .1 .1 .0) (at-part .part .ensures .0 (not-false _ (c .if5 .left))) (omega (arith, at-part .part .kept .1 .1 .0, start .pre))
+    (part-read (edged (c .before .before .before .before .before .before .before .before .before)) gaps (at-part .part .last .1 .1 .0) (at-part .part .ensures .0 (not-false _ (c .if5 .left))) (omega (arith, at-part .part .kept .1 .1 .0, start .pre)), refl)
 
 pub read-part-spec : {M : Type 1} → statement M
 read-part-spec =

@@ -24,8 +24,7 @@ returns c =
     let at-mark2 = c .before .before .before .before .before in
     let at-mark = at-mark2 .before .before .before in
     let start = at-mark .before .before .before in
-    λ x y e. absurd
-    (omega (arith, c .if1 .taken, first-found (start .args .n) (start .args .a) (start .args .b) (edgesOf (start .args .keys .now)) (at-mark .mark .last .1 .1 .1 .0) (at-mark2 .mark2 .last .1 .1 .1 .0) (at-mark .mark .ensures) (at-mark2 .mark2 .ensures) x y e _ (c .before .first-common .ensures)))
+    (λ x y e. absurd (omega (arith, c .if1 .taken, first-found (start .args .n) (start .args .a) (start .args .b) (edgesOf (start .args .keys .now)) (at-mark .mark .last .1 .1 .1 .0) (at-mark2 .mark2 .last .1 .1 .1 .0) (at-mark .mark .ensures) (at-mark2 .mark2 .ensures) x y e _ (c .before .first-common .ensures))), omega arith)
 
 add-first-common : tie.Need-add-first-common
 add-first-common c = omega (arith, c .before .before .before .before .before .before .before .before .before .before .before .before .before .pre .1, c .before .before .before .first-common .ensures, c .before .before .if1 .left)
@@ -40,11 +39,13 @@ returns-2 c =
     let at-first-common = c .before .before .before .before .before in
     let at-mark2 = at-first-common .before .before .before .before in
     let at-mark = at-mark2 .before .before .before in
-    let start = at-mark .before .before .before in
-    λ x y e.
-    let F = first-found (start .args .n) (start .args .a) (start .args .b) (edgesOf (start .args .keys .now)) (at-mark .mark .last .1 .1 .1 .0) (at-mark2 .mark2 .last .1 .1 .1 .0) (at-mark .mark .ensures) (at-mark2 .mark2 .ensures) x y e _ (at-first-common .first-common .ensures) in
-    let C : Common (at-mark .mark .last .1 .1 .1 .0) (at-mark2 .mark2 .last .1 .1 .1 .0) (x + 1) (start .args .n) (c .before .first-common2 .result) = rw (F .0) at (c .before .first-common2 .ensures) in
-    absurd (omega (arith, c .if2 .taken, second-found (start .args .n) (start .args .a) (start .args .b) (edgesOf (start .args .keys .now)) (at-mark .mark .last .1 .1 .1 .0) (at-mark2 .mark2 .last .1 .1 .1 .0) (at-mark .mark .ensures) (at-mark2 .mark2 .ensures) x y e _ C))
+    let start = at-mark .before .before .before in (
+      λ x y e.
+          let F = first-found (start .args .n) (start .args .a) (start .args .b) (edgesOf (start .args .keys .now)) (at-mark .mark .last .1 .1 .1 .0) (at-mark2 .mark2 .last .1 .1 .1 .0) (at-mark .mark .ensures) (at-mark2 .mark2 .ensures) x y e _ (at-first-common .first-common .ensures) in
+          let C : Common (at-mark .mark .last .1 .1 .1 .0) (at-mark2 .mark2 .last .1 .1 .1 .0) (x + 1) (start .args .n) (c .before .first-common2 .result) = rw (F .0) at (c .before .first-common2 .ensures) in
+          absurd (omega (arith, c .if2 .taken, second-found (start .args .n) (start .args .a) (start .args .b) (edgesOf (start .args .keys .now)) (at-mark .mark .last .1 .1 .1 .0) (at-mark2 .mark2 .last .1 .1 .1 .0) (at-mark .mark .ensures) (at-mark2 .mark2 .ensures) x y e _ C)),
+      omega arith,
+    )
 
 key-requires : tie.Need-key-requires
 key-requires c κs =
@@ -57,12 +58,14 @@ returns-3 c =
     let at-first-common = at-first-common2 .before .before .before .before in
     let at-mark2 = at-first-common .before .before .before .before in
     let at-mark = at-mark2 .before .before .before in
-    let start = at-mark .before .before .before in
-    λ x y e.
-    let F = first-found (start .args .n) (start .args .a) (start .args .b) (edgesOf (start .args .keys .now)) (at-mark .mark .last .1 .1 .1 .0) (at-mark2 .mark2 .last .1 .1 .1 .0) (at-mark .mark .ensures) (at-mark2 .mark2 .ensures) x y e _ (at-first-common .first-common .ensures) in
-    let C : Common (at-mark .mark .last .1 .1 .1 .0) (at-mark2 .mark2 .last .1 .1 .1 .0) (x + 1) (start .args .n) (at-first-common2 .first-common2 .result) = rw (F .0) at (at-first-common2 .first-common2 .ensures) in
-    c .key .ensures ∙ rw
-    (F .0, second-found (start .args .n) (start .args .a) (start .args .b) (edgesOf (start .args .keys .now)) (at-mark .mark .last .1 .1 .1 .0) (at-mark2 .mark2 .last .1 .1 .1 .0) (at-mark .mark .ensures) (at-mark2 .mark2 .ensures) x y e _ C .0)
+    let start = at-mark .before .before .before in (
+      λ x y e.
+          let F = first-found (start .args .n) (start .args .a) (start .args .b) (edgesOf (start .args .keys .now)) (at-mark .mark .last .1 .1 .1 .0) (at-mark2 .mark2 .last .1 .1 .1 .0) (at-mark .mark .ensures) (at-mark2 .mark2 .ensures) x y e _ (at-first-common .first-common .ensures) in
+          let C : Common (at-mark .mark .last .1 .1 .1 .0) (at-mark2 .mark2 .last .1 .1 .1 .0) (x + 1) (start .args .n) (at-first-common2 .first-common2 .result) = rw (F .0) at (at-first-common2 .first-common2 .ensures) in
+          c .key .ensures ∙ rw
+          (F .0, second-found (start .args .n) (start .args .a) (start .args .b) (edgesOf (start .args .keys .now)) (at-mark .mark .last .1 .1 .1 .0) (at-mark2 .mark2 .last .1 .1 .1 .0) (at-mark .mark .ensures) (at-mark2 .mark2 .ensures) x y e _ C .0),
+      omega (arith, c .key .ensures, start .pre .1, at-first-common .first-common .ensures, at-first-common2 .first-common2 .ensures, c .before .before .before .before .before .if1 .left, c .before .if2 .left),
+    )
 
 pub turned-key-spec : {M : Type 1} → statement M
 turned-key-spec = tie.close

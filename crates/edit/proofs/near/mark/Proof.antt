@@ -6,8 +6,7 @@ use lib.ListN.{length, take, getD, length-set}
 use lib.Seq.{take-all}
 use Rattle.keys.specs.Keys.{edgeOf, edgesOf}
 use Rattle.edit.specs.Tables.{Near}
-use Rattle.sheet.proofs.Writing.{edges-more}
-use Rattle.edit.proofs.Marking.{near-begin, near-next, end-below}
+use Rattle.edit.proofs.Marking.{edges-more, near-begin, near-next, end-below}
 use Rattle.edit.proofs.near.mark.Statement.{statement}
 use Rattle.edit.proofs.near.mark.Tie as tie
 

@@ -1,0 +1,38 @@
+-- The chart and the line of a part do not depend on its angles.
+use mathlib.Core.Path.{_≡_, refl, ap}
+use mathlib.Core.List.{List}
+use Prim.Native.Nat.{ℕ}
+use Rattle.polygon.specs.Polygon.{Polygon, bare}
+use Rattle.sheet.specs.Sheet.{Reading, refused, held}
+use Rattle.sheet.specs.Held.{bared}
+use Rattle.chart.proofs.Theorems.{chart-bare}
+use Rattle.log_line.specs.Line.{line}
+use Rattle.draw.specs.Answer.{charted, chartedBoth}
+use Rattle.draw.specs.Printed.{factsOf, printedOf}
+use Rattle.draw.specs.Program.{savedOf, outputOf}
+
+-- what the line tells of a part
+pub facts-bare : (p : Polygon) → factsOf (bare p) ≡ factsOf p
+facts-bare p = rw (chart-bare p)
+
+-- what Draw writes of a reading, and with the bar list
+pub charted-bare : (q : Reading) → charted (bared q) ≡ charted q
+unfolding charted bared
+charted-bare (refused k) = refl
+charted-bare (held p) = rw (chart-bare p)
+
+pub both-bare : (q : Reading) → chartedBoth (bared q) ≡ chartedBoth q
+unfolding chartedBoth bared
+both-bare (refused k) = refl
+both-bare (held p) = rw (chart-bare p)
+
+-- the line, and what the program does with a reading
+pub printed-bare : (q : Reading) → printedOf (bared q) ≡ printedOf q
+unfolding printedOf bared
+printed-bare (refused k) = refl
+printed-bare (held p) = ap line (facts-bare p)
+
+pub output-bare : (q : Reading) (chart text : List ℕ) → outputOf (bared q) chart text ≡ outputOf q chart text
+unfolding outputOf savedOf bared
+output-bare (refused k) chart text = refl
+output-bare (held p) chart text = rw (chart-bare p, charted-bare (held p), printed-bare (held p))

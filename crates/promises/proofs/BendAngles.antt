@@ -1,0 +1,111 @@
+-- Request (xi) is proved: the theorems of the crates sheet and edit on the angles of parts, and that nothing planned or drawn depends on them.
+use mathlib.Core.Path.{_≡_, refl, ap, sym, _∙_}
+use mathlib.Core.Logic.{_↔_, inl}
+use mathlib.Core.List.{List}
+use Prim.Native.Nat.{ℕ, _<_}
+use native.Mathlib.Omega.{arith}
+use lib.ListN.{getD}
+use Rattle.lists.specs.Lists.{Sub}
+use Rattle.polygon.specs.Angles.{none}
+use Rattle.polygon.specs.Polygon.{Polygon}
+use Rattle.polygon.specs.Carried.{carried}
+use Rattle.polygon.proofs.Angles.{angle-none}
+use Rattle.codec.specs.Numbers.{get16}
+use Rattle.codec.specs.Answer.{write}
+use Rattle.codec.specs.TwoOutputs.{writtenBoth}
+use Rattle.sheet.specs.Sheet.{bit3, Reading, refused, held, listedAngles, angled, readSheet, normalSheet, outcome, ordered}
+use Rattle.sheet.specs.Listing.{pairsOf}
+use Rattle.sheet.specs.Held.{bared}
+use Rattle.sheet.proofs.Asks.{refused-1c, refused-by-23}
+use Rattle.sheet.proofs.Accepts.{read-angles, read-bit, same-normal}
+use Rattle.sheet.proofs.Back.{normal-bit, normal-count}
+use Rattle.sheet.proofs.Normal.{normal-length}
+use Rattle.sheet.proofs.Valid.{read-valid}
+use Rattle.edit.specs.Rules.{Edit, rule}
+use Rattle.edit.specs.Calls.{onHeld, edited}
+use Rattle.edit.proofs.Theorems.{turn-angles, add-angles, off-angles, result-angled}
+use Rattle.plan.specs.Answer.{answer, planned}
+use Rattle.plan.proofs.Bare.{answer-bare}
+use Rattle.draw.specs.Answer.{charted, drawn, chartedBoth, drawnWithBars}
+use Rattle.draw.specs.Printed.{printedOf, printed}
+use Rattle.draw.specs.Program.{output, outputOf}
+use Rattle.draw.proofs.Bare.{charted-bare, both-bare, printed-bare, output-bare}
+use Rattle.chart_reader.specs.Reader.{readChart, chartRead}
+use Rattle.chart_reader.proofs.Verdict.{by-reading}
+use Rattle.chart_reader.proofs.Accepts.{held-keeps}
+use Rattle.promises.specs.BendAngles.{Bit3, SameDrawing, BendAngles}
+
+-- what is written is the normal sheet of the part that a reading holds
+wrote : {A : Type 0} (r : Reading) (t : List ℕ) → outcome r ≡ write t → ((p : Polygon) → r ≡ held p → normalSheet p ≡ t → A) → A
+unfolding outcome
+wrote (refused k) t e f = absurd (let z : _≡_ {A = ℕ} 0 1 = cc in omega arith)
+wrote (held p) t e f = f p refl cc
+
+wrote-bit : (p : Polygon) (t : List ℕ) → normalSheet p ≡ t → bit3 (getD t 0 0) ≡ angled (p .angles)
+wrote-bit p t n = sym (ap (λ (x : List ℕ). bit3 (getD x 0 0)) n) ∙ normal-bit p
+
+order-bit : (s t : List ℕ) → ordered s ≡ write t → Bit3 t ↔ Bit3 s
+unfolding ordered
+order-bit s t e = wrote (readSheet s) t e (λ p r n. let b = wrote-bit p t n ∙ sym (read-bit s p r) in (λ h. sym b ∙ h, λ h. b ∙ h))
+
+edit-bit : (e : Edit) (s t : List ℕ) → edited e s ≡ write t → Bit3 t ↔ (Bit3 s × (3 < get16 t 1))
+unfolding edited onHeld
+edit-bit e s t w = go (readSheet s) refl w
+  where
+    go : (r : Reading) → readSheet s ≡ r → outcome (onHeld r (rule e)) ≡ write t → Bit3 t ↔ (Bit3 s × (3 < get16 t 1))
+    go (refused k) d x = wrote (refused k) t x (λ p r n. let z : _≡_ {A = ℕ} 0 1 = cc in absurd (omega arith))
+    go (held p) d x = wrote (rule e p) t x (λ q r n.
+        let A = result-angled e p q r in
+        let b = wrote-bit q t n in
+        let c = read-bit s p d in
+        let m : get16 t 1 ≡ q .n = sym (ap (λ (x : List ℕ). get16 x 1) n) ∙ normal-count q in
+        (λ h. let a = A .0 (sym b ∙ h) in (c ∙ a .0, rw m (a .1)), λ h. b ∙ A .1 (sym c ∙ h .0, rw m at (h .1))))
+
+chart-bit : (c t : List ℕ) → chartRead c ≡ write t → ¬ Bit3 t
+unfolding chartRead
+chart-bit c t w = wrote (readChart c) t w (λ p r n h.
+    let bare-part : p .angles ≡ none = sym (ap (λ (x : Polygon). x .angles) (held-keeps c p (by-reading c r) refl .is)) in
+    omega (arith, wrote-bit p t n, ap angled bare-part, h))
+
+moves : (s t : List ℕ) (p q : Polygon) → readSheet s ≡ held p → readSheet t ≡ held q
+    → Sub (pairsOf s (p .n)) (pairsOf t (q .n)) → Sub (pairsOf t (q .n)) (pairsOf s (p .n))
+    → listedAngles t (q .n) ≡ carried (pairsOf s (p .n)) (listedAngles s (p .n)) (pairsOf t (q .n))
+    → ordered s ≡ ordered t
+unfolding ordered outcome
+moves s t p q d e f g h = ap outcome d ∙ (ap write (same-normal s t p q d e f g h) ∙ sym (ap outcome e))
+
+-- of two sheets that hold parts which differ in angles only
+same-drawing : (s t : List ℕ) (p q : Polygon) → readSheet s ≡ held p → readSheet t ≡ held q → p .n ≡ q .n → p .ds ≡ q .ds → SameDrawing s t
+unfolding planned drawn drawnWithBars printed output bared
+same-drawing s t p q d e n ds =
+    let r : Reading = readSheet s in
+    let u : Reading = readSheet t in
+    let b : bared r ≡ bared u = ap bared d ∙ ((λ i. held (record { n = n i; ds = ds i; angles = none })) ∙ sym (ap bared e)) in
+    record {
+      plan = sym (answer-bare r) ∙ (ap answer b ∙ answer-bare u);
+      draw = sym (charted-bare r) ∙ (ap charted b ∙ charted-bare u);
+      draw-bars = λ out bars. ap (λ o. writtenBoth o out bars) (sym (both-bare r) ∙ (ap chartedBoth b ∙ both-bare u));
+      log = sym (printed-bare r) ∙ (ap printedOf b ∙ printed-bare u);
+      program = λ chart text. sym (output-bare r chart text) ∙ (ap (λ (x : Reading). outputOf x chart text) b ∙ output-bare u chart text);
+    }
+
+pub bend-angles : BendAngles
+bend-angles = record {
+  stands = λ s p e. (λ h. sym (read-bit s p e) ∙ h, λ h. read-bit s p e ∙ h);
+  listed = read-angles;
+  moves = moves;
+  zero = inl (omega arith);
+  allowed = λ s p e. read-valid s p e .allowed;
+  turned = turn-angles;
+  none-before = λ p d f. angle-none (p .ds) (p .angles) d f;
+  added = add-angles;
+  off = off-angles;
+  order-bit = order-bit;
+  edit-bit = edit-bit;
+  chart-bit = chart-bit;
+  size = normal-length;
+  old-edition = λ s h. omega arith;
+  same = same-drawing;
+  by-23 = refused-by-23;
+  by-1 = λ s h. refused-1c s h;
+}
