@@ -6,13 +6,13 @@ use crate::library;
 use bend_tests::draw::chart_of;
 #[cfg(feature = "draw")]
 use bend_tests::draw::draw_sheet;
-#[cfg(feature = "run_edits")]
-use bend_tests::edit::PlainPart;
 #[cfg(feature = "edits")]
 use bend_tests::edit::{edit_sheet, Edit};
 #[cfg(feature = "run_edits")]
 use bend_tests::edit_list;
 use bend_tests::part::{Corner, Part};
+#[cfg(feature = "run_edits")]
+use bend_tests::plain_part::PlainPart;
 #[cfg(feature = "plan")]
 use bend_tests::plan::plan_sheet;
 use bend_tests::random::Random;

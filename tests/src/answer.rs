@@ -1,14 +1,15 @@
 //! Refusals and their numbers.
-//! Follows "Operations and their refusals" of document 01.
+//! Follows "Operations and their refusals" of document 01; by request (xi) "refusal
+//! 1 now covers bits 4 to 7", and there is refusal 23.
 
 /// Why an operation refuses; the value is the number that it gives.
 #[derive(Clone, Copy, Debug, PartialEq, Eq, PartialOrd, Ord)]
 #[repr(u16)]
 pub enum Refusal {
-    /// The sheet is empty, or its map byte lacks bit 0 or has one of bits 3 to 7.
+    /// The sheet is empty, or its map byte lacks bit 0 or has one of bits 4 to 7.
     MapByte = 1,
     /// The sheet is under 3 bytes, or not as long as its fields, the bytes of bit 2
-    /// among them.
+    /// and the angles among them.
     SheetLength = 2,
     /// The corner count is outside 3 to 1,024.
     CornerCount = 3,
@@ -42,6 +43,8 @@ pub enum Refusal {
     Gap = 17,
     /// The strokes lack a side, or diagonals cross.
     NotAPart = 18,
+    /// An angle is outside -1,800 to 1,800, or bit 3 stands with 3 corners.
+    Angle = 23,
 }
 
 impl Refusal {

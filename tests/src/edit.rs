@@ -1,11 +1,13 @@
-//! The three edits, on parts and on sheets, and lists of edits.
+//! The three edits, on parts and on sheets.
 //! Follows "The plain part and demand 3" of document 01, and the edits under
-//! "Operations and their refusals". By request (xii) "the rule .. that a number
-//! is kept lapses, and the plain part keeps none".
+//! "Operations and their refusals". By request (xi) "a turned diagonal starts at 0,
+//! as does the diagonal of an added corner .., and an angle is dropped when its
+//! diagonal becomes a side. .. A result has bit 3 exactly when a sheet it comes from
+//! has and its own n is over 3."
 
 use crate::answer::{Refusal, Written};
 use crate::part::{is_side, lower_first, Corner, Pair, Part, FEWEST, MOST};
-use crate::sheet::{length, normal, read, write_normal};
+use crate::sheet::{read, write_normal};
 
 /// An edit and its numbers, which may be of any size.
 #[derive(Clone, Copy, Debug, PartialEq, Eq)]
@@ -80,6 +82,9 @@ fn take_off(part: &mut Part, k: Corner) {
         (*a, *b) = (down(*a), down(*b));
     }
     part.n -= 1;
+    if part.n == FEWEST {
+        part.angles = None;
+    }
 }
 
 /// The diagonal leaves; the two corners joined to both its ends enter as a pair.
@@ -109,64 +114,30 @@ fn joined_to(part: &Part, corner: Corner) -> Vec<bool> {
     joined
 }
 
+/// A new diagonal, whose angle starts at 0.
 fn enter(part: &mut Part, diagonal: Pair) {
     let place = part.diagonals.partition_point(|&other| other < diagonal);
     part.diagonals.insert(place, diagonal);
+    if let Some(angles) = &mut part.angles {
+        angles.insert(place, 0);
+    }
 }
 
+/// The diagonal goes, and its angle with it.
 fn leave(part: &mut Part, diagonal: Pair) {
     let place = part.diagonals.binary_search(&diagonal);
-    part.diagonals.remove(place.expect("the diagonal is there"));
+    let place = place.expect("the diagonal is there");
+    part.diagonals.remove(place);
+    if let Some(angles) = &mut part.angles {
+        angles.remove(place);
+    }
 }
 
-/// An edit of a sheet: refusals 1 to 7, then the edit's own, and 8 last.
+/// An edit of a sheet: refusals 1 to 7 and 23, then the edit's own, and 8 last.
 pub fn edit_sheet(sheet: &[u8], edit: Edit, out: &mut [u8]) -> Written {
     let mut part = read(sheet)?;
     edit.apply(&mut part)?;
     write_normal(&part, out)
-}
-
-/// The plain part: what the edit rules give, fed nothing but the edits and the
-/// lengths of the outputs lent. It keeps n and the set of diagonals.
-#[derive(Clone, Debug)]
-pub struct PlainPart {
-    pub part: Part,
-    first_sheet: Vec<u8>,
-    taken: usize,
-}
-
-impl PlainPart {
-    pub fn new(first_sheet: &[u8]) -> Result<PlainPart, Refusal> {
-        Ok(PlainPart {
-            part: read(first_sheet)?,
-            first_sheet: first_sheet.to_vec(),
-            taken: 0,
-        })
-    }
-
-    /// One edit with `lent` bytes of output; gives its number.
-    pub fn edit(&mut self, edit: Edit, lent: usize) -> u16 {
-        let mut edited = self.part.clone();
-        match edit.apply(&mut edited) {
-            Err(refusal) => refusal.number(),
-            Ok(()) if lent < length(&edited) => Refusal::OutputShort.number(),
-            Ok(()) => {
-                self.part = edited;
-                self.taken += 1;
-                0
-            }
-        }
-    }
-
-    /// The sheet left after the list: the first one, bit 2 and all, if no edit was
-    /// taken.
-    pub fn sheet(&self) -> Vec<u8> {
-        if self.taken == 0 {
-            self.first_sheet.clone()
-        } else {
-            normal(&self.part)
-        }
-    }
 }
 
 #[cfg(test)]
@@ -192,18 +163,83 @@ mod tests {
     }
 
     #[test]
-    fn the_first_sheet_is_left_with_bit_2_until_an_edit_is_taken() {
-        let first = [5, 0, 3, 0, 0, 0, 9];
-        let mut plain = PlainPart::new(&first).unwrap();
-        let add = Edit::Add { side: 0 };
-        for (lent, number, left) in [
-            (6, 8, &first[..]),
-            (7, 0, &[3, 0, 4, 0, 0, 0, 2]),
-            (10, 8, &[3, 0, 4, 0, 0, 0, 2]),
-            (11, 0, &[3, 0, 5, 0, 0, 0, 2, 0, 0, 0, 3]),
+    fn angles_of_known_edits() {
+        let square = Part::new(4, &[(0, 2)]).angled(&[450]);
+        let turned = after(&square, Edit::Turn { a: 2, b: 0 }).unwrap();
+        assert_eq!(turned, Part::new(4, &[(1, 3)]).angled(&[0]));
+        let again = after(&turned, Edit::Turn { a: 1, b: 3 });
+        assert_eq!(again, Ok(Part::new(4, &[(0, 2)]).angled(&[0])));
+        let fan = |n: Corner| Part::new(n, &(2..n - 1).map(|b| (0, b)).collect::<Vec<_>>());
+        let pentagon = fan(5).angled(&[10, -20]);
+        for (edit, n, pairs, angles) in [
+            // side 0 becomes (0,2), the others move up; the root becomes (0,4)
+            (
+                Edit::Add { side: 0 },
+                6,
+                &[(0, 2), (0, 3), (0, 4)][..],
+                &[0, 10, -20][..],
+            ),
+            (
+                Edit::Add { side: 2 },
+                6,
+                &[(0, 2), (0, 4), (2, 4)],
+                &[10, -20, 0],
+            ),
+            (
+                Edit::Add { side: 4 },
+                6,
+                &[(0, 2), (0, 3), (0, 4)],
+                &[10, -20, 0],
+            ),
+            // (0,2) or (0,3) becomes a side
+            (Edit::TakeOff { corner: 1 }, 4, &[(0, 2)], &[-20]),
+            (Edit::TakeOff { corner: 4 }, 4, &[(0, 2)], &[10]),
+            (Edit::Turn { a: 0, b: 2 }, 5, &[(0, 3), (1, 3)], &[-20, 0]),
+            (Edit::Turn { a: 3, b: 0 }, 5, &[(0, 2), (2, 4)], &[10, 0]),
         ] {
-            assert_eq!(plain.edit(add, lent), number);
-            assert_eq!(plain.sheet(), left);
+            let expected = Part::new(n, pairs).angled(angles);
+            assert_eq!(after(&pentagon, edit), Ok(expected), "{edit:?}");
+        }
+        assert_eq!(
+            after(&pentagon, Edit::Turn { a: 1, b: 3 }),
+            Err(Refusal::Lacking)
+        );
+        // not remembered through a triangle, and none appear
+        let triangle = after(&square, Edit::TakeOff { corner: 1 }).unwrap();
+        assert_eq!(triangle, fan(3));
+        assert_eq!(after(&triangle, Edit::Add { side: 2 }), Ok(fan(4)));
+    }
+
+    /// Each diagonal of the result has the angle that it had under its old numbers,
+    /// or 0 if it was none.
+    #[test]
+    fn angles_stay_with_their_diagonals() {
+        for part in (4..=8).flat_map(all_parts) {
+            let angles: Vec<i16> = (1..=part.n as i16 - 3).collect();
+            let part = part.angled(&angles);
+            let check = |edit: Edit, old: &dyn Fn(Corner) -> Corner| {
+                let Ok(edited) = after(&part, edit) else {
+                    return;
+                };
+                let had = |&(a, b): &Pair| {
+                    let place = part.diagonals.binary_search(&(old(a), old(b)));
+                    place.map_or(0, |place| angles[place])
+                };
+                let expected: Vec<i16> = edited.diagonals.iter().map(had).collect();
+                assert_eq!(edited.angles, (edited.n > 3).then_some(expected));
+                assert!(edited.is_valid());
+            };
+            for k in 0..part.n {
+                let corner = u64::from(k);
+                let added = |x: Corner| x - Corner::from(x > k);
+                check(Edit::Add { side: corner }, &added);
+                let taken_off = |x: Corner| x + Corner::from(x >= k);
+                check(Edit::TakeOff { corner }, &taken_off);
+            }
+            for &(a, b) in &part.diagonals {
+                let (a, b) = (b.into(), a.into());
+                check(Edit::Turn { a, b }, &|x| x);
+            }
         }
     }
 

@@ -1,6 +1,6 @@
 //! A model of the operations on bend charts, written sentence by sentence from
-//! document 01 and from request (xii) of document 02. It shares nothing with the
-//! library that it is compared with.
+//! document 01 and from requests (xi) and (xii) of document 02. It shares nothing
+//! with the library that it is compared with.
 //!
 //! Each module's header names the heading of document 01 that it follows, and the
 //! request where it rules instead.
@@ -11,9 +11,11 @@ pub mod chart;
 pub mod draw;
 pub mod edit;
 pub mod edit_list;
+pub mod fields;
 pub mod line;
 pub mod neighbours;
 pub mod part;
+pub mod plain_part;
 pub mod plan;
 pub mod random;
 pub mod reader;

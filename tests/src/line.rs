@@ -33,7 +33,11 @@ mod tests {
         assert_eq!(line(&[1, 0, 3]), triangle);
         assert_eq!(line(&[5, 0, 3, 255, 255, 255, 255]), triangle);
         assert_eq!(line(&[5, 0, 3]), "refused 2");
+        assert_eq!(line(&[9, 0, 3]), "refused 23");
         assert_eq!(line(&[1, 0, 2]), "refused 3");
         assert_eq!(line(&[]), "refused 1");
+        let square = "part - corners 4 levels 1 umbrellas 1 stems 0 rows 3 columns 3";
+        assert_eq!(line(&[3, 0, 4, 0, 0, 0, 2]), square);
+        assert_eq!(line(&[11, 0, 4, 0, 0, 0, 2, 248, 248]), square);
     }
 }

@@ -1,5 +1,8 @@
 //! A part: an outline of corners cut into triangles by diagonals.
-//! Follows "The part" of document 01; by request (xii) a part has no number.
+//! Follows "The part" of document 01; by request (xii) a part has no number, by
+//! request (xi) it may have "an angle with each diagonal".
+
+use std::ops::RangeInclusive;
 
 /// A corner, numbered from 0 round the outline.
 pub type Corner = u16;
@@ -11,12 +14,20 @@ pub type Pair = (Corner, Corner);
 pub const FEWEST: Corner = 3;
 pub const MOST: Corner = 1024;
 
+/// The angle of a bend, in tenths of a degree.
+pub type Angle = i16;
+
+/// The angles that are allowed.
+pub const ANGLES: RangeInclusive<Angle> = -1800..=1800;
+
 /// n corners and n-3 diagonals.
 #[derive(Clone, Debug, PartialEq, Eq)]
 pub struct Part {
     pub n: Corner,
     /// Each with its lower corner first; ascending.
     pub diagonals: Vec<Pair>,
+    /// One for each diagonal, in their order, or none at all. A triangle has none.
+    pub angles: Option<Vec<Angle>>,
 }
 
 /// The pair with its lower corner first.
@@ -69,21 +80,38 @@ pub fn any_cross_ascending(diagonals: &[Pair]) -> bool {
 }
 
 impl Part {
-    /// A part from pairs in any order, either corner first.
+    /// A part from pairs in any order, either corner first; without angles.
     pub fn new(n: Corner, pairs: &[Pair]) -> Part {
         let mut diagonals: Vec<Pair> = pairs.iter().copied().map(lower_first).collect();
         sort(&mut diagonals);
-        Part { n, diagonals }
+        let angles = None;
+        Part {
+            n,
+            diagonals,
+            angles,
+        }
+    }
+
+    /// The part with these angles, in the order of its diagonals, which ascend.
+    pub fn angled(self, angles: &[Angle]) -> Part {
+        assert_eq!(angles.len(), self.diagonals.len());
+        let angles = Some(angles.to_vec());
+        Part { angles, ..self }
     }
 
     /// Whether this is a part at all: 3 to 1,024 corners and n-3 different
-    /// diagonals, none crossing.
+    /// diagonals, none crossing; no angles, or one for each diagonal.
     pub fn is_valid(&self) -> bool {
         (FEWEST..=MOST).contains(&self.n)
             && self.diagonals.len() == usize::from(self.n - 3)
             && self.diagonals.iter().all(|&pair| is_diagonal(self.n, pair))
             && self.diagonals.windows(2).all(|two| two[0] < two[1])
             && !any_cross(&self.diagonals)
+            && self.angles.iter().all(|angles| {
+                self.n > FEWEST
+                    && angles.len() == self.diagonals.len()
+                    && angles.iter().all(|angle| ANGLES.contains(angle))
+            })
     }
 
     /// Whether the diagonal, lower corner first, is one of the part's.
@@ -98,9 +126,24 @@ impl Part {
     }
 }
 
+/// A number that ascends as the pairs do.
+fn key((a, b): Pair) -> u32 {
+    u32::from(a) << 16 | u32::from(b)
+}
+
 /// Sorts the pairs ascending.
 pub fn sort(pairs: &mut [Pair]) {
-    pairs.sort_unstable_by_key(|&(a, b)| u32::from(a) << 16 | u32::from(b));
+    pairs.sort_unstable_by_key(|&pair| key(pair));
+}
+
+/// The same, and each angle moves with its pair.
+pub fn sort_with_angles(pairs: &mut [Pair], angles: &mut [Angle]) {
+    let both = pairs.iter().copied().zip(angles.iter().copied());
+    let mut both: Vec<(Pair, Angle)> = both.collect();
+    both.sort_unstable_by_key(|&(pair, _)| key(pair));
+    for ((pair, angle), sorted) in pairs.iter_mut().zip(angles).zip(both) {
+        (*pair, *angle) = sorted;
+    }
 }
 
 #[cfg(test)]
@@ -129,5 +172,28 @@ mod tests {
         assert!(is_diagonal(5, (3, 0)) && !is_diagonal(5, (4, 0)) && !is_diagonal(5, (2, 2)));
         assert!(!is_diagonal(5, (1, 5)) && !is_diagonal(5, (u16::MAX, 1)));
         assert!(cross((0, 2), (1, 3)) && cross((1, 3), (0, 2)) && !cross((0, 2), (2, 4)));
+    }
+
+    #[test]
+    fn angles_of_a_valid_part() {
+        let pentagon = || Part::new(5, &[(0, 2), (0, 3)]);
+        for (angles, valid) in [
+            ([0, 0], true),
+            ([1800, -1800], true),
+            ([1801, 0], false),
+            ([0, -1801], false),
+            ([0, i16::MIN], false),
+        ] {
+            assert_eq!(pentagon().angled(&angles).is_valid(), valid);
+        }
+        assert!(!Part::new(3, &[]).angled(&[]).is_valid());
+    }
+
+    #[test]
+    fn an_angle_moves_with_its_pair() {
+        let mut pairs = [(2, 4), (0, 4), (0, 2)];
+        let mut angles = [7, -8, 9];
+        sort_with_angles(&mut pairs, &mut angles);
+        assert_eq!((pairs, angles), ([(0, 2), (0, 4), (2, 4)], [9, -8, 7]));
     }
 }

@@ -1,7 +1,8 @@
 //! Reading a chart back to its part's sheet.
 //! Follows "Read a chart" under "Operations and their refusals" of document 01,
 //! with the rules of "A chart is true". Each rule is tested on the whole chart
-//! before the next; sorted bars and a sweep over the columns make it quick.
+//! before the next; sorted bars and a sweep over the columns make it quick. A part
+//! read from a chart has no angles (request (xi)).
 
 use crate::answer::{Refusal, Written};
 use crate::chart::{Bar, Chart, Stroke};
@@ -147,7 +148,12 @@ fn part_of(chart: &Chart) -> Result<Part, Refusal> {
     if sides.len() != usize::from(n) || any_cross_ascending(&diagonals) {
         return Err(Refusal::NotAPart);
     }
-    Ok(Part { n, diagonals })
+    let angles = None;
+    Ok(Part {
+        n,
+        diagonals,
+        angles,
+    })
 }
 
 /// The part that a chart's bytes show, or the first refusal that applies.

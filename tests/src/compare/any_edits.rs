@@ -2,9 +2,10 @@
 //! lists of them.
 
 use super::sheets::pairs_end;
-use bend_tests::edit::{Edit, PlainPart};
+use bend_tests::edit::Edit;
 use bend_tests::edit_list::Lending;
 use bend_tests::part::{Corner, Part};
+use bend_tests::plain_part::PlainPart;
 use bend_tests::random::Random;
 use bend_tests::sheet;
 

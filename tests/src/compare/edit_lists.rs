@@ -9,8 +9,8 @@ use super::sheets::{any_part, any_sheet};
 use super::Tests;
 #[cfg(all(feature = "plan", feature = "draw"))]
 use bend_tests::draw::chart;
-use bend_tests::edit::PlainPart;
 use bend_tests::edit_list::Lending;
+use bend_tests::plain_part::PlainPart;
 #[cfg(all(feature = "plan", feature = "draw"))]
 use bend_tests::plan::Pieces;
 use bend_tests::random::Random;

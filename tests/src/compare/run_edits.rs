@@ -7,9 +7,10 @@ use super::checks::{guarded, hex, inside, must_be, same_bytes, Failure, Outcome}
 use super::sheets::{any_part, any_sheet, without_and_with, DAMAGES};
 use super::Tests;
 use crate::library;
-use bend_tests::edit::{Edit, PlainPart};
+use bend_tests::edit::Edit;
 use bend_tests::edit_list::{edits, encoded, run as by_model, Lending, Place, Ran};
 use bend_tests::part::Corner;
+use bend_tests::plain_part::PlainPart;
 use bend_tests::random::Random;
 use bend_tests::shapes::all_parts;
 use std::hint::black_box;
