@@ -1,7 +1,7 @@
 //! Edits to ask for: all those of a part, those that it takes, random ones, and
 //! lists of them.
 
-use super::sheets::pairs_end;
+use super::sheets::length_of;
 use bend_tests::edit::Edit;
 use bend_tests::edit_list::Lending;
 use bend_tests::part::{Corner, Part};
@@ -47,7 +47,7 @@ pub fn taken_edits(part: &Part) -> Vec<Lending> {
     let sides = numbers().filter(|_| n < 1024);
     let ears = numbers().filter(|&k| n > 3 && !diagonal_ends_at(part, k));
     let diagonals = part.diagonals.iter().map(|&(a, b)| (a.into(), b.into()));
-    let room = |n| pairs_end(n) as u32;
+    let room = |n| length_of(n, part.angles.is_some()) as u32;
     let add = |side| (Edit::Add { side }, room(n + 1));
     let take_off = |corner| (Edit::TakeOff { corner }, room(n - 1));
     let turn = |(a, b)| (Edit::Turn { a, b }, room(n));
@@ -105,15 +105,16 @@ pub fn any_edit(part: &Part, random: &mut Random) -> Edit {
     }
 }
 
-/// A length to lend to an edit of a part whose normal sheet has `length` bytes,
-/// mostly enough.
-pub fn any_room(length: usize, random: &mut Random) -> usize {
+/// A length to lend to an edit of the part, mostly enough.
+pub fn any_room(part: &Part, random: &mut Random) -> usize {
+    let length = sheet::length(part);
+    let longer = length_of(part.n + 1, part.angles.is_some());
     match random.below(12) {
-        0 => random.below(length + 5),
+        0 => random.below(longer + 1),
         1 => length,
-        2 => length + 4,
-        3 => length + 4 - random.below(10).min(length),
-        _ => length + 4 + random.below(100),
+        2 => longer,
+        3 => longer - random.below(10).min(length),
+        _ => longer + random.below(100),
     }
 }
 
@@ -122,7 +123,7 @@ pub fn any_list(part: &Part, count: usize, random: &mut Random) -> Vec<Lending> 
     let mut plain = PlainPart::new(&sheet::normal(part)).expect("the part is valid");
     let edit = |_| {
         let edit = any_edit(&plain.part, random);
-        let room = any_room(sheet::length(&plain.part), random);
+        let room = any_room(&plain.part, random);
         plain.edit(edit, room);
         (edit, room as u32)
     };

@@ -4,54 +4,15 @@
 //! names.
 
 use super::any_edits::{all_edits, one_of_each_kind, taken_edits};
-use super::checks::{hex, must_be, same_bytes, Failure, Outcome};
-use super::sheets::{any_four, any_order, any_part, ordered, pairs_end, ORDERS};
+use super::calls::{number_due, Call};
+use super::sheets::{any_four, any_order, any_part, both_kinds, length_of, maybe_angled};
+use super::sheets::{ordered, ORDERS};
 use super::Tests;
 use bend_tests::edit_list::Lending;
-use bend_tests::part::{Corner, Part};
+use bend_tests::part::Part;
 use bend_tests::random::Random;
 use bend_tests::shapes::{all_parts, part, SHAPES};
-use bend_tests::sheet::{self, Skipped};
-use std::fmt::Debug;
-
-/// A call of an operation on any sheet.
-pub trait Call: Copy + Debug {
-    /// The library's answer.
-    fn by_library(self, sheet: &[u8], out: &mut [u8]) -> u64;
-
-    /// Both sides on one sheet with `lent` bytes of output.
-    fn same(self, sheet: &[u8], lent: usize) -> Outcome;
-
-    /// Both sides, and the number that the test was made to get.
-    fn gives(self, number: u16, sheet: &[u8], lent: usize) -> Outcome {
-        must_be(number, self.by_library(sheet, &mut vec![0; lent]), sheet)
-            .map_err(|failure| failure.after(&format!("{self:?} with {lent} bytes, on")))?;
-        self.same(sheet, lent)
-    }
-
-    /// Both sides on each sheet, and the library's answer and output on all of
-    /// them the same.
-    fn alike(self, sheets: &[Vec<u8>], lent: usize) -> Outcome {
-        let answered = |sheet: &[u8]| {
-            let mut out = vec![0x5a; lent];
-            (self.by_library(sheet, &mut out), out)
-        };
-        let first = answered(&sheets[0]);
-        for sheet in sheets {
-            self.same(sheet, lent)?;
-            let found = answered(sheet);
-            if found != first {
-                let told = |(answer, out): &(u64, Vec<u8>)| format!("{answer:#x}, {}", hex(out));
-                return Err(Failure {
-                    input: format!("{self:?} with {lent} bytes, on {}", hex(sheet)),
-                    library: told(&found),
-                    model: format!("{}, as on {}", told(&first), hex(&sheets[0])),
-                });
-            }
-        }
-        Ok(())
-    }
-}
+use bend_tests::sheet::Skipped;
 
 /// Tests of an operation. `calls` gives its calls for a part and edits of it, each
 /// with the length of its result.
@@ -64,22 +25,6 @@ pub fn run<C: Call>(
     sheets_alike(tests, operation, &calls);
 }
 
-/// The number for the sheet of a part with `n` corners that has got another map
-/// byte and another length: "1: empty, bit 0 clear, or bit 3 to 7 set. 2: under 3
-/// bytes. .. 4: bit 1 disagrees with n. 2: length not exact." The four bytes of
-/// bit 2 still count.
-fn number_due(map: u8, n: Corner, length: usize) -> u16 {
-    let exact = |end: usize| if length == end { 0 } else { 2 };
-    match (map, n) {
-        _ if length == 0 => 1,
-        (0 | 2 | 4 | 6 | 8.., _) => 1,
-        _ if length < 3 => 2,
-        (1, 3) | (3, 4..) => exact(pairs_end(n)),
-        (5, 3) | (7, 4..) => exact(pairs_end(n) + 4),
-        _ => 4,
-    }
-}
-
 fn map_bytes_and_lengths<C: Call>(
     tests: &mut Tests,
     operation: &str,
@@ -90,13 +35,15 @@ fn map_bytes_and_lengths<C: Call>(
         tests.test(&name, || {
             let mut random = Random::new(401);
             let part = any_part(n, &mut random);
+            let part = Part::new(n, &part.diagonals);
             let mut sheet = any_order(&part, None, &mut random);
             sheet.extend(random.bytes(13));
             for (call, room) in calls(&part, &one_of_each_kind(&part, &mut random)) {
                 for map in 0..=255 {
                     sheet[0] = map;
                     for length in 0..=sheet.len() {
-                        call.gives(number_due(map, n, length), &sheet[..length], room)?;
+                        let sheet = &sheet[..length];
+                        call.gives(number_due(n, sheet), sheet, room)?;
                     }
                 }
             }
@@ -125,12 +72,13 @@ fn many_fours(random: &mut Random) -> Vec<Skipped> {
 /// The part's sheets in one order: without bit 2, and with each four bytes.
 fn differing(part: &Part, fours: &[Skipped], random: &mut Random) -> Vec<Vec<u8>> {
     let order = *random.pick(&ORDERS);
-    let pairs = ordered(part, order, random);
-    let with = fours.iter().copied().map(Some);
-    std::iter::once(None)
-        .chain(with)
-        .map(|skipped| sheet::with_pairs(part.n, &pairs, skipped))
-        .collect()
+    let mut fields = ordered(part, order, random);
+    let mut sheets = vec![fields.bytes()];
+    for &four in fours {
+        fields.skipped = Some(four);
+        sheets.push(fields.bytes());
+    }
+    sheets
 }
 
 /// "Two sheets that differ only there now give the same normal sheet", and the
@@ -155,10 +103,14 @@ fn sheets_alike<C: Call>(
     });
     tests.test(&format!("{name}, all parts of up to 6 corners"), || {
         let mut random = Random::new(412);
-        for part in (3..=6).flat_map(all_parts) {
+        let parts = (3..=6).flat_map(all_parts);
+        let parts: Vec<Part> = parts
+            .flat_map(|part| both_kinds(&part, &mut random))
+            .collect();
+        for part in parts {
             let fours = [[0; 4], [0, 0, 0, 2], any_four(&mut random)];
             let sheets = differing(&part, &fours, &mut random);
-            let room = pairs_end(part.n + 1) as u32;
+            let room = length_of(part.n + 1, part.angles.is_some()) as u32;
             let asked = all_edits(part.n).into_iter().map(|edit| (edit, room));
             let edits: Vec<Lending> = asked.chain(taken_edits(&part)).collect();
             for (call, room) in calls(&part, &edits) {
@@ -174,6 +126,7 @@ fn sheets_alike<C: Call>(
         for shape in SHAPES.iter().flat_map(|&shape| [shape; 12]) {
             let n = *random.pick(&[9, 31, 170, 511, 900, 1022, 1023, 1024]);
             let part = part(shape, n, &mut random);
+            let part = maybe_angled(part, &mut random);
             let fours = [any_four(&mut random), any_four(&mut random)];
             let sheets = differing(&part, &fours, &mut random);
             for (call, room) in calls(&part, &one_of_each_kind(&part, &mut random)) {
@@ -231,19 +184,7 @@ pub fn results(tests: &mut Tests, normalize: impl Call) {
             for four in many_fours(&mut Random::new(431)) {
                 let sheet = [head, &four].concat();
                 for room in 0..=normal.len() + 5 {
-                    let mut out = vec![0x5a; room];
-                    let answer = normalize.by_library(&sheet, &mut out);
-                    let mut expected = vec![0x5a; room];
-                    let due = match expected.get_mut(..normal.len()) {
-                        None => 8,
-                        Some(result) => {
-                            result.copy_from_slice(normal);
-                            (normal.len() as u64) << 16
-                        }
-                    };
-                    same_bytes(&sheet, &answer.to_be_bytes(), &due.to_be_bytes())?;
-                    same_bytes(&sheet, &out, &expected)?;
-                    normalize.same(&sheet, room)?;
+                    normalize.writes(&sheet, room, normal)?;
                 }
             }
             Ok(())

@@ -2,23 +2,17 @@
 //! taken writes has none; if none is taken, the sheet left is still the first one,
 //! bit 2 and all. `operation` begins the tests' names.
 
-use super::any_edits::{any_edit, any_list, one_of_each_kind, taken_edits};
-use super::checks::{same_bytes, Failure, Outcome};
-use super::sheets::{any_four, any_order, any_part, pairs_end};
+use super::any_edits::{any_list, one_of_each_kind, taken_edits};
+use super::lists::{leaves, refuse, size, Run};
+use super::sheets::{any_four, any_order, any_part, both_kinds};
 use super::Tests;
 use bend_tests::edit::Edit;
 use bend_tests::edit_list::{edits, encoded, Lending};
-use bend_tests::part::{Corner, Part};
+use bend_tests::fields::Fields;
+use bend_tests::part::Part;
 use bend_tests::plain_part::PlainPart;
 use bend_tests::random::Random;
 use bend_tests::shapes::all_parts;
-use bend_tests::sheet;
-
-/// What a list gives: the number of each edit, and the sheet left.
-pub type Left = (Vec<u16>, Vec<u8>);
-
-/// Runs a list from a first sheet by the library, beside the model.
-pub type Run = fn(&[u8], &[Lending]) -> Result<Left, Failure>;
 
 /// All tests of one way to run a list.
 pub fn run(tests: &mut Tests, operation: &str, run: Run) {
@@ -28,54 +22,10 @@ pub fn run(tests: &mut Tests, operation: &str, run: Run) {
     lists_alike(tests, operation, run);
 }
 
-/// A failure unless the list gives these numbers and leaves this sheet.
-fn leaves(run: Run, first: &[u8], list: &[Lending], numbers: &[u16], sheet: &[u8]) -> Outcome {
-    let (found, left) = run(first, list)?;
-    let bytes = |numbers: &[u16]| -> Vec<u8> {
-        let each = numbers.iter().flat_map(|number| number.to_be_bytes());
-        each.collect()
-    };
-    same_bytes(first, &bytes(&found), &bytes(numbers))?;
-    same_bytes(first, &left, sheet)
-}
-
 /// The part's sheet in a random order, with bit 2.
 fn with_bit_2(part: &Part, random: &mut Random) -> Vec<u8> {
     let skipped = Some(any_four(random));
     any_order(part, skipped, random)
-}
-
-/// An edit that is refused: the part cannot take it, or its output is too short.
-fn any_refused(part: &Part, random: &mut Random) -> Lending {
-    let encoded = encoded(&[(any_edit(part, random), 0)], 0);
-    let (edit, _) = edits(&encoded).expect("an encoded edit")[0];
-    let mut edited = part.clone();
-    let room = match edit.apply(&mut edited) {
-        Err(_) => random.below(pairs_end(part.n) + 9),
-        Ok(()) if random.coin() => pairs_end(edited.n) - 1,
-        Ok(()) => random.below(pairs_end(edited.n)),
-    };
-    (edit, room as u32)
-}
-
-/// A few refused edits, put at the end of the list with their numbers.
-fn refuse(plain: &mut PlainPart, list: &mut Vec<(Lending, u16)>, random: &mut Random) {
-    for _ in 0..random.below(5) {
-        let (edit, room) = any_refused(&plain.part, random);
-        let number = plain.edit(edit, room as usize);
-        assert_ne!(number, 0, "{edit:?} is refused");
-        list.push(((edit, room), number));
-    }
-}
-
-/// The size of the part in a round: mostly small, the largest at times.
-fn size(round: usize, random: &mut Random) -> Corner {
-    let n = match round % 50 {
-        0 => random.between(1022, 1024),
-        1 => random.between(31, 1021),
-        _ => random.between(3, 30),
-    };
-    n as Corner
 }
 
 fn none_taken(tests: &mut Tests, operation: &str, run: Run) {
@@ -127,8 +77,7 @@ fn some_taken(tests: &mut Tests, operation: &str, run: Run) {
                 list.push(((edit, room), 0));
                 refuse(&mut plain, &mut list, &mut random);
             }
-            let part = &plain.part;
-            let expected = sheet::with_pairs(part.n, &part.diagonals, None);
+            let expected = Fields::of(&plain.part).bytes();
             let (list, numbers): (Vec<Lending>, Vec<u16>) = list.into_iter().unzip();
             leaves(run, &first, &list, &numbers, &expected)?;
         }
@@ -144,7 +93,7 @@ fn exact_rooms(tests: &mut Tests, operation: &str, run: Run) {
         let first = with_bit_2(part, random);
         let mut edited = part.clone();
         edit.apply(&mut edited).expect("the part takes the edit");
-        let expected = sheet::with_pairs(edited.n, &edited.diagonals, None);
+        let expected = Fields::of(&edited).bytes();
         let (short, enough) = ((edit, room - 1), (edit, room));
         leaves(run, &first, &[short], &[8], &first)?;
         leaves(run, &first, &[enough], &[0], &expected)?;
@@ -155,8 +104,10 @@ fn exact_rooms(tests: &mut Tests, operation: &str, run: Run) {
     tests.test(&format!("{name}, all parts of up to 6 corners"), || {
         let mut random = Random::new(453);
         for part in (3..=6).flat_map(all_parts) {
-            for edit in taken_edits(&part) {
-                check(&part, edit, &mut random)?;
+            for part in both_kinds(&part, &mut random) {
+                for edit in taken_edits(&part) {
+                    check(&part, edit, &mut random)?;
+                }
             }
         }
         Ok(())

@@ -1,10 +1,13 @@
 //! Draw: the library's `bend_draw` beside the model.
 
-use super::bit_2::{self, Call};
+use super::angle_results;
+use super::angles;
+use super::bit_2;
+use super::calls::Call;
 use super::checks::{hex, must_be, same_bytes, same_writing, Failure, Outcome};
 use super::faults::refusals;
 use super::groups::{self, Damaged};
-use super::sheets::{any_part, any_sheet};
+use super::sheets::{any_part, any_sheet, maybe_angled};
 use super::Tests;
 use crate::library;
 use bend_tests::chart::Chart;
@@ -31,6 +34,9 @@ pub fn run(tests: &mut Tests) {
     let call = |part: &Part, _: &[Lending]| vec![(Draw, chart_of(part).length())];
     bit_2::run(tests, "draw", call);
     bit_2::output_lengths(tests, "draw", call);
+    angles::run(tests, "draw", call);
+    angles::output_lengths(tests, "draw", call);
+    angle_results::alike(tests, "draw", call);
 }
 
 #[derive(Clone, Copy, Debug)]
@@ -157,13 +163,13 @@ fn large_parts(tests: &mut Tests) {
         tests.test(&format!("draw: {shape:?}, true charts"), || {
             let mut random = Random::new(204);
             for n in (3..200).chain([1023, 1024]) {
-                let sheet = any_sheet(&part(shape, n, &mut random), &mut random);
-                is_a_true_chart(&sheet)?;
+                let part = maybe_angled(part(shape, n, &mut random), &mut random);
+                is_a_true_chart(&any_sheet(&part, &mut random))?;
             }
             Ok(())
         });
     }
-    groups::bit_2_and_order(tests, "draw", 205, |part, sheet| {
+    groups::bit_2_angles_and_order(tests, "draw", 205, |part, sheet| {
         draws(sheet, &chart_of(part))
     });
 }

@@ -1,10 +1,12 @@
 //! Lists of edits: the library reads what it wrote, the plain part of document 01
 //! is fed the edits alone, and both must leave the same sheet.
 
+use super::angle_lists;
 use super::any_edits::{any_edit, any_room};
-use super::bit_2_lists::{self, Left};
+use super::bit_2_lists;
 use super::checks::{must_be, same_bytes, Failure, Outcome};
 use super::edits::{by_library, same};
+use super::lists::Left;
 use super::sheets::{any_part, any_sheet};
 use super::Tests;
 #[cfg(all(feature = "plan", feature = "draw"))]
@@ -14,7 +16,6 @@ use bend_tests::plain_part::PlainPart;
 #[cfg(all(feature = "plan", feature = "draw"))]
 use bend_tests::plan::Pieces;
 use bend_tests::random::Random;
-use bend_tests::sheet;
 
 /// Runs one list of edits. The library reads what it wrote last; the plain part
 /// is fed the edits alone.
@@ -23,7 +24,7 @@ fn list(first: &[u8], length: usize, random: &mut Random) -> Outcome {
     let mut left = first.to_vec();
     for _ in 0..length {
         let edit = any_edit(&plain.part, random);
-        let lent = any_room(sheet::length(&plain.part), random);
+        let lent = any_room(&plain.part, random);
         let mut out = random.bytes(lent);
         let answer = by_library(&left, edit, &mut out);
         let number = plain.edit(edit, lent);
@@ -83,4 +84,5 @@ pub fn run(tests: &mut Tests) {
         });
     }
     bit_2_lists::run(tests, "edits", run_list);
+    angle_lists::run(tests, "edits", run_list);
 }

@@ -1,12 +1,16 @@
 //! The three edits: the library's `bend_add_ear`, `bend_remove_ear` and
 //! `bend_flip` beside the model, one by one.
 
+use super::angle_results;
+use super::angles;
 use super::any_edits::{all_edits, any_edit};
-use super::bit_2::{self, Call};
+use super::bit_2;
+use super::calls::Call;
 use super::checks::{must_be, same_bytes, same_writing, Outcome};
 use super::faults::refusals;
 use super::groups::{self, Damaged};
-use super::sheets::{any_order, any_part, any_sheet, without_and_with};
+use super::sheets::{any_angled, any_order, any_part, any_sheet, has_angles, length_of};
+use super::sheets::{without_and_with, ENOUGH};
 use super::Tests;
 use crate::library;
 use bend_tests::edit::{edit_sheet, Edit};
@@ -28,6 +32,10 @@ pub fn run(tests: &mut Tests) {
     };
     bit_2::run(tests, "edits", calls);
     bit_2::output_lengths(tests, "edits", calls);
+    angles::run(tests, "edits", calls);
+    angles::output_lengths(tests, "edits", calls);
+    angle_results::same_pairs(tests, "edits", calls);
+    angle_results::edited(tests, |edit| edit);
 }
 
 impl Call for Edit {
@@ -92,12 +100,13 @@ fn known_parts(tests: &mut Tests) {
     );
     tests.test("edits: known part, adding at 1,023 works", || {
         without_and_with(&fan(1023)).iter().try_for_each(|sheet| {
-            (0..1023).try_for_each(|side| gives(0, sheet, Edit::Add { side }, 4087))
+            let room = if has_angles(sheet) { 6129 } else { 4087 };
+            (0..1023).try_for_each(|side| gives(0, sheet, Edit::Add { side }, room))
         })
     });
     tests.test("edits: known part, adding at 1,024 gives 10", || {
         without_and_with(&fan(1024)).iter().try_for_each(|sheet| {
-            (0..1024).try_for_each(|side| gives(10, sheet, Edit::Add { side }, 5000))
+            (0..1024).try_for_each(|side| gives(10, sheet, Edit::Add { side }, ENOUGH))
         })
     });
 }
@@ -112,6 +121,17 @@ fn small_parts(tests: &mut Tests) {
                     for edit in all_edits(n) {
                         let sheet = any_order(&part, skipped, &mut random);
                         same(&sheet, edit, sheet::length(&part) + 4)?;
+                    }
+                }
+                Ok(())
+            });
+            tests.test(&format!("{name}, with angles"), || {
+                let mut random = Random::new(62);
+                for part in all_parts(n) {
+                    for edit in all_edits(n) {
+                        let part = any_angled(part.clone(), &mut random);
+                        let sheet = any_order(&part, skipped, &mut random);
+                        same(&sheet, edit, length_of(n + 1, true))?;
                     }
                 }
                 Ok(())
@@ -194,7 +214,7 @@ fn large_parts(tests: &mut Tests) {
                 let part = any_part(n, &mut random);
                 let sheet = any_sheet(&part, &mut random);
                 for _ in 0..4 {
-                    same(&sheet, any_edit(&part, &mut random), 4 * usize::from(n) + 4)?;
+                    same(&sheet, any_edit(&part, &mut random), 6 * usize::from(n) + 6)?;
                 }
             }
             Ok(())
@@ -207,13 +227,13 @@ fn large_parts(tests: &mut Tests) {
             let part = any_part(1023, &mut random);
             for sheet in without_and_with(&part) {
                 for number in 0..1023 {
-                    same(&sheet, Edit::Add { side: number }, 5000)?;
-                    same(&sheet, Edit::TakeOff { corner: number }, 5000)?;
+                    same(&sheet, Edit::Add { side: number }, ENOUGH)?;
+                    same(&sheet, Edit::TakeOff { corner: number }, ENOUGH)?;
                 }
                 for &(a, b) in &part.diagonals {
                     let (a, b) = (u64::from(a), u64::from(b));
-                    gives(0, &sheet, Edit::Turn { a, b }, 5000)?;
-                    gives(0, &sheet, Edit::Turn { a: b, b: a }, 5000)?;
+                    gives(0, &sheet, Edit::Turn { a, b }, ENOUGH)?;
+                    gives(0, &sheet, Edit::Turn { a: b, b: a }, ENOUGH)?;
                 }
             }
             Ok(())

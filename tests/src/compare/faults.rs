@@ -1,12 +1,13 @@
-//! Faulty sheets: every fault that refusals 1 to 7 name, by itself and in twos.
-//! In twos the first in the published order must win.
+//! Faulty sheets: every fault that refusals 1 to 7 and 23 name, by itself and in
+//! twos. In twos the first in the published order must win.
 
 use super::checks::Outcome;
-use super::sheets::{any_four, any_part, ordered, ORDERS};
+use super::sheets::{any_angle, any_four, any_part, ordered, ENOUGH, ORDERS};
 use super::Tests;
-use bend_tests::part::{cross, is_diagonal, lower_first, Corner, Pair};
+use bend_tests::fields::Fields;
+use bend_tests::part::{cross, is_diagonal, lower_first, Angle, Corner, Pair};
 use bend_tests::random::Random;
-use bend_tests::sheet::Skipped;
+use bend_tests::sheet::ANGLES_BIT;
 
 /// What becomes of a drafted sheet's bytes at their end.
 #[derive(Clone, Copy)]
@@ -21,8 +22,8 @@ enum Ending {
 struct Draft {
     map: u8,
     n: Corner,
-    pairs: Vec<Pair>,
-    skipped: Option<Skipped>,
+    /// Those of a valid sheet but for the pairs and angles that faults change.
+    fields: Fields,
     ending: Ending,
     /// The places of pairs that a fault needs as they are.
     taken: Vec<usize>,
@@ -39,24 +40,21 @@ impl Draft {
         let part = any_part(n as Corner, random);
         let order = *random.pick(&ORDERS);
         let skipped = (random.below(3) > 0).then(|| any_four(random));
+        let fields = ordered(&part, order, random);
+        let fields = Fields { skipped, ..fields };
         Draft {
-            map: if skipped.is_some() { 7 } else { 3 },
+            map: fields.bytes()[0],
             n: part.n,
-            pairs: ordered(&part, order, random),
-            skipped,
+            fields,
             ending: Ending::Whole,
             taken: Vec::new(),
         }
     }
 
     fn bytes(&self) -> Vec<u8> {
-        let mut bytes = vec![self.map];
-        bytes.extend(self.n.to_be_bytes());
-        for (a, b) in &self.pairs {
-            bytes.extend(a.to_be_bytes());
-            bytes.extend(b.to_be_bytes());
-        }
-        bytes.extend(self.skipped.iter().flatten());
+        let mut bytes = self.fields.bytes();
+        bytes[0] = self.map;
+        bytes[1..3].copy_from_slice(&self.n.to_be_bytes());
         match self.ending {
             Ending::Whole => {}
             Ending::Keep(length) => bytes.truncate(length),
@@ -71,8 +69,8 @@ impl Draft {
         loop {
             let place = match random.below(4) {
                 0 => 0,
-                1 => self.pairs.len() - 1,
-                _ => random.below(self.pairs.len()),
+                1 => self.fields.pairs.len() - 1,
+                _ => random.below(self.fields.pairs.len()),
             };
             if !self.taken.contains(&place) {
                 self.taken.push(place);
@@ -106,11 +104,11 @@ const fn fault(
     }
 }
 
-/// Every kind of fault that refusals 1 to 7 name, in the published order.
-static FAULTS: [Fault; 32] = [
+/// Every kind of fault that refusals 1 to 7 and 23 name, in the published order,
+/// but bit 3 with n = 3.
+static FAULTS: [Fault; 38] = [
     fault(1, 0, "empty", |d, _| d.ending = Ending::Keep(0)),
     fault(1, 0, "bit 0 clear", |d, _| d.map &= !1),
-    fault(1, 0, "bit 3 set", |d, _| d.map |= 1 << 3),
     fault(1, 0, "bit 4 set", |d, _| d.map |= 1 << 4),
     fault(1, 0, "bit 5 set", |d, _| d.map |= 1 << 5),
     fault(1, 0, "bit 6 set", |d, _| d.map |= 1 << 6),
@@ -129,6 +127,9 @@ static FAULTS: [Fault; 32] = [
     fault(2, 4, "a pair over", |d, _| d.ending = Ending::Add(4)),
     fault(2, 4, "three bytes", |d, _| d.ending = Ending::Keep(3)),
     fault(2, 4, "bit 2 flipped", |d, _| d.map ^= 4),
+    fault(2, 4, "bit 3 flipped", |d, _| d.map ^= ANGLES_BIT),
+    fault(2, 4, "two bytes short", |d, _| d.ending = Ending::Drop(2)),
+    fault(2, 4, "two bytes over", |d, _| d.ending = Ending::Add(2)),
     fault(5, 5, "a side", |d, random| {
         let a = random.below(usize::from(d.n) - 1) as Corner;
         replace(d, (a, a + 1), random)
@@ -158,31 +159,62 @@ static FAULTS: [Fault; 32] = [
     }),
     fault(6, 6, "repeated", |d, random| {
         let (from, to) = (d.take(random), d.take(random));
-        d.pairs[to] = d.pairs[from];
+        d.fields.pairs[to] = d.fields.pairs[from];
     }),
     fault(6, 6, "repeated the other way round", |d, random| {
         let (from, to) = (d.take(random), d.take(random));
-        d.pairs[to] = (d.pairs[from].1, d.pairs[from].0);
+        let (a, b) = d.fields.pairs[from];
+        d.fields.pairs[to] = (b, a);
     }),
     fault(7, 7, "crossing", |d, random| {
         let (kept, place) = (d.take(random), d.take(random));
-        let stands: Vec<Pair> = d.pairs.iter().copied().map(lower_first).collect();
+        let pairs = d.fields.pairs.iter().copied();
+        let stands: Vec<Pair> = pairs.map(lower_first).collect();
         loop {
             let a = random.below(usize::from(d.n)) as Corner;
             let b = random.below(usize::from(d.n)) as Corner;
             let pair = lower_first((a, b));
             if is_diagonal(d.n, pair) && !stands.contains(&pair) && cross(pair, stands[kept]) {
-                d.pairs[place] = (a, b);
+                d.fields.pairs[place] = (a, b);
                 return;
             }
         }
     }),
+    fault(23, 8, "an angle of 1,801", |d, random| {
+        bend(d, 1801, random)
+    }),
+    fault(23, 8, "an angle of -1,801", |d, random| {
+        bend(d, -1801, random)
+    }),
+    fault(23, 8, "an angle of 32,767", |d, random| {
+        bend(d, 32767, random)
+    }),
+    fault(23, 8, "an angle of -32,768", |d, random| {
+        bend(d, -32768, random)
+    }),
 ];
+
+/// Gives one of the draft's pairs, or several, the angle, and the draft angles if it
+/// has none.
+fn bend(draft: &mut Draft, angle: Angle, random: &mut Random) {
+    draft.map |= ANGLES_BIT;
+    let count = draft.fields.pairs.len();
+    let any = || (0..count).map(|_| any_angle(random)).collect();
+    let angles = draft.fields.angles.get_or_insert_with(any);
+    for _ in 0..=random.below(3) {
+        let place = match random.below(4) {
+            0 => 0,
+            1 => count - 1,
+            _ => random.below(count),
+        };
+        angles[place] = angle;
+    }
+}
 
 /// Puts `pair` in the place of one of the draft's.
 fn replace(draft: &mut Draft, pair: Pair, random: &mut Random) {
     let place = draft.take(random);
-    draft.pairs[place] = pair;
+    draft.fields.pairs[place] = pair;
 }
 
 /// A draft with the faults done to it, the first one last so that it stands.
@@ -199,7 +231,7 @@ fn spoiled(first: &Fault, second: Option<&Fault>, random: &mut Random) -> Vec<u8
 fn alone(fault: &Fault, gives: &impl Fn(u16, &[u8], usize) -> Outcome) -> Outcome {
     let mut random = Random::new(21);
     (0..60).try_for_each(|round| {
-        let lent = if round < 40 { 5000 } else { round - 40 };
+        let lent = if round < 40 { ENOUGH } else { round - 40 };
         gives(fault.number, &spoiled(fault, None, &mut random), lent)
     })
 }
@@ -209,7 +241,7 @@ fn before(first: &Fault, second: &Fault, gives: &impl Fn(u16, &[u8], usize) -> O
     let mut random = Random::new(22);
     (0..10).try_for_each(|_| {
         let sheet = spoiled(first, Some(second), &mut random);
-        gives(first.number, &sheet, 5000)
+        gives(first.number, &sheet, ENOUGH)
     })
 }
 

@@ -2,7 +2,8 @@
 //! the operation's own check. `operation` begins the tests' names.
 
 use super::checks::{on_a_small_stack, Outcome};
-use super::sheets::{any_four, any_order, any_part, any_sheet, DAMAGES};
+use super::sheets::{any_angled, any_four, any_order, any_part, any_sheet, both_kinds};
+use super::sheets::{maybe_angled, DAMAGES};
 use super::Tests;
 use bend_tests::part::{Corner, Part};
 use bend_tests::random::Random;
@@ -24,6 +25,8 @@ pub fn small_parts(
                 for skipped in [None, Some(any_four(&mut random))] {
                     check(&part, &any_order(&part, skipped, &mut random))?;
                 }
+                let part = any_angled(part, &mut random);
+                check(&part, &any_sheet(&part, &mut random))?;
             }
             Ok(())
         });
@@ -44,6 +47,7 @@ pub fn shaped_parts(
             for _ in 0..200 {
                 let n = random.between(10, 60) as Corner;
                 let part = part(shape, n, &mut random);
+                let part = maybe_angled(part, &mut random);
                 check(&part, &any_sheet(&part, &mut random))?;
             }
             Ok(())
@@ -68,7 +72,9 @@ pub fn large_parts(
                     10..=19 => 1023,
                     _ => random.between(10, 1024) as Corner,
                 };
-                same(&any_sheet(&part(shape, n, &mut random), &mut random))?;
+                let part = part(shape, n, &mut random);
+                let part = maybe_angled(part, &mut random);
+                same(&any_sheet(&part, &mut random))?;
             }
             Ok(())
         });
@@ -78,28 +84,33 @@ pub fn large_parts(
         on_a_small_stack(move || {
             let mut random = Random::new(seeds[1]);
             for shape in SHAPES.iter().flat_map(|&shape| [shape; 4]) {
-                same(&any_sheet(&part(shape, 1024, &mut random), &mut random))?;
+                for part in both_kinds(&part(shape, 1024, &mut random), &mut random) {
+                    same(&any_sheet(&part, &mut random))?;
+                }
             }
             Ok(())
         })
     });
 }
 
-/// Sheets of one part with and without bit 2, in any order.
-pub fn bit_2_and_order(
+/// Sheets of one part with and without bit 2, with and without angles, in any
+/// order.
+pub fn bit_2_angles_and_order(
     tests: &mut Tests,
     operation: &str,
     seed: u64,
     check: impl Fn(&Part, &[u8]) -> Outcome,
 ) {
-    let name = format!("{operation}: bit 2 and the order change nothing");
+    let name = format!("{operation}: bit 2, angles and the order change nothing");
     tests.test(&name, || {
         let mut random = Random::new(seed);
         for _ in 0..200 {
             let n = random.between(3, 300) as Corner;
             let part = any_part(n, &mut random);
-            for _ in 0..4 {
-                check(&part, &any_sheet(&part, &mut random))?;
+            for kind in both_kinds(&Part::new(n, &part.diagonals), &mut random) {
+                for _ in 0..4 {
+                    check(&part, &any_sheet(&kind, &mut random))?;
+                }
             }
         }
         Ok(())
@@ -152,9 +163,11 @@ pub fn truncated_sheets(
         let mut random = Random::new(seed);
         for n in [3, 4, 5, 9, 40, 1024] {
             let part = any_part(n, &mut random);
-            for skipped in [None, Some(any_four(&mut random))] {
-                let sheet = any_order(&part, skipped, &mut random);
-                (0..=sheet.len()).try_for_each(|length| same(&sheet[..length]))?;
+            for part in both_kinds(&Part::new(n, &part.diagonals), &mut random) {
+                for skipped in [None, Some(any_four(&mut random))] {
+                    let sheet = any_order(&part, skipped, &mut random);
+                    (0..=sheet.len()).try_for_each(|length| same(&sheet[..length]))?;
+                }
             }
         }
         Ok(())

@@ -73,15 +73,15 @@ pub fn run(tests: &mut Tests) {
         "run_edits: every length of the numbers and of a buffer",
         || {
             let mut random = Random::new(102);
-            let list = [(Edit::Add { side: 2 }, 40), (Edit::Turn { a: 2, b: 4 }, 41)];
+            let list = [(Edit::Add { side: 2 }, 50), (Edit::Turn { a: 2, b: 4 }, 51)];
             let list = encoded(&list, 0);
             for first in without_and_with(&any_part(9, &mut random)) {
                 for length in 0..60 {
                     let number = if length < 4 { 34 } else { 0 };
-                    gives(number, &first, &list, [41, 41, length])?;
-                    let number = if length < 41 { 35 } else { 0 };
-                    gives(number, &first, &list, [length, 41, 4])?;
-                    gives(number, &first, &list, [41, length, 4])?;
+                    gives(number, &first, &list, [51, 51, length])?;
+                    let number = if length < 51 { 35 } else { 0 };
+                    gives(number, &first, &list, [length, 51, 4])?;
+                    gives(number, &first, &list, [51, length, 4])?;
                 }
             }
             Ok(())

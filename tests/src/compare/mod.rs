@@ -18,8 +18,16 @@ mod plan;
 mod read_chart;
 #[cfg(feature = "run_edits")]
 mod run_edits;
+#[cfg(feature = "normalize")]
+mod sheet_faults;
 
 // What the groups share; which of it is used depends on the features.
+#[allow(dead_code)]
+mod angle_lists;
+#[allow(dead_code)]
+mod angle_results;
+#[allow(dead_code)]
+mod angles;
 #[allow(dead_code)]
 mod any_edits;
 #[allow(dead_code)]
@@ -27,11 +35,15 @@ mod bit_2;
 #[allow(dead_code)]
 mod bit_2_lists;
 #[allow(dead_code)]
+mod calls;
+#[allow(dead_code)]
 mod checks;
 #[allow(dead_code)]
 mod faults;
 #[allow(dead_code)]
 mod groups;
+#[allow(dead_code)]
+mod lists;
 #[allow(dead_code)]
 mod sheets;
 

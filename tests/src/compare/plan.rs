@@ -1,6 +1,9 @@
 //! Plan: the library's `bend_plan` beside the model.
 
-use super::bit_2::{self, Call};
+use super::angle_results;
+use super::angles;
+use super::bit_2;
+use super::calls::Call;
 use super::checks::{hex, must_be, Failure, Outcome};
 use super::faults::refusals;
 use super::groups::{self, Damaged};
@@ -8,7 +11,8 @@ use super::sheets::any_sheet;
 use super::Tests;
 use crate::library;
 use bend_tests::answer::Refusal;
-use bend_tests::part::{Corner, Pair};
+use bend_tests::edit_list::Lending;
+use bend_tests::part::{Corner, Pair, Part};
 use bend_tests::plan::{plan_sheet, Counts};
 use bend_tests::random::Random;
 use bend_tests::search::{least_of_all_plans, plan_drawn};
@@ -24,7 +28,10 @@ pub fn run(tests: &mut Tests) {
         same(sheet)
     });
     damaged_sheets(tests);
-    bit_2::run(tests, "plan", |_, _| vec![(Plan, 0)]);
+    let call = |_: &Part, _: &[Lending]| vec![(Plan, 0)];
+    bit_2::run(tests, "plan", call);
+    angles::run(tests, "plan", call);
+    angle_results::alike(tests, "plan", call);
 }
 
 #[derive(Clone, Copy, Debug)]
@@ -131,7 +138,7 @@ fn large_parts(tests: &mut Tests) {
         }
         Ok(())
     });
-    groups::bit_2_and_order(tests, "plan", 105, |part, sheet| {
+    groups::bit_2_angles_and_order(tests, "plan", 105, |part, sheet| {
         gives(sheet, plan_sheet(&sheet::normal(part)))
     });
 }

@@ -4,7 +4,7 @@
 use super::checks::same_bytes;
 use super::checks::{must_be, same_writing, Outcome};
 #[cfg(all(feature = "normalize", feature = "draw"))]
-use super::sheets::{any_four, any_order, pairs_end};
+use super::sheets::{any_angled, any_four, any_order, pairs_end};
 use super::sheets::{any_part, DAMAGES};
 use super::Tests;
 use crate::library;
@@ -15,9 +15,13 @@ use bend_tests::changes::{
 use bend_tests::chart::Chart;
 use bend_tests::draw::chart_of;
 use bend_tests::part::Corner;
+#[cfg(all(feature = "normalize", feature = "draw"))]
+use bend_tests::part::Part;
 use bend_tests::random::Random;
 use bend_tests::reader::read_chart;
 use bend_tests::shapes::all_parts;
+#[cfg(all(feature = "normalize", feature = "draw"))]
+use bend_tests::sheet;
 
 pub fn run(tests: &mut Tests) {
     charts_drawn_otherwise(tests);
@@ -26,6 +30,8 @@ pub fn run(tests: &mut Tests) {
     output_lengths(tests);
     #[cfg(all(feature = "normalize", feature = "draw"))]
     back_from_sheets(tests);
+    #[cfg(all(feature = "normalize", feature = "draw"))]
+    back_without_angles(tests);
 }
 
 /// Both sides on one chart with `lent` bytes of output.
@@ -225,6 +231,7 @@ fn back_from_sheets(tests: &mut Tests) {
     tests.test(name, || {
         let mut random = Random::new(351);
         let large = [40, 300, 1023, 1024].map(|n| any_part(n, &mut random));
+        let large = large.map(|part| Part::new(part.n, &part.diagonals));
         for part in (3..=8).flat_map(all_parts).chain(large) {
             let skipped = Some(any_four(&mut random));
             let sheet = any_order(&part, skipped, &mut random);
@@ -234,6 +241,34 @@ fn back_from_sheets(tests: &mut Tests) {
             let chart = super::draw::drawn(&sheet);
             must_be(0, library::read_chart(&chart, &mut back), &chart)?;
             same_bytes(&sheet, &ordered, &back)?;
+        }
+        Ok(())
+    });
+}
+
+/// The charts of sheets with angles are read back as the same sheet, set in order,
+/// of the part without them.
+#[cfg(all(feature = "normalize", feature = "draw"))]
+fn back_without_angles(tests: &mut Tests) {
+    let name = "read_chart: request (xi), a chart read back has no angles";
+    tests.test(name, || {
+        let mut random = Random::new(352);
+        let large = [40, 300, 1023, 1024].map(|n| any_part(n, &mut random));
+        for part in (4..=8).flat_map(all_parts).chain(large) {
+            let part = any_angled(part, &mut random);
+            let expected = sheet::with_pairs(part.n, &part.diagonals, None);
+            for skipped in [None, Some(any_four(&mut random))] {
+                let sheet = any_order(&part, skipped, &mut random);
+                let chart = super::draw::drawn(&sheet);
+                let mut back = vec![0; expected.len()];
+                must_be(0, library::read_chart(&chart, &mut back), &chart)?;
+                same_bytes(&sheet, &back, &expected)?;
+                let mut longer = vec![7; expected.len() + 2 * part.diagonals.len()];
+                must_be(0, library::read_chart(&chart, &mut longer), &chart)?;
+                let (back, rest) = longer.split_at(expected.len());
+                same_bytes(&sheet, back, &expected)?;
+                same_bytes(&sheet, rest, &vec![7; rest.len()])?;
+            }
         }
         Ok(())
     });

@@ -1,10 +1,12 @@
 //! Encoded lists of edits: the library's `bend_run_edits` beside the model, and
 //! beside the plain part of document 01, which is fed the edits alone.
 
+use super::angle_lists;
 use super::any_edits::any_list;
-use super::bit_2_lists::{self, Left};
+use super::bit_2_lists;
 use super::checks::{guarded, hex, inside, must_be, same_bytes, Failure, Outcome};
-use super::sheets::{any_part, any_sheet, without_and_with, DAMAGES};
+use super::lists::Left;
+use super::sheets::{any_part, any_sheet, has_angles, length_of, without_and_with, DAMAGES};
 use super::Tests;
 use crate::library;
 use bend_tests::edit::Edit;
@@ -115,6 +117,7 @@ pub fn run(tests: &mut Tests) {
     known_part(tests);
     random_lists(tests);
     bit_2_lists::run(tests, "run_edits", run_list);
+    angle_lists::run(tests, "run_edits", run_list);
 }
 
 /// n = 4, (0,2) turned: (1,3); turned again: (0,2). Then a corner is added on
@@ -170,13 +173,13 @@ fn random_lists(tests: &mut Tests) {
             let two = numbers
                 .clone()
                 .flat_map(|a| numbers.clone().map(move |b| Edit::Turn { a, b }));
-            let room = 4 * (usize::from(n) + 2) - 9;
-            let lent = |edit| (edit, room as u32);
-            let edits: Vec<Lending> = one.chain(two).map(lent).collect();
+            let edits: Vec<Edit> = one.chain(two).collect();
             for first in all_parts(n).iter().flat_map(without_and_with) {
-                for one in &edits {
-                    for two in &edits {
-                        gives(0, &first, &encoded(&[*one, *two], 1), [room, room, 4])?;
+                let room = length_of(n + 2, has_angles(&first));
+                for &one in &edits {
+                    for &two in &edits {
+                        let list = [(one, room as u32), (two, room as u32)];
+                        gives(0, &first, &encoded(&list, 1), [room, room, 4])?;
                     }
                 }
             }
