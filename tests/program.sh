@@ -1,6 +1,6 @@
 #!/usr/bin/env bash
-# Runs the programs bend and unbend from end to end: the line, the file, the status and the way back; sheets with bit 2; refusals; the longest inputs; what
-# the system refuses; many runs at once. The last line is 'N passed, M failed'.
+# Runs the programs bend and unbend from end to end: the line, the file, the status and the way back; sheets with bit 2 and with angles; refusals; the
+# longest inputs; what the system refuses; many runs at once. The last line is 'N passed, M failed'.
 set -u
 root=$(cd "$(dirname "$0")/.." && pwd)
 bend="$root/bend"
@@ -77,6 +77,7 @@ level 4 to 5 corners 0 5 side
 line 5 corners 4 5 side'
 line two_levels 'part - corners 7 levels 2 umbrellas 2 stems 0 rows 5 columns 7'
 line boot 'part - corners 12 levels 1 umbrellas 1 stems 1 rows 3 columns 12'
+boot=$(hex bend.chart)
 
 # a sheet that still has bit 2 (request (xii)): its four bytes are skipped, whatever they are, and line and chart are those of the sheet without it
 line square_numbered 'part - corners 4 levels 1 umbrellas 1 stems 0 rows 3 columns 3'
@@ -89,12 +90,46 @@ done
 for short in 050003 05000300 050003000000; do is "bit 2 with too few bytes, $short" "$(bytes "$short" | "$bend")" 'refused 2'; done
 is 'bit 2 with a byte over' "$(bytes 0500030000000900 | "$bend")" 'refused 2'
 is 'four bytes without bit 2' "$(bytes 01000300000009 | "$bend")" 'refused 2'
-is 'bits 2 and 3' "$(bytes 0d000300000009 | "$bend")" 'refused 1'
+is 'bits 2 and 4' "$(bytes 15000300000009 | "$bend")" 'refused 1'
+
+# a sheet with angles (request (xi)): line and chart are those of the sheet without them, whatever they are, and however the pairs are listed
+line square_angle 'part - corners 4 levels 1 umbrellas 1 stems 0 rows 3 columns 3'
+is 'square_angle, every byte' "$(hex bend.chart)" "$square"
+for sample in boot_angles boot_both; do
+    line $sample 'part - corners 12 levels 1 umbrellas 1 stems 1 rows 3 columns 12'
+    is "$sample, every byte" "$(hex bend.chart)" "$boot"
+done
+for angle in 0000 0001 ffff 0708 f8f8; do
+    rm bend.chart
+    is "angle $angle" "$(bytes "0b000400000002$angle" | "$bend")" 'part - corners 4 levels 1 umbrellas 1 stems 0 rows 3 columns 3'
+    is "angle $angle, chart" "$(hex bend.chart)" "$square"
+    rm bend.chart
+    is "angle $angle and bit 2" "$(bytes "0f00040002000000000009$angle" | "$bend")" 'part - corners 4 levels 1 umbrellas 1 stems 0 rows 3 columns 3'
+    is "angle $angle and bit 2, chart" "$(hex bend.chart)" "$square"
+done
+is 'overbent' "$("$bend" <"$root/samples/overbent.sheet")" 'refused 23'
+for angle in 0709 f8f7 7fff 8000; do
+    is "angle $angle" "$(bytes "0b000400000002$angle" | "$bend")" 'refused 23'
+    is "angle $angle and bit 2" "$(bytes "0f00040002000000000009$angle" | "$bend")" 'refused 23'
+    is "angle $angle and a side" "$(bytes "0b000400000003$angle" | "$bend")" 'refused 5'
+    is "angle $angle and crossing pairs" "$(bytes "0b00050000000200010003$angle$angle" | "$bend")" 'refused 7'
+done
+is 'bit 3 of a triangle' "$(bytes 090003 | "$bend")" 'refused 23'
+is 'bits 2 and 3 of a triangle' "$(bytes 0d000300000009 | "$bend")" 'refused 23'
+is 'bits 1 and 3 of a triangle' "$(bytes 0b0003 | "$bend")" 'refused 4'
+for long in 0900030000 0d0003 0d0003000000090000; do is "bit 3 of a triangle, wrong length, $long" "$(bytes "$long" | "$bend")" 'refused 2'; done
+for wrong in 0b000400000002 0b00040000000200 0b000400000002000000 0b00040000000200000000 0f0004000000020000; do
+    is "angles of a wrong length, $wrong" "$(bytes "$wrong" | "$bend")" 'refused 2'
+done
+is 'an angle without bit 3' "$(bytes 0300040000000201c2 | "$bend")" 'refused 2'
+is 'bit 4' "$(bytes 1b00040000000201c2 | "$bend")" 'refused 1'
 
 # a refusal leaves the chart that is there, and writes none
 before=$(hex bend.chart)
 is 'crossing' "$("$bend" <"$root/samples/crossing.sheet")" 'refused 7'
 is 'crossing, chart left' "$(hex bend.chart)" "$before"
+is 'overbent again' "$("$bend" <"$root/samples/overbent.sheet")" 'refused 23'
+is 'overbent, chart left' "$(hex bend.chart)" "$before"
 rm bend.chart
 is 'empty sheet' "$("$bend" </dev/null)" 'refused 1'
 is 'long input' "$(head -c 100000 /dev/zero | "$bend")" 'refused 1'
@@ -149,7 +184,7 @@ done
 is 'most charts are read' "$((read >= 65))" 1
 rm -r text texts
 
-# the longest sheet, 1,024 corners with bit 2, and one byte more; the longest chart, a fan with every stroke upright, and one byte more
+# the longest sheet, 1,024 corners with bit 2 and angles, and one byte more; the longest chart, a fan with every stroke upright, and one byte more
 hex16() { printf '%04x' "$@"; }
 fan() { hex16 1024; for ((k = 2; k < 1023; k++)); do hex16 0 $k; done; }
 stairs() {
@@ -176,13 +211,36 @@ CARGO_TARGET_DIR="${CARGO_TARGET_DIR:-$root/target/cargo}" cargo run --quiet --r
 for sheet in sheets/*_1024.sheet; do narrow "$(basename "$sheet")" "$sheet"; done
 rm -r sheets fan.sheet fan_above.sheet zigzag.sheet bend.chart
 
-bytes "07$(fan)0000002a" >longest.sheet
-is 'longest sheet, bytes' "$(wc -c <longest.sheet)" 4091
-is 'longest sheet' "$("$bend" <longest.sheet)" 'part - corners 1024 levels 1 umbrellas 1 stems 0 rows 3 columns 1023'
+# bent LAST: 1,021 angles, the last one as it is named
+bent() { for ((k = 1; k < 1021; k++)); do hex16 $((k % 1801)); done; printf '%s' "$1"; }
+long_line='part - corners 1024 levels 1 umbrellas 1 stems 0 rows 3 columns 1023'
+bytes "0f$(fan)0000002a$(bent f8f8)" >longest.sheet
+is 'longest sheet, bytes' "$(wc -c <longest.sheet)" 6133
+is 'longest sheet' "$("$bend" <longest.sheet)" "$long_line"
 mv bend.chart longest.chart
-is 'longest sheet without bit 2' "$(bytes "03$(fan)" | "$bend")" 'part - corners 1024 levels 1 umbrellas 1 stems 0 rows 3 columns 1023'
-is 'longest sheet with and without bit 2, chart' "$(cmp longest.chart bend.chart 2>&1)" ''
-is 'longest sheet and a byte' "$( (cat longest.sheet; printf x) | "$bend")" 'refused 2'
+# the sheets of 1,024 corners with fewer fields: the map byte, what follows the pairs, the length
+while read -r map four angles length; do
+    bytes "$map$(fan)${four#-}$([ "$angles" = - ] || bent "$angles")" >long.sheet
+    is "long sheet $map, bytes" "$(wc -c <long.sheet)" "$length"
+    is "long sheet $map" "$("$bend" <long.sheet)" "$long_line"
+    is "long sheet $map, chart" "$(cmp longest.chart bend.chart 2>&1)" ''
+    is "long sheet $map and a byte" "$( (cat long.sheet; printf x) | "$bend")" 'refused 2'
+    is "long sheet $map, a byte short" "$(head -c -1 long.sheet | "$bend")" 'refused 2'
+done <<'END'
+03 - - 4087
+07 0000002a - 4091
+0b - 0708 6129
+0f ffffffff 0000 6133
+END
+is 'longest sheet with an angle out of range' "$(bytes "0f$(fan)0000002a$(bent 0709)" | "$bend")" 'refused 23'
+for more in 1 2 3 4 5 6 1000 60000; do
+    is "longest sheet and $more bytes" "$( (cat longest.sheet; head -c $more /dev/zero) | "$bend")" 'refused 2'
+done
+# a longer input gets the refusal of its first bytes
+for head in '00 1' '110400 1' '0f0002 3' '0f0401 3' '0d0400 4' '0f0003 4' '090003 2' '0f0400 2' '030400 2'; do
+    is "6,134 bytes from ${head% *}" "$( (bytes "${head% *}"; head -c 6133 /dev/zero) | head -c 6134 | "$bend")" "refused ${head#* }"
+done
+rm long.sheet
 bytes "$(stairs)" >longest.chart
 is 'longest chart, bytes' "$(wc -c <longest.chart)" 20465
 is 'longest chart' "$("$unbend" <longest.chart | sed -n 1p)" 'part - corners 1024 levels 1 umbrellas 1 stems 0 rows 1024 columns 2047'

@@ -1,8 +1,9 @@
 /*
  * Calls the library from C as the header declares it: the triangle's sheet is
  * set in order, without bit 2 and with it, sheets are refused, and a list of
- * edits is run on it, refused, and run with no edit taken. The last line is
- * `N passed, M failed`; the exit status is 1 if any check failed.
+ * edits is run on it, refused, and run with no edit taken. A square with an angle
+ * is set in order, turned, planned, drawn and edited. The last line is `N passed,
+ * M failed`; the exit status is 1 if any check failed.
  */
 #include "bend.h"
 
@@ -58,10 +59,90 @@ static void run_edits(const char *name, const uint8_t *first, size_t first_len,
                     && memcmp(outs, expected, sizeof outs) == 0);
 }
 
+/* A square with (2,0) at 45 degrees, and the same without its angle. */
+static const uint8_t square[9] = {0x0b, 0, 4, 0, 2, 0, 0, 0x01, 0xc2};
+static const uint8_t plain_square[7] = {0x03, 0, 4, 0, 2, 0, 0};
+
+/*
+ * Sets the sheet of a square in order, or turns its diagonal (0,2), into ten bytes
+ * of 0xaa, of which `lent` are lent.
+ */
+static void bend_square(const char *name, int turn, const uint8_t *sheet,
+                        size_t sheet_len, size_t lent, unsigned number,
+                        const uint8_t expected[10])
+{
+    uint8_t out[10];
+    uint64_t answer;
+
+    memset(out, 0xaa, sizeof out);
+    answer = turn ? bend_flip(sheet, sheet_len, 0, 2, out, lent)
+                  : bend_normalize(sheet, sheet_len, out, lent);
+    check(name, bend_number(answer) == number
+                    && bend_length(answer) == (number == 0 ? 9u : 0u)
+                    && memcmp(out, expected, sizeof out) == 0);
+}
+
+static void angles(void)
+{
+    static const uint8_t numbered[13] = {0x0f, 0, 4, 0, 2, 0, 0,
+                                         0, 0, 0, 9, 0x01, 0xc2};
+    static const uint8_t overbent[9] = {0x0b, 0, 4, 0, 2, 0, 0, 0x07, 0x09};
+    static const uint8_t ordered[10] = {0x0b, 0, 4, 0, 0, 0, 2, 0x01, 0xc2, 0xaa};
+    static const uint8_t turned[10] = {0x0b, 0, 4, 0, 1, 0, 3, 0, 0, 0xaa};
+    uint8_t untouched[10];
+
+    memset(untouched, 0xaa, sizeof untouched);
+    bend_square("angle", 0, square, 9, 10, 0, ordered);
+    bend_square("angle, room for the result", 0, square, 9, 9, 0, ordered);
+    bend_square("angle, output too short", 0, square, 9, 8, 8, untouched);
+    bend_square("angle and bit 2", 0, numbered, 13, 9, 0, ordered);
+    bend_square("angle missing", 0, square, 7, 10, 2, untouched);
+    bend_square("angle out of range", 0, overbent, 9, 10, 23, untouched);
+    bend_square("angle turned", 1, square, 9, 10, 0, turned);
+    bend_square("angle turned, output too short", 1, square, 9, 8, 8, untouched);
+    bend_square("angle out of range, turned", 1, overbent, 9, 0, 23, untouched);
+}
+
+/* The plan and the chart do not depend on the angle. */
+static void same_chart(void)
+{
+    uint8_t charts[2][100];
+    uint64_t drawn[2];
+
+    memset(charts, 0xaa, sizeof charts);
+    drawn[0] = bend_draw(square, sizeof square, charts[0], 100);
+    drawn[1] = bend_draw(plain_square, sizeof plain_square, charts[1], 100);
+    check("chart with an angle", bend_number(drawn[0]) == 0 && drawn[0] == drawn[1]
+                                     && memcmp(charts[0], charts[1], 100) == 0);
+    check("plan with an angle", bend_plan(square, sizeof square)
+                                    == bend_plan(plain_square, sizeof plain_square));
+}
+
+/* A corner off and one on again, through a triangle: no angle is left. */
+static void through_a_triangle(void)
+{
+    static const uint8_t list[26] = {1, 0, 0, 0, 1, 0, 0, 0, 0, 0, 0, 0, 3,
+                                     0, 0, 0, 0, 2, 0, 0, 0, 0, 0, 0, 0, 7};
+    static const uint8_t expected[3][7] = {{1, 0, 3, 0xaa, 0xaa, 0xaa, 0xaa},
+                                           {3, 0, 4, 0, 0, 0, 2},
+                                           {0, 0, 0, 0, 0xaa, 0xaa, 0xaa}};
+    uint8_t outs[3][7];
+    uint64_t found;
+
+    memset(outs, 0xaa, sizeof outs);
+    found = bend_run_edits(square, sizeof square, list, sizeof list,
+                           outs[0], 7, outs[1], 7, outs[2], 4);
+    check("list through a triangle", bend_number(found) == 0 && bend_place(found) == 2
+                                         && bend_left(found) == 7
+                                         && memcmp(outs, expected, sizeof outs) == 0);
+}
+
 int main(void)
 {
     static const uint8_t triangle[] = {0x01, 0x00, 0x03};
     static const uint8_t two_corners[] = {0x01, 0x00, 0x02};
+    /* bit 3, which a triangle cannot have */
+    static const uint8_t angled[] = {0x09, 0x00, 0x03, 0x00, 0x00};
     /* bit 2, whose four bytes are skipped */
     static const uint8_t numbered[] = {0x05, 0x00, 0x03, 0x00, 0x00, 0x00, 0x09};
     static const uint8_t written[4] = {0x01, 0x00, 0x03, 0xaa};
@@ -81,6 +162,12 @@ int main(void)
     normalize("bit 2, output too short", numbered, sizeof numbered, 2, 8, untouched);
     normalize("bit 2 without its bytes", numbered, 3, 4, 2, untouched);
     normalize("bit 2, a byte short", numbered, 6, 4, 2, untouched);
+    normalize("bit 3 of a triangle", angled, 3, 4, 23, untouched);
+    normalize("bit 3 of a triangle, output too short", angled, 3, 0, 23, untouched);
+    normalize("bit 3 of a triangle with two bytes", angled, 5, 4, 2, untouched);
+    angles();
+    same_chart();
+    through_a_triangle();
 
     memset(not_run, 0xaa, sizeof not_run);
     run_edits("list run", triangle, sizeof triangle, 7, (uint64_t)7 << 32 | 2 << 16, run);

@@ -8,10 +8,11 @@
 
 use bend_tests::chart::Bar;
 use bend_tests::draw::{chart_of, draw_with_bars};
+use bend_tests::fields::Fields;
 use bend_tests::part::{Corner, Part};
 use bend_tests::random::Random;
 use bend_tests::shapes::{all_parts, part, Shape, SHAPES};
-use bend_tests::sheet::{self, Skipped};
+use bend_tests::sheet::{read, Skipped};
 use std::{env, fs};
 
 /// What every lent byte is before the call.
@@ -54,7 +55,7 @@ impl Cases {
             Err(refusal) => (refusal.number(), 0),
         };
         let count = match answer {
-            Ok(_) => usize::from(sheet::read(sheet).expect("a sheet").n),
+            Ok(_) => usize::from(read(sheet).expect("a sheet").n),
             Err(_) => 0,
         };
         put(&mut self.answers, usize::from(number));
@@ -68,15 +69,19 @@ impl Cases {
         }
     }
 
-    /// The part's sheet, with either output too short, just long enough and longer;
-    /// by turns without bit 2 and with it.
+    /// The part's sheet, with neither bit 2 nor angles, with either and with both:
+    /// each with both outputs long enough, and by turns with one too short. Then the
+    /// last of these sheets a byte short, and with an angle out of range.
     fn add_part(&mut self, part: &Part) {
-        let sheets =
-            [None, Some(SKIPPED)].map(|four| sheet::with_pairs(part.n, &part.diagonals, four));
+        let [none, four] = [None, Some(SKIPPED)];
+        let kinds = [(none, false), (four, false), (none, true), (four, true)];
+        let sheets = kinds.map(|(four, angled)| sheet(part, four, angled && part.n > 3));
         let (length, n) = (chart_of(part).length(), usize::from(part.n));
         let lengths = [
             (length, n),
             (length + 3, n + 2),
+            (length, n),
+            (length, n + 1),
             (length - 1, n),
             (length, n - 1),
             (0, n),
@@ -85,8 +90,27 @@ impl Cases {
         for (sheet, (lent, room)) in sheets.iter().cycle().zip(lengths) {
             self.add(sheet, lent, room);
         }
-        self.add(&sheets[1][..sheets[1].len() - 1], length, n);
+        let last = &sheets[3];
+        self.add(&last[..last.len() - 1], length, n);
+        if n > 3 {
+            let mut bent = last.clone();
+            bent[last.len() - 2] = 0x80;
+            self.add(&bent, length, n);
+        }
     }
+}
+
+/// The part's sheet in normal order, but with bit 2 if there are four bytes; its
+/// angles are -180 degrees, -179.9 and so on.
+fn sheet(part: &Part, skipped: Option<Skipped>, angled: bool) -> Vec<u8> {
+    let fields = Fields::of(part);
+    let angles = angled.then(|| (-1800..).take(fields.pairs.len()).collect());
+    let with = Fields {
+        skipped,
+        angles,
+        ..fields
+    };
+    with.bytes()
 }
 
 /// All parts of up to 6 corners, and one of each shape.
@@ -103,13 +127,12 @@ fn small() -> Cases {
     cases
 }
 
-/// A part of 1,024 corners, whose sheet has bit 2: the longest there is.
+/// A part of 1,024 corners, whose sheet has bit 2 and angles: the longest there is.
 fn large() -> Cases {
     let mut cases = Cases::default();
     let part = part(Shape::Mixed, 1024, &mut Random::new(302));
     let length = chart_of(&part).length();
-    let sheet = sheet::with_pairs(part.n, &part.diagonals, Some(SKIPPED));
-    cases.add(&sheet, length, 1024);
+    cases.add(&sheet(&part, Some(SKIPPED), true), length, 1024);
     cases
 }
 

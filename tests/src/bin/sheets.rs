@@ -1,12 +1,12 @@
 //! Writes 200 sheets, one to a file, into the folder that the argument names:
 //! parts of 3 to 1,024 corners in eight shapes, their pairs in any order, with
-//! and without bit 2, and some with a byte replaced. Every run writes the same
-//! sheets.
+//! and without bit 2, with and without angles, and some with a byte replaced. Every
+//! run writes the same sheets.
 
-use bend_tests::part::Corner;
+use bend_tests::fields::Fields;
+use bend_tests::part::{Angle, Corner};
 use bend_tests::random::Random;
 use bend_tests::shapes::{part, SHAPES};
-use bend_tests::sheet::with_pairs;
 use std::path::Path;
 
 /// The sizes of each shape's parts; the last of them gets a byte replaced.
@@ -21,11 +21,14 @@ fn main() -> std::io::Result<()> {
     let mut random = Random::new(7);
     for shape in SHAPES {
         for (place, n) in SIZES.into_iter().enumerate() {
-            let part = part(shape, n, &mut random);
-            let mut pairs = part.diagonals;
-            random.shuffle(&mut pairs);
-            let skipped = random.coin().then(|| (random.bits() as u32).to_be_bytes());
-            let mut sheet = with_pairs(n, &pairs, skipped);
+            let mut fields = Fields::of(&part(shape, n, &mut random));
+            random.shuffle(&mut fields.pairs);
+            fields.skipped = random.coin().then(|| (random.bits() as u32).to_be_bytes());
+            if n > 3 && random.coin() {
+                let angle = |_| random.between(0, 3600) as Angle - 1800;
+                fields.angles = Some(fields.pairs.iter().map(angle).collect());
+            }
+            let mut sheet = fields.bytes();
             if place >= SIZES.len() - DAMAGED {
                 let at = random.below(sheet.len());
                 sheet[at] = random.byte();
