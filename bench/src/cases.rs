@@ -10,6 +10,10 @@ use bend_tests::draw::draw_sheet;
 use bend_tests::edit::{edit_sheet, Edit};
 #[cfg(feature = "run_edits")]
 use bend_tests::edit_list;
+#[cfg(feature = "normalize")]
+use bend_tests::fields::Fields;
+#[cfg(feature = "normalize")]
+use bend_tests::part::Angle;
 use bend_tests::part::{Corner, Part};
 #[cfg(feature = "run_edits")]
 use bend_tests::plain_part::PlainPart;
@@ -61,19 +65,36 @@ fn sheets_with_bit_2(corners: Corner) -> Vec<Vec<u8>> {
     parts(corners).iter().map(with).collect()
 }
 
-/// The parts' sheets with pairs in any order, either corner first.
+/// The parts' sheets with pairs in any order, either corner first, and an angle
+/// for each if asked for.
 #[cfg(feature = "normalize")]
-fn shuffled_sheets(corners: Corner) -> Vec<Vec<u8>> {
+fn shuffled_sheets(corners: Corner, angled: bool) -> Vec<Vec<u8>> {
     let mut random = Random::new(7);
     let mut shuffled = |part: &Part| {
-        let mut pairs = part.diagonals.clone();
-        random.shuffle(&mut pairs);
-        for pair in pairs.iter_mut().step_by(2) {
+        let mut fields = Fields::of(part);
+        random.shuffle(&mut fields.pairs);
+        for pair in fields.pairs.iter_mut().step_by(2) {
             *pair = (pair.1, pair.0);
         }
-        sheet::with_pairs(part.n, &pairs, None)
+        fields.angles = angled.then(|| angles(part));
+        fields.bytes()
     };
     parts(corners).iter().map(&mut shuffled).collect()
+}
+
+/// An angle for each diagonal of the part.
+#[cfg(feature = "normalize")]
+fn angles(part: &Part) -> Vec<Angle> {
+    let mut random = Random::new(8);
+    let angle = |_| random.between(0, 3600) as Angle - 1800;
+    part.diagonals.iter().map(angle).collect()
+}
+
+/// The parts' sheets in normal order, with angles.
+#[cfg(feature = "normalize")]
+fn sheets_with_angles(corners: Corner) -> Vec<Vec<u8>> {
+    let with = |part: Part| sheet::normal(&part.clone().angled(&angles(&part)));
+    parts(corners).into_iter().map(with).collect()
 }
 
 /// A case of an operation whose two sides take an input and lent output.
@@ -189,7 +210,17 @@ pub fn all() -> Vec<Case> {
         cases.extend(
             sizes.map(|n| normalize_case("normalize, in order, bit 2", n, sheets_with_bit_2(n))),
         );
-        cases.extend(sizes.map(|n| normalize_case("normalize, shuffled", n, shuffled_sheets(n))));
+        cases.extend(
+            sizes.map(|n| normalize_case("normalize, shuffled", n, shuffled_sheets(n, false))),
+        );
+        cases.extend(
+            sizes.map(|n| normalize_case("normalize, in order, angles", n, sheets_with_angles(n))),
+        );
+        cases.extend(
+            sizes.map(|n| {
+                normalize_case("normalize, shuffled, angles", n, shuffled_sheets(n, true))
+            }),
+        );
     }
     #[cfg(feature = "edits")]
     {
