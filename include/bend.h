@@ -6,13 +6,21 @@
  * its drawing in bytes.
  *
  * A sheet may still have bit 2 in its map byte, once the part number's, and four
- * bytes at its end for it: they count for its length and are skipped. It has the
- * answers of the same sheet without both. No sheet that is written has bit 2.
+ * bytes behind its pairs for it: they count for its length and are skipped. It has
+ * the answers of the same sheet without both. No sheet that is written has bit 2.
+ *
+ * A sheet may have bit 3 and, as its last field, an angle for each pair in the
+ * listed order: two bytes in two's complement, high byte first, tenths of a degree,
+ * -1,800 to 1,800. An angle stays with its diagonal: the sheets that are written
+ * have them in the order of their pairs. A new diagonal starts at 0; a sheet that
+ * is written has bit 3 exactly if the sheet read has it and more than 3 corners
+ * are left. Nothing planned or drawn depends on angles. The longest sheet has
+ * 6,133 bytes, the longest that is written 6,129.
  *
  * Every function returns one number of 64 bits. Its low 16 bits are 0 if the
  * operation was done, or the number of the refusal:
  *
- *    1  the sheet is empty, or its map byte lacks bit 0 or has one of bits 3-7
+ *    1  the sheet is empty, or its map byte lacks bit 0 or has one of bits 4-7
  *    2  the sheet is under 3 bytes, or not exactly as long as its fields
  *    3  the corner count is outside 3 to 1,024
  *    4  bit 1 of the map byte disagrees with the corner count
@@ -31,6 +39,7 @@
  *   16  a stroke's corners or order are wrong, or its bars do not fit
  *   17  an upright passes through the gap of a level stroke
  *   18  the strokes lack a side of the part, or diagonals cross
+ *   23  an angle is outside -1,800 to 1,800, or bit 3 stands with 3 corners
  *   32  the list's length is no multiple of 13
  *   33  the list has an edit of a kind above 2
  *   34  the output for the numbers is shorter than two bytes an edit
@@ -58,34 +67,37 @@ extern "C" {
 
 /*
  * Set in order: writes the sheet in normal order, each pair lower corner first
- * and the pairs ascending, without bit 2. Gives the length written, 3 + 4(n - 3).
- * Refusals: 1, 2, 3, 4, 2, 5, 6, 7; 8.
+ * and the pairs ascending, each angle with its pair, without bit 2. Gives the
+ * length written, 3 + 4(n - 3), and 2(n - 3) more with angles.
+ * Refusals: 1, 2, 3, 4, 2, 5, 6, 7, 23; 8.
  */
 uint64_t bend_normalize(const uint8_t *sheet, size_t sheet_len,
                         uint8_t *out, size_t out_len);
 
 /*
  * Add a corner on a side: the new corner side + 1 makes a triangle with the
- * side, which becomes a diagonal; higher corners move up by one. Writes the new
- * part's sheet in normal order and gives its length.
- * Refusals: 1 to 7 as for bend_normalize; 9; 10; 8.
+ * side, which becomes a diagonal, with the angle 0 if the sheet has angles; higher
+ * corners move up by one. Writes the new part's sheet in normal order and gives
+ * its length.
+ * Refusals: 1 to 7 and 23 as for bend_normalize; 9; 10; 8.
  */
 uint64_t bend_add_ear(const uint8_t *sheet, size_t sheet_len, size_t side,
                       uint8_t *out, size_t out_len);
 
 /*
- * Take off a corner at which no diagonal ends; higher corners move down by one.
- * Writes the new part's sheet in normal order and gives its length.
- * Refusals: 1 to 7 as for bend_normalize; 9; 11; 12; 8.
+ * Take off a corner at which no diagonal ends; higher corners move down by one. The
+ * diagonal that becomes a side loses its angle. Writes the new part's sheet in
+ * normal order, without bit 3 if it is a triangle's, and gives its length.
+ * Refusals: 1 to 7 and 23 as for bend_normalize; 9; 11; 12; 8.
  */
 uint64_t bend_remove_ear(const uint8_t *sheet, size_t sheet_len, size_t corner,
                          uint8_t *out, size_t out_len);
 
 /*
  * Turn the diagonal between a and b, named in either order, to the other
- * diagonal of its two triangles. Writes the new part's sheet in normal order
- * and gives its length.
- * Refusals: 1 to 7 as for bend_normalize; 9; 13; 8.
+ * diagonal of its two triangles, with the angle 0 if the sheet has angles. Writes
+ * the new part's sheet in normal order and gives its length.
+ * Refusals: 1 to 7 and 23 as for bend_normalize; 9; 13; 8.
  */
 uint64_t bend_flip(const uint8_t *sheet, size_t sheet_len, size_t a, size_t b,
                    uint8_t *out, size_t out_len);
@@ -118,20 +130,20 @@ uint64_t bend_run_edits(const uint8_t *first, size_t first_len,
 /*
  * Plan: gives the levels, umbrellas and stems of the plan that is drawn. No
  * plan of the part has fewer levels.
- * Refusals: 1 to 7 as for bend_normalize.
+ * Refusals: 1 to 7 and 23 as for bend_normalize.
  */
 uint64_t bend_plan(const uint8_t *sheet, size_t sheet_len);
 
 /*
  * Draw: writes the part's chart and gives its length.
- * Refusals: 1 to 7 as for bend_normalize; 8.
+ * Refusals: 1 to 7 and 23 as for bend_normalize; 8.
  */
 uint64_t bend_draw(const uint8_t *sheet, size_t sheet_len,
                    uint8_t *out, size_t out_len);
 
 /*
- * Read a chart: writes the sheet, in normal order, of the part that the chart
- * shows, and gives its length.
+ * Read a chart: writes the sheet, in normal order and without angles, of the part
+ * that the chart shows, and gives its length.
  * Refusals: 14; 15; 16; 17; 18; 8.
  */
 uint64_t bend_read_chart(const uint8_t *chart, size_t chart_len,

@@ -2,7 +2,7 @@
 use mathlib.Core.Path.{_≡_, refl, ap, ap₂, _∙_}
 use mathlib.Core.Logic.{inl}
 use mathlib.Core.List.{List, [], _∷_, map}
-use Prim.Native.Nat.{ℕ, suc, _+_, _*_, _-_, _≤_, _<_}
+use Prim.Native.Nat.{ℕ, suc, _+_, _-_, _≤_, _<_}
 use native.Mathlib.Decide.{ℕ-discrete}
 use native.Mathlib.Omega.{arith}
 use native.Mathlib.Numerals.{add-one}
@@ -12,7 +12,7 @@ use Rattle.lists.proofs.Lists.{all-imp, all-mem, all-self, choose-no, choose-ye
 use Rattle.polygon.specs.Polygon.{Edge, _—_, Diagonal, Triangulated}
 use Rattle.polygon.specs.Order.{Distinct, insert}
 use Rattle.polygon.proofs.Sort.{distinct-of}
-use Rattle.keys.specs.Keys.{keyOf}
+use Rattle.keys.specs.Keys.{keyOf, flatBend}
 use Rattle.keys.specs.Sort.{insertKey, merge}
 use Rattle.keys.proofs.Insert.{merge-one}
 use Rattle.keys.proofs.Beside.{edgesIn}
@@ -71,7 +71,7 @@ module _ {h : Head} {bs : List ℕ} (P : BentInHand h bs) (i : ℕ) where
 
       -- the table `moved` begins with the renumbered bends, and `after` with them and the bend that enters
       module _ (moved : List ℕ) (R : take (length old) moved ≡ map (movedBend (Up i 1)) old)
-          {b : ℕ} (E : b ≡ keyOf (entering (h .n) i) * 4096 + 1800) (after : List ℕ) (I : take (1 + length (take (h .n - 3) moved)) after ≡ merge (b ∷ []) (take (h .n - 3) moved)) (long : 1021 ≤ length after) where
+          {b : ℕ} (E : b ≡ flatBend (keyOf (entering (h .n) i))) (after : List ℕ) (I : take (1 + length (take (h .n - 3) moved)) after ≡ merge (b ∷ []) (take (h .n - 3) moved)) (long : 1021 ≤ length after) where
         abbrev risen : List ℕ
         risen = map (movedBend (Up i 1)) old
 

@@ -5,13 +5,13 @@ use mathlib.Core.List.{List, [], _∷_, map}
 use Prim.Native.Nat.{ℕ, _<_}
 use native.Mathlib.Omega.{arith}
 use Rattle.lists.specs.Lists.{All, Mem, all-cons, all-nil, choose, head, sorted-cons, sorted-nil, tail}
-use Rattle.lists.proofs.Lists.{all-both, all-imp, all-mem, all-of, all-self, choose-no, choose-yes, here, keep-sorted, not-empty, sorted-same, there}
+use Rattle.lists.proofs.Lists.{all-both, all-imp, all-mem, all-of, all-self, choose-no, choose-yes, here, keep-sorted, map-same, not-empty, sorted-same, there}
 use Rattle.lists.proofs.Places.{below-sorted}
 use Rattle.polygon.specs.Polygon.{Edge, _—_, Cross, Diagonal, Triangulated, Polygon, Valid, Linked, Joined}
 use Rattle.polygon.specs.Angles.{Angles, none, each}
 use Rattle.polygon.specs.Order.{same?, remove, insert, lower-first}
 use Rattle.polygon.specs.Carried.{angleOf, carried}
-use Rattle.polygon.proofs.Angles.{map-same, angle-given, angle-unlisted}
+use Rattle.polygon.proofs.Angles.{angle-given, angle-unlisted}
 use Rattle.polygon.proofs.Order.{low-of, high-of, remove-all, remove-other, remove-ascending, remove-length, remove-mem, insert-all, insert-mem}
 use Rattle.sheet.specs.Sheet.{held}
 use Rattle.sheet.proofs.Normal.{lower-first-same}

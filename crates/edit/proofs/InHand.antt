@@ -3,7 +3,7 @@ use mathlib.Core.Path.{_≡_, refl, ap, sym, _∙_}
 use mathlib.Core.Logic.{inr}
 use mathlib.Core.Bool.{Bool, true, false, _&&_}
 use mathlib.Core.List.{List}
-use Prim.Native.Nat.{ℕ, _+_, _*_, _-_, _≤_, _<_}
+use Prim.Native.Nat.{ℕ, _+_, _-_, _≤_, _<_}
 use native.Mathlib.Decide.{decLt}
 use native.Mathlib.Omega.{arith}
 use borrow.Author.Tests.{lt-ltb, le-ltb}
@@ -16,7 +16,7 @@ use Rattle.polygon.specs.Polygon.{Edge}
 use Rattle.polygon.specs.Order.{Distinct, insert, remove}
 use Rattle.polygon.specs.Carried.{carried}
 use Rattle.polygon.proofs.Order.{insert-length}
-use Rattle.keys.specs.Keys.{keyOf, edgeOf, edgesOf, pairOf, pairsOf, angleIn, anglesIn}
+use Rattle.keys.specs.Keys.{keyOf, edgeOf, edgesOf, pairOf, pairsOf, angleIn, anglesIn, flatBend}
 use Rattle.keys.specs.Sort.{insertKey}
 use Rattle.keys.specs.Change.{removePair}
 use Rattle.keys.proofs.InOrder.{edge-of-key, insert-edges}
@@ -66,7 +66,7 @@ keeps-angles true n h = sym (lt-ltb 3 n h)
 keeps-angles false n h = refl
 
 -- a bend merged in is an edge put in, if it is a new one
-module _ (b : ℕ) (e : Edge) (bs : List ℕ) (key : b ≡ keyOf e * 4096 + 1800) (small : e .1 < 1024) (new : ¬ Mem e (edgesIn bs)) where
+module _ (b : ℕ) (e : Edge) (bs : List ℕ) (key : b ≡ flatBend (keyOf e)) (small : e .1 < 1024) (new : ¬ Mem e (edgesIn bs)) where
   pub new-edge : edgeOf (pairOf b) ≡ e
   new-edge = let k : pairOf b ≡ keyOf e = omega arith in ap edgeOf k ∙ edge-of-key e small
 

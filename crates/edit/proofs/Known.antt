@@ -71,4 +71,7 @@ cases =
 pub known : All (λ (c : Case). rule (c .0) (c .1) ≡ c .2) cases
 unfolding rule ask Dec·and decLt ℕ-discrete choose put keep numbers below not? either? all? mem? before? same? remove place insert lower-first up down both entering earAdded neighbours earRemoved away? side? linked? joined? common enter flipped result carried angleOf
 known =
-    all-cons refl (all-cons refl (all-cons refl (all-cons refl (all-cons refl (all-cons refl (all-cons refl (all-cons refl (all-cons refl (all-cons refl (all-cons refl (all-cons refl (all-cons refl (all-cons refl (all-cons refl (all-cons refl (all-cons refl (all-cons refl (all-cons refl (all-cons refl (all-cons refl (all-cons refl (all-cons refl (all-cons refl (all-cons refl (all-cons refl (all-cons refl (all-nil)))))))))))))))))))))))))))
+    all-cons refl (all-cons refl (all-cons refl (all-cons refl (all-cons refl (all-cons refl (all-cons refl
+    (all-cons refl (all-cons refl (all-cons refl (all-cons refl (all-cons refl (all-cons refl (all-cons refl
+    (all-cons refl (all-cons refl (all-cons refl (all-cons refl (all-cons refl (all-cons refl (all-cons refl
+    (all-cons refl (all-cons refl (all-cons refl (all-cons refl (all-cons refl (all-cons refl all-nil))))))))))))))))))))))))))

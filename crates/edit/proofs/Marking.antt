@@ -1,13 +1,12 @@
 -- The table of the corners joined to a corner, marked one edge after another; and the corners marked in two such tables.
 use mathlib.Core.Path.{_≡_, refl, sym, _∙_}
 use mathlib.Core.Logic.{_⊎_, inl, inr}
-use mathlib.Core.List.{List, [], _∷_, _++_, map-append}
+use mathlib.Core.List.{List, [], _∷_, _++_}
 use Prim.Native.Nat.{ℕ, zero, suc, _+_, _-_, _<_, _≤_}
 use native.Mathlib.Decide.{ℕ-discrete}
-use native.Mathlib.Numerals.{add-one}
 use native.Mathlib.Omega.{arith}
-use lib.ListN.{length, take, set, getD, length-set, length-map, List·getD-map}
-use lib.Seq.{take-suc, getD-set-same, getD-set-other}
+use lib.ListN.{length, set, getD, length-set, length-map, List·getD-map}
+use lib.Seq.{getD-set-same, getD-set-other}
 use Rattle.lists.specs.Lists.{Mem, head, tail, All}
 use Rattle.lists.proofs.Lists.{mem-left, mem-right, not-empty, choose-yes, choose-no}
 use Rattle.lists.proofs.Places.{all-at, at-all}
@@ -17,10 +16,6 @@ use Rattle.keys.specs.Keys.{edgeOf, edgesOf}
 use Rattle.edit.specs.Rules.{neighbours, Away}
 use Rattle.edit.specs.Tables.{OtherEnd, Near}
 use Rattle.edit.proofs.Reading.{neighbours-read}
-
--- one more edge
-pub edges-more : (ks : List ℕ) (j : ℕ) → j < length ks → edgesOf (take (j + 1) ks) ≡ edgesOf (take j ks) ++ (edgeOf (getD ks j 0) ∷ [])
-edges-more ks j h = rw (add-one j, take-suc ks j 0 h) (map-append edgeOf (take j ks) (getD ks j 0 ∷ []))
 
 -- the two corners next to k along the outline
 pub neighbours-first : (n k : ℕ) → k ≡ 0 → neighbours n k ≡ 1 — (n - 1)

@@ -1,13 +1,14 @@
 -- A table of bends renumbered place after place: their edges are renumbered, and their angles stay.
-use mathlib.Core.Path.{_≡_, refl, ap, ap₂, sym, _∙_}
-use mathlib.Core.List.{List, [], _∷_, map, map-append}
+use mathlib.Core.Path.{_≡_, refl, ap, ap₂, _∙_}
+use mathlib.Core.List.{List, [], _∷_, map}
 use Prim.Native.Nat.{ℕ, _+_, _-_, _/_, _%_, _<_, _≤_}
 use native.Mathlib.Decide.{decLt}
 use native.Mathlib.Numerals.{add-one}
 use native.Mathlib.Omega.{arith}
 use lib.ListN.{length, take, set, getD, length-set, length-map, List·getD-map}
-use lib.Seq.{take-suc, take-suc-set, take-all}
+use lib.Seq.{take-all}
 use Rattle.lists.specs.Lists.{all-cons, choose}
+use Rattle.lists.proofs.Places.{mapped-next}
 use Rattle.keys.specs.Keys.{keyOf, edgeOf, edgesOf, pairOf, pairsOf, angleIn, anglesIn}
 use Rattle.keys.proofs.InOrder.{edge-of-key, edges-at}
 use Rattle.edit.specs.declared.shift.Shift.{Shift}
@@ -70,7 +71,7 @@ module _ {s : Shift} {bends : List ℕ} {size : ℕ} {out : List ℕ} {j : ℕ} 
   mapping-next fits more {v} e = record {
     upto = omega arith;
     kept = simp length-set (M .kept);
-    done = rw (add-one j, take-suc-set out j v (omega (arith, M .kept)), take-suc bends j 0 more, M .done, e) (sym (map-append (movedBend s) (take j bends) (getD bends j 0 ∷ [])));
+    done = mapped-next (movedBend s) bends out j 0 more (omega (arith, M .kept)) e (M .done);
   }
 
   pub mapping-end : length bends ≤ j → take (length bends) out ≡ map (movedBend s) bends

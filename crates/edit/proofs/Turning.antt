@@ -2,7 +2,7 @@
 use mathlib.Core.Path.{_≡_, refl, ap, sym, _∙_}
 use mathlib.Core.Logic.{_⊎_, inl, inr}
 use mathlib.Core.List.{List, [], _∷_}
-use Prim.Native.Nat.{ℕ, _+_, _*_, _-_, _≤_, _<_}
+use Prim.Native.Nat.{ℕ, _+_, _-_, _≤_, _<_}
 use native.Mathlib.Decide.{decLt}
 use native.Mathlib.Omega.{arith}
 use lib.ListN.{length, take, getD}
@@ -13,7 +13,7 @@ use Rattle.polygon.specs.Polygon.{Edge, _—_}
 use Rattle.polygon.specs.Order.{insert, remove, lower-first}
 use Rattle.polygon.proofs.Order.{remove-all}
 use Rattle.polygon.proofs.Sort.{distinct-of}
-use Rattle.keys.specs.Keys.{keyOf, edgeOf, pairsOf}
+use Rattle.keys.specs.Keys.{keyOf, edgeOf, pairsOf, flatBend}
 use Rattle.keys.specs.Sort.{insertKey, merge}
 use Rattle.keys.specs.Change.{removePair}
 use Rattle.keys.proofs.InOrder.{edge-of-key}
@@ -100,14 +100,14 @@ module _ {h : Head} {bs : List ℕ} (P : BentInHand h bs) (a b : ℕ) where
     turn-out M = taken-out P (a — b) (rw edge-k at (mem-edges k (pairsOf old) M)) K
 
   pub flipped-over : a ≤ b → b < h .n → {rest : List ℕ} → Without h bs (a — b) rest → {other turned : ℕ}
-      → ((x y : ℕ) → common (h .n) (edgesIn old) (a — b) ≡ x ∷ (y ∷ []) → other ≡ keyOf (x — y)) → turned ≡ other * 4096 + 1800
+      → ((x y : ℕ) → common (h .n) (edgesIn old) (a — b) ≡ x ∷ (y ∷ []) → other ≡ keyOf (x — y)) → turned ≡ flatBend other
       → (after : List ℕ) → take (1 + length rest) after ≡ merge (turned ∷ []) rest → 1021 ≤ length after → ReadsBent (rule (flip a b) (partOf h bs)) (Held h) after
   flipped-over up inside {rest} W {other} {turned} O B after I long =
       let T = P .valid .triangulated in
       let ds : List Edge = edgesIn old in
       let (f, A) = across (h .n) ds T (a — b) (W .member) in
       let low : f .1 < 1024 = omega (arith, joined-corners (h .n) ds T _ _ (A .low-high) .1, P .valid .most) in
-      let key : turned ≡ keyOf f * 4096 + 1800 = B ∙ ap (λ (k : ℕ). k * 4096 + 1800) (O (f .0) (f .1) (common-is (h .n) ds T (a — b) f A)) in
+      let key : turned ≡ flatBend (keyOf f) = B ∙ ap flatBend (O (f .0) (f .1) (common-is (h .n) ds T (a — b) f A)) in
       let m : h .n - 3 ≡ 1 + length rest = omega (arith, W .size) in
       let new : ¬ Mem f ds = fresh (h .n) ds T (a — b) f A (W .member) in
       let newer : ¬ Mem f (edgesIn rest) = λ k. new (all-mem (remove-all (a — b) (all-self ds)) (rw (W .left) at k)) in

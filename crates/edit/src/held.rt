@@ -2,10 +2,10 @@
 ghost use mathlib.Core.Path.{_≡_};
 ghost use mathlib.Core.Bool.{_&&_};
 ghost use mathlib.Core.List.{[], _∷_};
-ghost use Prim.Native.Nat.{ℕ, _+_, _*_, _-_, _<_, _≤_};
+ghost use Prim.Native.Nat.{ℕ, _+_, _-_, _<_, _≤_};
 ghost use lib.Dec.{ltb};
 ghost use Rattle.polygon.specs.Polygon.{_—_};
-ghost use Rattle.keys.specs.Keys.{keyOf, edgesOf};
+ghost use Rattle.keys.specs.Keys.{keyOf, edgesOf, flatBend};
 ghost use Rattle.sheet.specs.Held.{partOf, SmallKeys, BentInHand, KeysOf, ReadsBent};
 ghost use Rattle.edit.specs.Rules.{addEar, removeEar, flip, rule, entering, common};
 ghost use Rattle.edit.specs.Tables.{editOf};
@@ -38,7 +38,7 @@ pub enum Edit {
 // The bend of the diagonal that enters with a corner on side i.
 fn entering_bend(n: usize, i: usize) -> u32
     requires { ⌜ (i < n) × (n ≤ 1023) ⌝ }
-    ensures { λ r. ⌜ r ≡ keyOf (entering n i) * 4096 + 1800 ⌝ }
+    ensures { λ r. ⌜ r ≡ flatBend (keyOf (entering n i)) ⌝ }
 {
     if i + 1 == n {
         return bend(key(0, i), FLAT);

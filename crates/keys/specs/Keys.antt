@@ -18,6 +18,10 @@ edgesOf ks = map edgeOf ks
 abbrev pub pairOf : ℕ → ℕ
 pairOf b = b / 4096
 
+-- the bend of a key with the angle 0
+abbrev pub flatBend : ℕ → ℕ
+flatBend k = k * 4096 + 1800
+
 abbrev pub pairsOf : List ℕ → List ℕ
 pairsOf bs = map pairOf bs
 

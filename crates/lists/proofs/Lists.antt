@@ -64,6 +64,11 @@ pub all-map : {A B : Type 0} {Q : B → Type 0} (f : A → B) {xs : List A} → 
 all-map f all-nil = all-nil
 all-map f (all-cons q a) = all-cons q (all-map f a)
 
+-- two functions that agree on a list
+pub map-same : {A B : Type 0} {f g : A → B} {xs : List A} → All (λ x. f x ≡ g x) xs → map f xs ≡ map g xs
+map-same all-nil = refl
+map-same (all-cons e a) = ap₂ _∷_ e (map-same a)
+
 -- one of two values
 pub choose-yes : {A P : Type 0} (d : Dec P) {x : A} (y : A) → P → choose d x y ≡ x
 unfolding choose

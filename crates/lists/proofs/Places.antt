@@ -1,13 +1,14 @@
 -- Lists by their places: the element at a place, all elements by their places, tables that are stored to; the numbers below n, what holds of each and of each two of them.
 use mathlib.Core.Path.{_≡_, refl, sym, _∙_, ap, ap₂, subst}
-use mathlib.Core.List.{List, [], _∷_, _++_, map, reverse, reverse-cons}
+use mathlib.Core.List.{List, [], _∷_, _++_, map, map-append, reverse, reverse-cons}
 use Prim.Native.Nat.{ℕ, zero, suc, _+_, _-_, _≤_, _<_}
 use native.Mathlib.Decide.{decLt, ℕ-discrete}
+use native.Mathlib.Numerals.{add-one}
 use native.Mathlib.Omega.{arith}
-use lib.ListN.{length, getD, set, replicate, length-reverse}
-use lib.Seq.{getD-set-same, getD-set-other}
+use lib.ListN.{length, take, getD, set, replicate, length-reverse}
+use lib.Seq.{take-suc, take-suc-set, getD-set-same, getD-set-other}
 use Rattle.lists.specs.Lists.{Mem, head, tail, Nth, now, next, All, all-nil, all-cons, Sorted, sorted-nil, sorted-cons, numbers, below}
-use Rattle.lists.proofs.Lists.{there, all-imp, all-mem}
+use Rattle.lists.proofs.Lists.{there, all-imp, all-mem, map-same}
 
 module _ {A : Type 0} where
   pub nth-lt : {z : A} {j : ℕ} {l : List A} → Nth z j l → j < length l
@@ -211,11 +212,7 @@ map-places g h d (x ∷ l) u f =
 
 pub map-below : {B : Type 0} (g h : ℕ → B) (n : ℕ) → ((i : ℕ) → i < n → g i ≡ h i) → map g (below n) ≡ map h (below n)
 unfolding below
-map-below g h n f = go (numbers-in n 0)
-  where
-    go : {xs : List ℕ} → All (λ x. (0 ≤ x) × (x < 0 + n)) xs → map g xs ≡ map h xs
-    go all-nil = refl
-    go (all-cons {x} p a) = ap₂ _∷_ (f x (omega arith)) (go a)
+map-below g h n f = map-same (all-imp (λ x k. f x (omega arith)) (numbers-in n 0))
 
 -- what no number from a place on before x has, and x has not, no number before x + 1 has
 pub between-more : (Q : ℕ → Type 0) (from x : ℕ) → ((y : ℕ) → from ≤ y → y < x → ¬ Q y) → ¬ Q x → (y : ℕ) → from ≤ y → y < x + 1 → ¬ Q y
@@ -224,3 +221,11 @@ between-more Q from x f g y a b q = go (ℕ-discrete y x)
     go : Dec (y ≡ x) → ⊥
     go (yes e) = g (rw e at q)
     go (no e) = f y a (omega arith) q
+
+-- one element more of a list under a function; and of a table that a loop fills with its values
+pub map-next : {A B : Type 0} (f : A → B) (l : List A) (j : ℕ) (d : A) → j < length l → map f (take (j + 1) l) ≡ map f (take j l) ++ (f (getD l j d) ∷ [])
+map-next f l j d h = rw (add-one j, take-suc l j d h) (map-append f (take j l) (getD l j d ∷ []))
+
+pub mapped-next : {A B : Type 0} (f : A → B) (l : List A) (out : List B) (j : ℕ) (d : A) {v : B} → j < length l → j < length out → v ≡ f (getD l j d) → take j out ≡ map f (take j l)
+    → take (j + 1) (set out j v) ≡ map f (take (j + 1) l)
+mapped-next f l out j d {v} h k e t = rw (add-one j, take-suc-set out j v k, t, e) (sym (rw (add-one j) at (map-next f l j d h)))

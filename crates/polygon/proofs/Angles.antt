@@ -6,16 +6,11 @@ use Prim.Native.Nat.{ℕ, _+_, _<_}
 use native.Mathlib.Omega.{arith}
 use lib.ListN.{length, length-map}
 use Rattle.lists.specs.Lists.{All, Mem, Sub, all-cons, all-nil, choose, head, sorted-cons, sorted-nil, tail}
-use Rattle.lists.proofs.Lists.{all-imp, all-map, all-of, choose-no, choose-yes, not-empty}
+use Rattle.lists.proofs.Lists.{all-imp, all-map, all-of, choose-no, choose-yes, map-same, not-empty}
 use Rattle.polygon.specs.Angles.{Angle, Angles, none, each, InRange, Allowed}
 use Rattle.polygon.specs.Polygon.{Edge}
 use Rattle.polygon.specs.Order.{same?, Distinct}
 use Rattle.polygon.specs.Carried.{angleOf, carried, angleFrom}
-
--- two functions that agree on a list
-pub map-same : {A B : Type 0} {f g : A → B} {xs : List A} → All (λ x. f x ≡ g x) xs → map f xs ≡ map g xs
-map-same all-nil = refl
-map-same (all-cons e a) = ap₂ _∷_ e (map-same a)
 
 module _ (x : Edge) (es : List Edge) (a : Angle) (vs : List Angle) (e : Edge) where
   pub angle-here : x ≡ e → angleOf (x ∷ es) (a ∷ vs) e ≡ a

@@ -1,7 +1,7 @@
 -- A part in the code's hands: the one law from what was read to what is answered, and what is known of the keys.
-use mathlib.Core.Path.{_≡_, ap, sym, _∙_}
+use mathlib.Core.Path.{_≡_, refl, ap, ap₂, sym, _∙_}
 use mathlib.Core.Bool.{Bool, false}
-use mathlib.Core.List.{List}
+use mathlib.Core.List.{List, [], _∷_, map}
 use Prim.Native.Nat.{ℕ, _-_, _≤_}
 use native.Mathlib.Omega.{arith}
 use lib.ListN.{length, take}
@@ -9,7 +9,7 @@ use lib.Seq.{length-take-le}
 use Rattle.polygon.specs.Angles.{none}
 use Rattle.polygon.specs.Polygon.{bare}
 use Rattle.polygon.proofs.Reading.{bare-valid}
-use Rattle.keys.specs.Keys.{edgesOf, pairsOf}
+use Rattle.keys.specs.Keys.{edgesOf, pairsOf, flatBend}
 use Rattle.keys.proofs.InOrder.{edges-at}
 use Rattle.sheet.specs.declared.Head.{Head}
 use Rattle.sheet.specs.declared.Read.{Read}
@@ -90,10 +90,16 @@ module _ {h : Head} {bs : List ℕ} (P : BentInHand h bs) where
   pub bends-count : length (take (h .n - 3) bs) ≡ h .n - 3
   bends-count = length-take-le (h .n - 3) bs bends-lie
 
+-- the keys of flat bends
+flat-pairs : (ks : List ℕ) → pairsOf (map flatBend ks) ≡ ks
+flat-pairs [] = refl
+flat-pairs (k ∷ ks) = ap₂ _∷_ (omega arith) (flat-pairs ks)
+
 -- a part without angles, by bends whose angles are not looked at
-module _ {h : Head} {ks : List ℕ} (bs : List ℕ) (P : InHand h ks) (plain : h .angled ≡ false) (e : pairsOf (take (h .n - 3) bs) ≡ take (h .n - 3) ks) where
+module _ {h : Head} {ks : List ℕ} (bs : List ℕ) (P : InHand h ks) (plain : h .angled ≡ false) (flat : take (h .n - 3) bs ≡ map flatBend (take (h .n - 3) ks)) where
   pub flat-same : partOf h bs ≡ polygonOf h ks
   flat-same =
+      let e = ap pairsOf flat ∙ flat-pairs (take (h .n - 3) ks) in
       let none-by : anglesBy (h .angled) (take (h .n - 3) bs) ≡ none = ap (λ (b : Bool). anglesBy b (take (h .n - 3) bs)) plain in
       λ i. record { n = h .n; ds = edgesOf (e i); angles = none-by i }
 

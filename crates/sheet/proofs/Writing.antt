@@ -1,16 +1,16 @@
 -- Writing a normal sheet field by field into an output: stores one behind the other are the sheet's bytes, followed by what was there.
 use mathlib.Core.Path.{_≡_, refl, ap, sym, _∙_}
 use mathlib.Core.Bool.{Bool, true, false}
-use mathlib.Core.List.{List, [], _∷_, _++_, map, map-append}
-use Prim.Native.Nat.{ℕ, zero, suc, _+_, _*_, _-_, _/_, _%_, _≤_, _<_}
-use native.Mathlib.Numerals.{add-one}
+use mathlib.Core.List.{List, [], _∷_, _++_, map-append}
+use Prim.Native.Nat.{ℕ, _+_, _*_, _-_, _/_, _%_, _≤_, _<_}
 use native.Mathlib.Omega.{arith}
 use lib.ListN.{length, take, drop, set, getD, length-append, length-map}
-use lib.Seq.{sets, take-suc, length-take-le}
+use lib.Seq.{sets, length-take-le}
 use Rattle.polygon.specs.Polygon.{Edge}
 use Rattle.codec.specs.Numbers.{bytes16, run16}
-use Rattle.codec.proofs.Numbers.{length-run16, run16-next}
+use Rattle.codec.proofs.Numbers.{length-run16, run16-snoc}
 use Rattle.codec.specs.Answer.{Answer, refusal, written, write}
+use Rattle.lists.proofs.Places.{map-next}
 use Rattle.lists.proofs.Stores.{sets-append, sets-front}
 use Rattle.codec.proofs.Answers.{written-short, written-fits}
 use Rattle.keys.specs.Keys.{edgeOf, edgesOf, pairOf, pairsOf, angleIn, anglesIn}
@@ -25,10 +25,7 @@ unfolding pairBytes
 pairs-snoc [] e = refl
 pairs-snoc (x ∷ es) e = ap (λ (l : List ℕ). bytes16 (x .0) ++ (bytes16 (x .1) ++ l)) (pairs-snoc es e)
 
--- one more edge: in the list, and in an output
-edges-more : (bs : List ℕ) (j : ℕ) → j < length bs → edgesOf (pairsOf (take (j + 1) bs)) ≡ edgesOf (pairsOf (take j bs)) ++ (edgeOf (pairOf (getD bs j 0)) ∷ [])
-edges-more bs j h = rw (add-one j, take-suc bs j 0 h, map-append pairOf (take j bs) (getD bs j 0 ∷ [])) (map-append edgeOf (pairsOf (take j bs)) (pairOf (getD bs j 0) ∷ []))
-
+-- one more edge, and one more angle, in an output
 pub edges-next : (bends out : List ℕ) (at i : ℕ) → i < length bends
     → sets (sets (sets out at (pairBytes (edgesOf (pairsOf (take i bends))))) (at + i * 4) (bytes16 (pairOf (getD bends i 0) / 1024))) (at + i * 4 + 2) (bytes16 (pairOf (getD bends i 0) % 1024))
     ≡ sets out at (pairBytes (edgesOf (pairsOf (take (i + 1) bends))))
@@ -38,22 +35,15 @@ edges-next bends out at i h =
     let n : length (pairBytes es) ≡ i * 4 = omega (arith, pairs-length es, length-map (pairsOf (take i bends)) edgeOf, length-map (take i bends) pairOf, length-take-le i bends (omega arith)) in
     let high : List ℕ = bytes16 (k / 1024) in
     let low : List ℕ = bytes16 (k % 1024) in
-    rw (edges-more bends i h, pairs-snoc es (edgeOf k), sets-append (pairBytes es) (high ++ low) out at, n, sets-append high low (sets out at (pairBytes es)) (at + i * 4))
+    rw (map-next pairOf bends i 0 h, map-append edgeOf (pairsOf (take i bends)) (k ∷ []), pairs-snoc es (edgeOf k), sets-append (pairBytes es) (high ++ low) out at, n, sets-append high low (sets out at (pairBytes es)) (at + i * 4))
 
-map-take : {A B : Type 0} (f : A → B) (xs : List A) (i : ℕ) → map f (take i xs) ≡ take i (map f xs)
-map-take f xs zero = refl
-map-take f [] (suc i) = refl
-map-take f (x ∷ xs) (suc i) = ap (λ (l : List _). f x ∷ l) (map-take f xs i)
-
-map-at : (f : ℕ → ℕ) (xs : List ℕ) (i : ℕ) → i < length xs → getD (map f xs) i 0 ≡ f (getD xs i 0)
-map-at f [] i h = absurd (omega arith)
-map-at f (x ∷ xs) zero h = refl
-map-at f (x ∷ xs) (suc i) h = map-at f xs i (omega arith)
-
--- one more angle
 pub angles-next : (bends out : List ℕ) (at i : ℕ) → i < length bends
     → sets (sets out at (run16 (anglesIn (take i bends)))) (at + i * 2) (bytes16 (angleIn (getD bends i 0))) ≡ sets out at (run16 (anglesIn (take (i + 1) bends)))
-angles-next bends out at i h = rw (map-take angleIn bends i, map-take angleIn bends (i + 1), ← map-at angleIn bends i h) (run16-next (anglesIn bends) out at i (omega (arith, length-map bends angleIn)))
+angles-next bends out at i h =
+    let vs : List ℕ = anglesIn (take i bends) in
+    let v : ℕ = angleIn (getD bends i 0) in
+    let n : length (run16 vs) ≡ i * 2 = omega (arith, length-run16 vs, length-map (take i bends) angleIn, length-take-le i bends (omega arith)) in
+    rw (map-next angleIn bends i 0 h, run16-snoc vs v, sets-append (run16 vs) (bytes16 v) out at, n)
 
 -- the angles' bit, and their bytes, by the head
 pub map-of : (n : ℕ) (b : Bool) (bs : List ℕ) → mapByte n (anglesBy b []) ≡ mapByte n (anglesBy b bs)

@@ -1,13 +1,13 @@
 // Writing a part as a sheet in normal order.
 ghost use mathlib.Core.Path.{_≡_};
 ghost use mathlib.Core.Bool.{false};
-ghost use mathlib.Core.List.{[]};
+ghost use mathlib.Core.List.{[], map};
 ghost use Prim.Native.Nat.{_+_, _*_, _-_, _≤_, _<_};
 ghost use lib.ListN.{length, take};
 ghost use lib.Seq.{sets};
 ghost use Rattle.codec.specs.Answer.{answered, written, write};
 ghost use Rattle.codec.specs.Numbers.{run16};
-ghost use Rattle.keys.specs.Keys.{edgesOf, pairsOf, anglesIn};
+ghost use Rattle.keys.specs.Keys.{edgesOf, pairsOf, anglesIn, flatBend};
 ghost use Rattle.sheet.specs.Sheet.{field, more, normalSheet, pairBytes, mapByte};
 ghost use Rattle.sheet.specs.Held.{bit, polygonOf, InHand, SmallKeys, partOf, anglesBy, BentInHand};
 use crate::Head;
@@ -95,7 +95,7 @@ pub fn write_sheet(h: Head, bends: &[u32], out: &mut [u8]) -> Written
 // Puts the bends of diagonals without angles at the front of a table.
 fn flat_bends(keys: &[u32], bends: &mut [u32])
     requires { ⌜ (length (now keys) ≤ length (now bends)) × SmallKeys (now keys) ⌝ }
-    ensures { λ _. ⌜ pairsOf (take (length (now (keys .entry))) (now (bends .exit))) ≡ now (keys .entry) ⌝ }
+    ensures { λ _. ⌜ take (length (now (keys .entry))) (now (bends .exit)) ≡ map flatBend (now (keys .entry)) ⌝ }
 {
     let mut j = 0;
     while j < keys.len() {

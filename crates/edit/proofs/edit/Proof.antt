@@ -39,7 +39,13 @@ returns-2 c = bent-is (λ (q : Reading). written (outcome q) (start (c .before .
 
 returns-3 : tie.Need-returns-3
 unfolding edited outcome
-returns-3 c = c .before .before .write-sheet .ensures ∙ bent-is (λ (q : Reading). written (outcome q) (start (c .before .before .before .before .before .before .before .before .before) .args .out .now)) (after (c .before .before .before .before .before .before .before .before .before)) (c .before .before .before .before .before .before .g .given .1)
+returns-3 c =
+    let at-g = c .before .before .before .before .before .before in
+    let at-edit = at-g .before .before .before in
+    c .before .before .write-sheet .ensures ∙ bent-is (λ (q : Reading). written (outcome q) (start at-edit .args .out .now)) (after at-edit) (at-g .g .given .1)
 
 pub edit-spec : {M : Type 1} → statement M
-edit-spec = tie.close (tie.spec (λ c. search needs) (λ c. search needs) (λ c κs. search needs) (λ c. search needs) (λ c. search needs) (λ c. search needs) (λ c. search needs) edit-part-requires (λ c. search needs) (λ c. search needs) (λ c. search needs) write-sheet-requires returns returns-2 (λ c. search needs) returns-3)
+edit-spec = tie.close
+    (tie.spec (λ c. search needs) (λ c. search needs) (λ c κs. search needs) (λ c. search needs) (λ c. search needs) (λ c. search needs)
+    (λ c. search needs) edit-part-requires (λ c. search needs) (λ c. search needs) (λ c. search needs) write-sheet-requires returns returns-2
+    (λ c. search needs) returns-3)

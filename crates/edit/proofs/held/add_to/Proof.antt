@@ -33,7 +33,12 @@ slice-aggregate-merge-2 : tie.Need-slice-aggregate-merge-2
 slice-aggregate-merge-2 c = sym (moved-count (c .before .before .before .before))
 
 merge-requires : tie.Need-merge-requires
-merge-requires c κs = omega (arith, moved-count (c .before .before .before .before .before), c .before .before .before .before .before .before .before .before .before .before .before .pre .room, c .before .before .before .before .before .before .before .before .before .before .before .pre .valid .most)
+merge-requires c κs = omega (
+  arith,
+  moved-count (c .before .before .before .before .before),
+  c .before .before .before .before .before .before .before .before .before .before .before .pre .room,
+  c .before .before .before .before .before .before .before .before .before .before .before .pre .valid .most,
+)
 
 returns-3 : tie.Need-returns-3
 returns-3 c =
@@ -44,4 +49,7 @@ returns-3 c =
     (c .before .before .before .before .before .before .entering-bend .ensures) (at-merge .merge .last .1 .1 .0) (at-merge .merge .ensures) (omega (arith, at-merge .merge .kept .1 .1 .0, start .pre .room))
 
 pub add-to-spec : {M : Type 1} → statement M
-add-to-spec = tie.close (tie.spec returns returns-2 (λ c. search needs) (λ c. search needs) slice-aggregate-renumber (λ c. search needs) renumber-requires (λ c κs. search needs) (λ c. search needs) (λ c. search needs) slice-aggregate-merge-2 merge-requires (λ c. search needs) (λ c. search needs) returns-3)
+add-to-spec = tie.close
+    (tie.spec returns returns-2 (λ c. search needs) (λ c. search needs) slice-aggregate-renumber (λ c. search needs) renumber-requires
+    (λ c κs. search needs) (λ c. search needs) (λ c. search needs) slice-aggregate-merge-2 merge-requires (λ c. search needs) (λ c. search needs)
+    returns-3)

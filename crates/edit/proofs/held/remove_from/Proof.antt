@@ -69,4 +69,7 @@ returns-4 c =
     (omega (arith, at-renumber .renumber .kept .1 .1 .0, s .pre .0 .room)) (c .angled-without .ensures)
 
 pub remove-from-spec : {M : Type 1} → statement M
-remove-from-spec = tie.close (tie.spec returns returns-2 (λ c. search needs) slice-aggregate-is-ear (λ c κs. search needs) returns-3 (λ c κs. search needs) (λ c κs. search needs) (λ c. search needs) slice-aggregate-remove (λ c κs. search needs) (λ c. search needs) remove-requires array-share-prefix-rest slice-aggregate-renumber renumber-requires (λ c. search needs) (λ c κs. search needs) (λ c. search needs) returns-4)
+remove-from-spec = tie.close
+    (tie.spec returns returns-2 (λ c. search needs) slice-aggregate-is-ear (λ c κs. search needs) returns-3 (λ c κs. search needs)
+    (λ c κs. search needs) (λ c. search needs) slice-aggregate-remove (λ c κs. search needs) (λ c. search needs) remove-requires
+    array-share-prefix-rest slice-aggregate-renumber renumber-requires (λ c. search needs) (λ c κs. search needs) (λ c. search needs) returns-4)

@@ -60,9 +60,15 @@ merge-requires c κs = let P = c .before .before .before .before .before .before
 returns-2 : tie.Need-returns-2
 returns-2 c =
     let at-merge = c .before .before in
-    let s = c .before .before .before .before .before .before .before .before .before .before .before .before .before .before .before .before .before .before .before in
-    flipped-over (s .pre .0 .0) (s .args .a) (s .args .b) (s .pre .1 .0) (s .pre .1 .1) (out (c .before .before .before .before .before .before .before)) (rw (s .pre .0 .1 .same) at (c .before .before .before .before .before .before .before .before .before .before .before .turned-key .ensures .0)) (c .before .before .before .before .before .before .before .before .before .before .bend .ensures)
+    let at-out = c .before .before .before .before .before .before .before in
+    let at-key = at-out .before .before .before .before in
+    let s = at-key .before .before .before .before .before .before .before .before in
+    flipped-over (s .pre .0 .0) (s .args .a) (s .args .b) (s .pre .1 .0) (s .pre .1 .1) (out at-out)
+    (rw (s .pre .0 .1 .same) at (at-key .turned-key .ensures .0)) (at-out .before .before .before .bend .ensures)
     (at-merge .merge .last .1 .1 .0) (at-merge .merge .ensures) (omega (arith, at-merge .merge .kept .1 .1 .0, s .pre .0 .0 .room))
 
 pub turn-spec : {M : Type 1} → statement M
-turn-spec = tie.close (tie.spec (λ c. search needs) (λ c κs. search needs) slice-aggregate-has (λ c κs. search needs) returns slice-aggregate-turned-key turned-key-requires (λ c κs. search needs) (λ c. search needs) slice-aggregate-remove (λ c. search needs) remove-requires (λ c. search needs) array-share-prefix-rest slice-aggregate-merge-2 merge-requires (λ c. search needs) returns-2)
+turn-spec = tie.close
+    (tie.spec (λ c. search needs) (λ c κs. search needs) slice-aggregate-has (λ c κs. search needs) returns slice-aggregate-turned-key
+    turned-key-requires (λ c κs. search needs) (λ c. search needs) slice-aggregate-remove (λ c. search needs) remove-requires (λ c. search needs)
+    array-share-prefix-rest slice-aggregate-merge-2 merge-requires (λ c. search needs) returns-2)

@@ -23,8 +23,15 @@ returns : tie.Need-returns
 returns c =
     let at-mark2 = c .before .before .before .before .before in
     let at-mark = at-mark2 .before .before .before in
-    let start = at-mark .before .before .before in
-    (λ x y e. absurd (omega (arith, c .if1 .taken, first-found (start .args .n) (start .args .a) (start .args .b) (edgesOf (start .args .keys .now)) (at-mark .mark .last .1 .1 .1 .0) (at-mark2 .mark2 .last .1 .1 .1 .0) (at-mark .mark .ensures) (at-mark2 .mark2 .ensures) x y e _ (c .before .first-common .ensures))), omega arith)
+    let start = at-mark .before .before .before in (
+      λ x y e. absurd (omega (
+        arith,
+        c .if1 .taken,
+        first-found (start .args .n) (start .args .a) (start .args .b) (edgesOf (start .args .keys .now)) (at-mark .mark .last .1 .1 .1 .0)
+            (at-mark2 .mark2 .last .1 .1 .1 .0) (at-mark .mark .ensures) (at-mark2 .mark2 .ensures) x y e _ (c .before .first-common .ensures),
+      )),
+      omega arith,
+    )
 
 add-first-common : tie.Need-add-first-common
 add-first-common c = omega (arith, c .before .before .before .before .before .before .before .before .before .before .before .before .before .pre .1, c .before .before .before .first-common .ensures, c .before .before .if1 .left)

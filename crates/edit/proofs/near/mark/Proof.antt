@@ -4,9 +4,10 @@ use Prim.Native.Nat.{_≤_, _-_}
 use native.Mathlib.Omega.{arith}
 use lib.ListN.{length, take, getD, length-set}
 use lib.Seq.{take-all}
+use Rattle.lists.proofs.Places.{map-next}
 use Rattle.keys.specs.Keys.{edgeOf, edgesOf}
 use Rattle.edit.specs.Tables.{Near}
-use Rattle.edit.proofs.Marking.{edges-more, near-begin, near-next, end-below}
+use Rattle.edit.proofs.Marking.{near-begin, near-next, end-below}
 use Rattle.edit.proofs.near.mark.Statement.{statement}
 use Rattle.edit.proofs.near.mark.Tie as tie
 
@@ -48,7 +49,7 @@ loop-again c =
     let j = at-loop .loop .j in (
       omega arith,
       simp length-set (at-loop .loop .inv .1),
-      rw (edges-more keys j (c .before .before .loop-test .taken))
+      rw (map-next edgeOf keys j 0 (c .before .before .loop-test .taken))
           (near-next (start .args .n) (start .args .c) (edgesOf (take j keys)) (edgeOf (getD keys j 0)) (at-loop .loop .near) (at-loop .loop .inv .2) (start .pre .0 .1) (at-loop .loop .inv .1) (c .other-end .result) (c .other-end .ensures)),
     )
 

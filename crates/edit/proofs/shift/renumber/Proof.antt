@@ -36,8 +36,18 @@ slice-write-out c = omega (arith, c .before .before .before .before .before .bef
 loop-again : tie.Need-loop-again Inv-loop μ-loop
 unfolding both
 loop-again c =
-    mapping-next (c .before .before .before .before .before .before .before .before .before .before .before .loop .inv) (c .before .before .before .before .before .before .before .before .before .before .before .before .before .before .pre .0) (c .before .before .before .before .before .before .before .before .before .before .loop-test .taken)
-    (c .bend .ensures ∙ rw (c .before .before .before .key .ensures, c .before .before .before .before .moved2 .ensures .0, c .before .before .before .before .before .before .moved .ensures .0, c .before .before .before .before .before .before .before .low .ensures, c .before .before .before .before .before .high .ensures .0, c .before .before .before .before .before .before .before .before .pair .ensures .0, c .before .code .ensures .0))
+    mapping-next (c .before .before .before .before .before .before .before .before .before .before .before .loop .inv)
+    (c .before .before .before .before .before .before .before .before .before .before .before .before .before .before .pre .0)
+    (c .before .before .before .before .before .before .before .before .before .before .loop-test .taken)
+    (c .bend .ensures ∙ rw (
+      c .before .before .before .key .ensures,
+      c .before .before .before .before .moved2 .ensures .0,
+      c .before .before .before .before .before .before .moved .ensures .0,
+      c .before .before .before .before .before .before .before .low .ensures,
+      c .before .before .before .before .before .high .ensures .0,
+      c .before .before .before .before .before .before .before .before .pair .ensures .0,
+      c .before .code .ensures .0,
+    ))
 
 same-length : tie.Need-same-length Inv-loop μ-loop
 same-length c = c .before .loop .inv .kept
@@ -46,4 +56,7 @@ returns : tie.Need-returns Inv-loop μ-loop
 returns c = mapping-end (c .before .loop .inv) (c .loop-test .left)
 
 pub renumber-spec : {M : Type 1} → statement M
-renumber-spec = tie.close (tie.spec Inv-loop μ-loop loop-holds (λ c. omega arith) (λ c. omega arith) (λ c κs. omega arith) (λ c κs. omega arith) moved-requires (λ c κs. omega arith) moved-requires-2 (λ c κs. omega arith) (λ c. omega arith) (λ c. omega arith) (λ c κs. omega arith) bend-requires (λ c. omega arith) slice-write-out (λ c. omega arith) (λ c. omega arith) loop-again same-length returns)
+renumber-spec = tie.close
+    (tie.spec Inv-loop μ-loop loop-holds (λ c. omega arith) (λ c. omega arith) (λ c κs. omega arith) (λ c κs. omega arith) moved-requires
+    (λ c κs. omega arith) moved-requires-2 (λ c κs. omega arith) (λ c. omega arith) (λ c. omega arith) (λ c κs. omega arith) bend-requires
+    (λ c. omega arith) slice-write-out (λ c. omega arith) (λ c. omega arith) loop-again same-length returns)

@@ -1,11 +1,10 @@
 -- The loop's invariant: the keys before j are those of the bends.
 use mathlib.Core.Path.{_≡_, refl, _∙_, sym}
-use mathlib.Core.List.{[], _∷_, map-append}
 use Prim.Native.Nat.{_≤_, _-_}
-use native.Mathlib.Numerals.{add-one}
 use native.Mathlib.Omega.{arith}
-use lib.ListN.{length, take, getD, length-set}
-use lib.Seq.{take-suc, take-suc-set, take-all}
+use lib.ListN.{length, take, length-set}
+use lib.Seq.{take-all}
+use Rattle.lists.proofs.Places.{mapped-next}
 use Rattle.keys.specs.Keys.{pairOf, pairsOf}
 use Rattle.keys.proofs.bend.pairs.Statement.{statement}
 use Rattle.keys.proofs.bend.pairs.Tie as tie
@@ -22,13 +21,8 @@ loop-holds c = (omega arith, refl, refl)
 loop-again : tie.Need-loop-again Inv-loop μ-loop
 loop-again c =
     let at-loop = c .before .before .before in
-    let bends = at-loop .before .before .before .args .bends .now in
-    let j = at-loop .loop .j in (
-      omega arith,
-      simp length-set (at-loop .loop .inv .1),
-      rw (add-one j, take-suc-set (at-loop .loop .keys) j (c .pair .result) (omega arith), take-suc bends j 0 (omega arith), at-loop .loop .inv .2, c .pair .ensures .0)
-          (sym (map-append pairOf (take j bends) (getD bends j 0 ∷ []))),
-    )
+    let bends = c .before .before .before .before .before .before .args .bends .now in
+    (omega arith, simp length-set (at-loop .loop .inv .1), mapped-next pairOf bends (at-loop .loop .keys) (at-loop .loop .j) 0 (omega arith) (omega arith) (c .pair .ensures .0) (at-loop .loop .inv .2))
 
 returns : tie.Need-returns Inv-loop μ-loop
 returns c =

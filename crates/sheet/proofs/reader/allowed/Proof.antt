@@ -25,7 +25,15 @@ returns : tie.Need-returns
 returns c = (λ h. plain (c .before .before .before .args .h .angled) (c .before .before .before .args .h .n) (c .before .before .before .args .bends .now) (not-true _ (c .if1 .taken)), λ h. absurd (true≢false h))
 
 returns-2 : tie.Need-returns-2
-returns-2 c = (λ h. absurd (false≢true h), λ h a. omega (arith, bent-back (c .before .before .before .before .before .args .h .angled) (c .before .before .before .before .before .args .h .n) (c .before .before .before .before .before .args .bends .now) (not-false _ (c .before .before .if1 .left)) a .0, c .if2 .taken))
+returns-2 c = (
+  λ h. absurd (false≢true h),
+  λ h a. omega (
+    arith,
+    bent-back (c .before .before .before .before .before .args .h .angled)
+        (c .before .before .before .before .before .args .h .n) (c .before .before .before .before .before .args .bends .now) (not-false _ (c .before .before .if1 .left)) a .0,
+    c .if2 .taken,
+  ),
+)
 
 returns-3 : tie.Need-returns-3
 returns-3 c =

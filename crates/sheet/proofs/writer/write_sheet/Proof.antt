@@ -25,37 +25,71 @@ slice-aggregate-put-edges c = sym (bends-count (c .before .before .before .befor
 
 put-edges-requires : tie.Need-put-edges-requires
 put-edges-requires c κs =
-    let start = c .before .before .before .before .before .before .before .before .before .before .before in
-    omega (arith, c .before .before .before .before .put16 .kept .0, length-set (start .args .out .now) 0 (c .before .before .before .before .before .before .map-byte .result), bends-count (start .pre), c .before .before .before .before .before .before .before .before .size-of .ensures, c .before .before .before .before .before .before .before .if1 .left)
+    let at-put16 = c .before .before .before .before in
+    let at-map = at-put16 .before .before in
+    let at-if1 = at-map .before in
+    let start = at-if1 .before .before .before .before in
+    let first = length-set (start .args .out .now) 0 (at-map .map-byte .result) in
+    omega (arith, at-put16 .put16 .kept .0, first, bends-count (start .pre), at-if1 .before .size-of .ensures, at-if1 .if1 .left)
 
 slice-aggregate-put-angles : tie.Need-slice-aggregate-put-angles
 slice-aggregate-put-angles c = sym (bends-count (c .before .before .before .before .before .before .before .before .before .before .before .before .before .before .before .before .before .pre))
 
 put-angles-requires : tie.Need-put-angles-requires
 put-angles-requires c κs =
-    let start = c .before .before .before .before .before .before .before .before .before .before .before .before .before .before .before .before .before in
-    let block = ap (λ (b : Bool). field (bit b) (2 * (start .args .h .n - 3))) (c .before .before .if2 .taken) in
-    omega (arith, c .before .before .before .before .before .put-edges .kept .0, c .before .before .before .before .before .before .before .before .before .before .put16 .kept .0, length-set (start .args .out .now) 0 (c .before .before .before .before .before .before .before .before .before .before .before .before .map-byte .result), bends-count (start .pre), c .before .before .before .before .before .before .before .before .before .before .before .before .before .before .size-of .ensures, c .before .before .before .before .before .before .before .before .before .before .before .before .before .if1 .left, block)
+    let at-if2 = c .before .before in
+    let at-edges = at-if2 .before .before .before in
+    let at-put16 = at-edges .before .before .before .before .before in
+    let at-map = at-put16 .before .before in
+    let at-if1 = at-map .before in
+    let start = at-if1 .before .before .before .before in
+    let block = ap (λ (b : Bool). field (bit b) (2 * (start .args .h .n - 3))) (at-if2 .if2 .taken) in
+    let first = length-set (start .args .out .now) 0 (at-map .map-byte .result) in
+    let room = at-if1 .before .size-of .ensures in
+    omega (arith, at-edges .put-edges .kept .0, at-put16 .put16 .kept .0, first, bends-count (start .pre), room, at-if1 .if1 .left, block)
 
 same-length : tie.Need-same-length
-same-length c = c .before .before .put-angles .kept .0 ∙ (c .before .before .before .before .before .before .before .before .put-edges .kept .0 ∙ (c .before .before .before .before .before .before .before .before .before .before .before .before .before .put16 .kept .0 ∙ length-set (c .before .before .before .before .before .before .before .before .before .before .before .before .before .before .before .before .before .before .before .before .args .out .now) 0 (c .before .before .before .before .before .before .before .before .before .before .before .before .before .before .before .map-byte .result)))
+same-length c =
+    let at-angles = c .before .before in
+    let at-edges = at-angles .before .before .before .before .before .before in
+    let at-put16 = at-edges .before .before .before .before .before in
+    let at-map = at-put16 .before .before in
+    let start = at-map .before .before .before .before .before in
+    at-angles .put-angles .kept .0 ∙ (at-edges .put-edges .kept .0 ∙ (at-put16 .put16 .kept .0 ∙ length-set (start .args .out .now) 0 (at-map .map-byte .result)))
 
 returns-2 : tie.Need-returns-2
 returns-2 c =
-    let start = c .before .before .before .before .before .before .before .before .before .before .before .before .before .before .before .before .before .before .before .before in
-    let size = c .before .before .before .before .before .before .before .before .before .before .before .before .before .before .before .before .before .size-of .ensures in
-    rw size (finished-bent (start .pre) (start .args .out .now) _ (c .before .before .before .before .before .if2 .taken) (omega (arith, size, c .before .before .before .before .before .before .before .before .before .before .before .before .before .before .before .before .if1 .left))
-    (c .before .before .put-angles .ensures ∙ rw (c .before .before .before .before .before .before .before .before .put-edges .ensures, c .before .before .before .before .before .before .before .before .before .before .before .before .before .put16 .ensures, c .before .before .before .before .before .before .before .before .before .before .before .before .before .before .before .map-byte .ensures)))
+    let at-angles = c .before .before in
+    let at-if2 = at-angles .before .before .before in
+    let at-edges = at-if2 .before .before .before in
+    let at-put16 = at-edges .before .before .before .before .before in
+    let at-map = at-put16 .before .before in
+    let at-if1 = at-map .before in
+    let start = at-if1 .before .before .before .before in
+    let size = at-if1 .before .size-of .ensures in
+    rw size (finished-bent (start .pre) (start .args .out .now) _ (at-if2 .if2 .taken) (omega (arith, size, at-if1 .if1 .left))
+    (at-angles .put-angles .ensures ∙ rw (at-edges .put-edges .ensures, at-put16 .put16 .ensures, at-map .map-byte .ensures)))
 
 same-length-2 : tie.Need-same-length-2
-same-length-2 c = c .before .before .before .put-edges .kept .0 ∙ (c .before .before .before .before .before .before .before .before .put16 .kept .0 ∙ length-set (c .before .before .before .before .before .before .before .before .before .before .before .before .before .before .before .args .out .now) 0 (c .before .before .before .before .before .before .before .before .before .before .map-byte .result))
+same-length-2 c =
+    let at-edges = c .before .before .before in
+    let at-put16 = at-edges .before .before .before .before .before in
+    let at-map = at-put16 .before .before in
+    at-edges .put-edges .kept .0 ∙ (at-put16 .put16 .kept .0 ∙ length-set (at-map .before .before .before .before .before .args .out .now) 0 (at-map .map-byte .result))
 
 returns-3 : tie.Need-returns-3
 returns-3 c =
-    let start = c .before .before .before .before .before .before .before .before .before .before .before .before .before .before .before in
-    let size = c .before .before .before .before .before .before .before .before .before .before .before .before .size-of .ensures in
-    rw size (finished-plain (start .pre) (start .args .out .now) _ (c .if2 .left) (omega (arith, size, c .before .before .before .before .before .before .before .before .before .before .before .if1 .left))
-    (c .before .before .before .put-edges .ensures ∙ rw (c .before .before .before .before .before .before .before .before .put16 .ensures, c .before .before .before .before .before .before .before .before .before .before .map-byte .ensures)))
+    let at-edges = c .before .before .before in
+    let at-put16 = at-edges .before .before .before .before .before in
+    let at-map = at-put16 .before .before in
+    let at-if1 = at-map .before in
+    let start = at-if1 .before .before .before .before in
+    let size = at-if1 .before .size-of .ensures in
+    rw size (finished-plain (start .pre) (start .args .out .now) _ (c .if2 .left) (omega (arith, size, at-if1 .if1 .left))
+    (at-edges .put-edges .ensures ∙ rw (at-put16 .put16 .ensures, at-map .map-byte .ensures)))
 
 pub write-sheet-spec : {M : Type 1} → statement M
-write-sheet-spec = tie.close (tie.spec (λ c. search needs) (λ c κs. search needs) returns (λ c κs. search needs) (λ c. search needs) put16-requires slice-aggregate-put-edges put-edges-requires (λ c. search needs) (λ c. search needs) slice-aggregate-put-angles put-angles-requires same-length returns-2 same-length-2 returns-3)
+write-sheet-spec = tie.close
+    (tie.spec (λ c. search needs) (λ c κs. search needs) returns (λ c κs. search needs) (λ c. search needs) put16-requires slice-aggregate-put-edges
+    put-edges-requires (λ c. search needs) (λ c. search needs) slice-aggregate-put-angles put-angles-requires same-length returns-2 same-length-2
+    returns-3)
