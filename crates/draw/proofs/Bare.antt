@@ -5,6 +5,7 @@ use Prim.Native.Nat.{ℕ}
 use Rattle.polygon.specs.Polygon.{Polygon, bare}
 use Rattle.sheet.specs.Sheet.{Reading, refused, held}
 use Rattle.sheet.specs.Held.{bared}
+use Rattle.chart.specs.Chart.{chartOf}
 use Rattle.chart.proofs.Theorems.{chart-bare}
 use Rattle.log_line.specs.Line.{line}
 use Rattle.draw.specs.Answer.{charted, chartedBoth}
@@ -33,6 +34,6 @@ printed-bare (refused k) = refl
 printed-bare (held p) = ap line (facts-bare p)
 
 pub output-bare : (q : Reading) (chart text : List ℕ) → outputOf (bared q) chart text ≡ outputOf q chart text
-unfolding outputOf savedOf bared
+unfolding outputOf savedOf charted printedOf bared chartOf
 output-bare (refused k) chart text = refl
-output-bare (held p) chart text = rw (chart-bare p, charted-bare (held p), printed-bare (held p))
+output-bare (held p) chart text = refl

@@ -123,7 +123,7 @@ pub flip-valid : (p : Polygon) (a b : ℕ) → Valid p → Takes (flip a b) p �
 flip-valid p a b A (h, m) =
     let e = lower-first (a, b) in
     let (f, X) = across (p .n) (p .ds) (A .triangulated) e m in
-    result-valid (p .n) (p .n) (p .ds) _ (p .angles) (A .least) (A .most) (rw (flipped-is (p .n) (p .ds) (A .triangulated) e f X) (flip-triangulated (p .n) (p .ds) (A .triangulated) e f X m)) (A .allowed)
+    result-valid (p .n) (p .n) _ _ (p .angles) (A .least) (A .most) (rw (flipped-is (p .n) (p .ds) (A .triangulated) e f X) (flip-triangulated (p .n) (p .ds) (A .triangulated) e f X m)) (A .allowed)
 
 -- a part with a diagonal has more than 3 corners
 pub over-three : (n : ℕ) {ds : List Edge} {e : Edge} → Triangulated n ds → Mem e ds → 3 < n

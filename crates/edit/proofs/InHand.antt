@@ -16,13 +16,13 @@ use Rattle.polygon.specs.Polygon.{Edge}
 use Rattle.polygon.specs.Order.{Distinct, insert, remove}
 use Rattle.polygon.specs.Carried.{carried}
 use Rattle.polygon.proofs.Order.{insert-length}
-use Rattle.keys.specs.Keys.{keyOf, edgeOf, edgesOf, pairOf, pairsOf, angleIn, anglesIn, flatBend}
+use Rattle.keys.specs.Keys.{keyOf, edgeOf, edgesOf, keyIn, keysIn, angleIn, anglesIn, flatBend}
 use Rattle.keys.specs.Sort.{insertKey}
-use Rattle.keys.specs.Change.{removePair}
+use Rattle.keys.specs.Change.{removeKey}
 use Rattle.keys.proofs.InOrder.{edge-of-key, insert-edges}
 use Rattle.keys.proofs.Insert.{all-insert}
 use Rattle.keys.proofs.Removal.{remove-edges, remove-sub}
-use Rattle.keys.proofs.Bends.{insert-pairs}
+use Rattle.keys.proofs.Bends.{insert-keys}
 use Rattle.keys.proofs.Beside.{edgesIn, ComesFrom, carry, mem-edge}
 use Rattle.sheet.specs.declared.Head.{Head}
 use Rattle.sheet.specs.declared.Read.the-variants.{Held}
@@ -67,14 +67,14 @@ keeps-angles false n h = refl
 
 -- a bend merged in is an edge put in, if it is a new one
 module _ (b : ℕ) (e : Edge) (bs : List ℕ) (key : b ≡ flatBend (keyOf e)) (small : e .1 < 1024) (new : ¬ Mem e (edgesIn bs)) where
-  pub new-edge : edgeOf (pairOf b) ≡ e
-  new-edge = let k : pairOf b ≡ keyOf e = omega arith in ap edgeOf k ∙ edge-of-key e small
+  pub new-edge : edgeOf (keyIn b) ≡ e
+  new-edge = let k : keyIn b ≡ keyOf e = omega arith in ap edgeOf k ∙ edge-of-key e small
 
-  other-pairs : All (λ c. ¬ (pairOf c ≡ pairOf b)) bs
-  other-pairs = all-of bs (λ c m q. new (rw (ap edgeOf q ∙ new-edge) at (mem-edge m)))
+  other-keys : All (λ c. ¬ (keyIn c ≡ keyIn b)) bs
+  other-keys = all-of bs (λ c m q. new (rw (ap edgeOf q ∙ new-edge) at (mem-edge m)))
 
   pub inserted : edgesIn (insertKey b bs) ≡ insert e (edgesIn bs)
-  inserted = ap edgesOf (insert-pairs b other-pairs) ∙ (insert-edges (pairOf b) (pairsOf bs) ∙ ap (λ (f : Edge). insert f (edgesIn bs)) new-edge)
+  inserted = ap edgesOf (insert-keys b other-keys) ∙ (insert-edges (keyIn b) (keysIn bs) ∙ ap (λ (f : Edge). insert f (edgesIn bs)) new-edge)
 
   -- it is new, and its angle is 0
   flat : angleIn b ≡ 0
@@ -92,7 +92,7 @@ pub record Without (h : Head) (bs : List ℕ) (e : Edge) (rest : List ℕ) : Typ
 
 -- it is taken out by its key
 pub taken-out : {h : Head} {bs : List ℕ} (P : BentInHand h bs) (e : Edge) → Mem e (edgesIn (take (h .n - 3) bs)) → {k : ℕ} → k ≡ keyOf e → {rest : List ℕ}
-    → rest ≡ removePair k (take (h .n - 3) bs) → Without h bs e rest
+    → rest ≡ removeKey k (take (h .n - 3) bs) → Without h bs e rest
 taken-out {h} {bs} P e m {k} K {rest} R =
     let T = P .valid .triangulated in
     let ds : List Edge = edgesIn (take (h .n - 3) bs) in
@@ -103,5 +103,5 @@ taken-out {h} {bs} P e m {k} K {rest} R =
       member = m;
       left = left;
       kept = rw R (remove-sub k (take (h .n - 3) bs));
-      size = omega (arith, T .full, again, insert-length e (remove e ds), ap length left, length-map (pairsOf rest) edgeOf, length-map rest pairOf);
+      size = omega (arith, T .full, again, insert-length e (remove e ds), ap length left, length-map (keysIn rest) edgeOf, length-map rest keyIn);
     }

@@ -14,7 +14,7 @@ use Rattle.polygon.specs.Order.{Distinct}
 use Rattle.polygon.proofs.Order.{remove-all}
 use Rattle.polygon.proofs.Sort.{distinct-of}
 use Rattle.keys.specs.Keys.{keyOf}
-use Rattle.keys.specs.Change.{removePair}
+use Rattle.keys.specs.Change.{removeKey}
 use Rattle.keys.proofs.Beside.{edgesIn}
 use Rattle.sheet.specs.declared.Head.{Head}
 use Rattle.sheet.specs.declared.Read.the-variants.{Held}
@@ -55,7 +55,7 @@ module _ {h : Head} {bs : List ℕ} (P : BentInHand h bs) (c : ℕ) where
   -- a corner that can be taken off
   module _ (t : Takes (removeEar c) (partOf h bs)) where
     pub ear-out : {a b k : ℕ} → a ≡ neighbours (h .n) c .0 → b ≡ neighbours (h .n) c .1 → k ≡ keyOf (a — b) → {rest : List ℕ}
-        → rest ≡ removePair k old → Without h bs (neighbours (h .n) c) rest
+        → rest ≡ removeKey k old → Without h bs (neighbours (h .n) c) rest
     ear-out {a} {b} A B K =
         let e : keyOf (a — b) ≡ keyOf (neighbours (h .n) c) = rw (A, B) in
         taken-out P (neighbours (h .n) c) (ear-diagonal (partOf h bs) c (P .valid) t) (K ∙ e)

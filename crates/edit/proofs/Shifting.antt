@@ -9,7 +9,7 @@ use lib.ListN.{length, take, set, getD, length-set, length-map, List·getD-map}
 use lib.Seq.{take-all}
 use Rattle.lists.specs.Lists.{all-cons, choose}
 use Rattle.lists.proofs.Places.{mapped-next}
-use Rattle.keys.specs.Keys.{keyOf, edgeOf, edgesOf, pairOf, pairsOf, angleIn, anglesIn}
+use Rattle.keys.specs.Keys.{keyOf, edgeOf, edgesOf, keyIn, keysIn, angleIn, anglesIn}
 use Rattle.keys.proofs.InOrder.{edge-of-key, edges-at}
 use Rattle.edit.specs.declared.shift.Shift.{Shift}
 use Rattle.edit.specs.declared.shift.Shift.the-variants.{Up, Down}
@@ -22,13 +22,13 @@ unfolding up
 up-one i = λ j x. choose (decLt i x) (add-one x j) x
 
 -- a bend with its corners renumbered: its edge, and its angle
-module _ (s : Shift) (b : ℕ) (low : moved s (edgeOf (pairOf b) .0) < 1024) (high : moved s (edgeOf (pairOf b) .1) < 1024) where
-  moved-pair : pairOf (movedBend s b) ≡ keyOf (both (moved s) (edgeOf (pairOf b)))
-  moved-pair = omega arith
+module _ (s : Shift) (b : ℕ) (low : moved s (edgeOf (keyIn b) .0) < 1024) (high : moved s (edgeOf (keyIn b) .1) < 1024) where
+  moved-key : keyIn (movedBend s b) ≡ keyOf (both (moved s) (edgeOf (keyIn b)))
+  moved-key = omega arith
 
-  moved-edge : edgeOf (pairOf (movedBend s b)) ≡ both (moved s) (edgeOf (pairOf b))
+  moved-edge : edgeOf (keyIn (movedBend s b)) ≡ both (moved s) (edgeOf (keyIn b))
   unfolding both
-  moved-edge = ap edgeOf moved-pair ∙ edge-of-key (both (moved s) (edgeOf (pairOf b))) high
+  moved-edge = ap edgeOf moved-key ∙ edge-of-key (both (moved s) (edgeOf (keyIn b))) high
 
 moved-angle : (s : Shift) (b : ℕ) → angleIn (movedBend s b) ≡ angleIn b
 moved-angle s b = let e : movedBend s b % 4096 ≡ b % 4096 = omega arith in ap (λ (c : ℕ). (c + 63736) % 65536) e
@@ -47,7 +47,7 @@ moved-low (Down at by) x (h, f) = go (decLt at x)
     go (yes l) = omega arith
     go (no l) = h
 
-pub moved-edges : (s : Shift) (bs : List ℕ) → AllMovable s bs → edgesOf (pairsOf (map (movedBend s) bs)) ≡ map (both (moved s)) (edgesOf (pairsOf bs))
+pub moved-edges : (s : Shift) (bs : List ℕ) → AllMovable s bs → edgesOf (keysIn (map (movedBend s) bs)) ≡ map (both (moved s)) (edgesOf (keysIn bs))
 moved-edges s [] a = refl
 moved-edges s (b ∷ bs) (all-cons (h, k) a) = ap₂ _∷_ (moved-edge s b (moved-low s _ h) (moved-low s _ k)) (moved-edges s bs a)
 
@@ -56,9 +56,9 @@ moved-angles s [] = refl
 moved-angles s (b ∷ bs) = ap₂ _∷_ (moved-angle s b) (moved-angles s bs)
 
 -- the corners of the bend at j
-pub movable-at : (s : Shift) (bs : List ℕ) → AllMovable s bs → (j : ℕ) → j < length bs → Movable s (pairOf (getD bs j 0) / 1024) × Movable s (pairOf (getD bs j 0) % 1024)
+pub movable-at : (s : Shift) (bs : List ℕ) → AllMovable s bs → (j : ℕ) → j < length bs → Movable s (keyIn (getD bs j 0) / 1024) × Movable s (keyIn (getD bs j 0) % 1024)
 movable-at s bs a j h =
-    rw (List·getD-map pairOf bs j 0) at (edges-at {Q = λ e. Movable s (e .0) × Movable s (e .1)} (pairsOf bs) a j (omega (arith, length-map bs pairOf)))
+    rw (List·getD-map keyIn bs j 0) at (edges-at {Q = λ e. Movable s (e .0) × Movable s (e .1)} (keysIn bs) a j (omega (arith, length-map bs keyIn)))
 
 -- what the loop keeps: the bends before j are renumbered
 pub record Mapping (s : Shift) (bends : List ℕ) (size : ℕ) (out : List ℕ) (j : ℕ) : Type 0 where

@@ -13,9 +13,9 @@ use Rattle.polygon.specs.Polygon.{Edge, _—_}
 use Rattle.polygon.specs.Order.{insert, remove, lower-first}
 use Rattle.polygon.proofs.Order.{remove-all}
 use Rattle.polygon.proofs.Sort.{distinct-of}
-use Rattle.keys.specs.Keys.{keyOf, edgeOf, pairsOf, flatBend}
+use Rattle.keys.specs.Keys.{keyOf, edgeOf, keysIn, flatBend}
 use Rattle.keys.specs.Sort.{insertKey, merge}
-use Rattle.keys.specs.Change.{removePair}
+use Rattle.keys.specs.Change.{removeKey}
 use Rattle.keys.proofs.InOrder.{edge-of-key}
 use Rattle.keys.proofs.Insert.{merge-one}
 use Rattle.keys.proofs.Removal.{edges-mem, mem-edges}
@@ -92,12 +92,12 @@ module _ {h : Head} {bs : List ℕ} (P : BentInHand h bs) (a b : ℕ) where
     edge-k : edgeOf k ≡ a — b
     edge-k = ap edgeOf K ∙ edge-of-key (a — b) (omega (arith, P .valid .most))
 
-    pub turn-lacks : ¬ Mem k (pairsOf old) → rule (flip a b) (partOf h bs) ≡ refused 13
+    pub turn-lacks : ¬ Mem k (keysIn old) → rule (flip a b) (partOf h bs) ≡ refused 13
     unfolding rule
-    turn-lacks f = ask-yes 9 _ _ (omega arith, inside) ∙ ask-no 13 _ _ (λ m. f (edges-mem k (pairsOf old) (rw (edge-k, ← lower-first-same (a — b) up) m)))
+    turn-lacks f = ask-yes 9 _ _ (omega arith, inside) ∙ ask-no 13 _ _ (λ m. f (edges-mem k (keysIn old) (rw (edge-k, ← lower-first-same (a — b) up) m)))
 
-    pub turn-out : Mem k (pairsOf old) → {rest : List ℕ} → rest ≡ removePair k old → Without h bs (a — b) rest
-    turn-out M = taken-out P (a — b) (rw edge-k at (mem-edges k (pairsOf old) M)) K
+    pub turn-out : Mem k (keysIn old) → {rest : List ℕ} → rest ≡ removeKey k old → Without h bs (a — b) rest
+    turn-out M = taken-out P (a — b) (rw edge-k at (mem-edges k (keysIn old) M)) K
 
   pub flipped-over : a ≤ b → b < h .n → {rest : List ℕ} → Without h bs (a — b) rest → {other turned : ℕ}
       → ((x y : ℕ) → common (h .n) (edgesIn old) (a — b) ≡ x ∷ (y ∷ []) → other ≡ keyOf (x — y)) → turned ≡ flatBend other

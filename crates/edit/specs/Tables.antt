@@ -7,7 +7,7 @@ use native.Mathlib.Decide.{decLt}
 use lib.ListN.{getD}
 use Rattle.lists.specs.Lists.{All, choose}
 use Rattle.polygon.specs.Polygon.{Edge, Joined}
-use Rattle.keys.specs.Keys.{keyOf, edgeOf, edgesOf, pairOf, pairsOf}
+use Rattle.keys.specs.Keys.{keyOf, edgeOf, edgesOf, keyIn, keysIn}
 use Rattle.edit.specs.declared.held.Edit as code
 use Rattle.edit.specs.declared.held.Edit.the-variants.{AddEar, RemoveEar, Flip}
 use Rattle.edit.specs.declared.shift.Shift.{Shift}
@@ -31,11 +31,11 @@ Movable (Down at by) x = (x < 1024) × (at < x → by ≤ x)
 
 -- the corners of the bends can be renumbered
 abbrev pub AllMovable : Shift → List ℕ → Type 0
-AllMovable s bs = All (λ e. Movable s (e .0) × Movable s (e .1)) (edgesOf (pairsOf bs))
+AllMovable s bs = All (λ e. Movable s (e .0) × Movable s (e .1)) (edgesOf (keysIn bs))
 
 -- a bend with its corners renumbered, and its angle
 abbrev pub movedBend : Shift → ℕ → ℕ
-movedBend s b = keyOf (both (moved s) (edgeOf (pairOf b))) * 4096 + b % 4096
+movedBend s b = keyOf (both (moved s) (edgeOf (keyIn b))) * 4096 + b % 4096
 
 -- r is the other end of an edge with an end at c, or 1,024 if neither end is c
 abbrev pub OtherEnd : Edge → ℕ → ℕ → Type 0

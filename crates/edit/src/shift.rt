@@ -5,8 +5,8 @@ ghost use Prim.Native.Nat.{_<_, _≤_};
 ghost use lib.ListN.{length, take};
 ghost use Rattle.edit.specs.Tables.{moved, movedBend, Movable, AllMovable};
 use keys::bend::bend;
-use keys::bend::code;
-use keys::bend::pair;
+use keys::bend::code_in;
+use keys::bend::key_in;
 use keys::high;
 use keys::key;
 use keys::low;
@@ -35,10 +35,10 @@ pub fn renumber(bends: &[u32], shift: Shift, out: &mut [u32])
 {
     let mut j: usize = 0;
     while j < bends.len() {
-        let k = pair(bends[j]);
+        let k = key_in(bends[j]);
         let a = moved(shift, low(k));
         let b = moved(shift, high(k));
-        out[j] = bend(key(a, b), code(bends[j]));
+        out[j] = bend(key(a, b), code_in(bends[j]));
         j += 1;
     }
 }

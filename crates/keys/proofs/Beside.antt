@@ -11,7 +11,7 @@ use Rattle.polygon.specs.Polygon.{Edge}
 use Rattle.polygon.specs.Order.{Distinct}
 use Rattle.polygon.specs.Carried.{angleOf}
 use Rattle.polygon.proofs.Angles.{angle-here, angle-there, angle-unlisted}
-use Rattle.keys.specs.Keys.{edgeOf, edgesOf, pairOf, pairsOf, angleIn, anglesIn, codeOf}
+use Rattle.keys.specs.Keys.{edgeOf, edgesOf, keyIn, keysIn, angleIn, anglesIn, codeOf}
 
 -- the bits of an angle in range, and of one that is not
 pub code-in : (a : Angle) → InRange a → codeOf a ≡ (a + 1800) % 65536
@@ -40,13 +40,13 @@ code-back a b (inr h) e = omega (arith, code-in a (inr h))
 
 -- the diagonals of bends
 abbrev pub edgesIn : List ℕ → List Edge
-edgesIn bs = edgesOf (pairsOf bs)
+edgesIn bs = edgesOf (keysIn bs)
 
 abbrev pub edgeIn : ℕ → Edge
-edgeIn b = edgeOf (pairOf b)
+edgeIn b = edgeOf (keyIn b)
 
 pub mem-edge : {b : ℕ} {bs : List ℕ} → Mem b bs → Mem (edgeIn b) (edgesIn bs)
-mem-edge m = mem-map edgeOf (mem-map pairOf m)
+mem-edge m = mem-map edgeOf (mem-map keyIn m)
 
 -- among bends of different diagonals each has its own angle
 angle-own : {bs : List ℕ} (b : ℕ) → Distinct (edgesIn bs) → Mem b bs → angleOf (edgesIn bs) (anglesIn bs) (edgeIn b) ≡ angleIn b

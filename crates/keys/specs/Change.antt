@@ -3,7 +3,7 @@ use mathlib.Core.List.{List}
 use Prim.Native.Nat.{ℕ}
 use native.Mathlib.Decide.{ℕ-discrete}
 use Rattle.lists.specs.Lists.{keep, not?}
-use Rattle.keys.specs.Keys.{pairOf}
+use Rattle.keys.specs.Keys.{keyIn}
 
-unfoldable pub removePair : ℕ → List ℕ → List ℕ
-removePair k bs = keep (λ b. not? (ℕ-discrete (pairOf b) k)) bs
+unfoldable pub removeKey : ℕ → List ℕ → List ℕ
+removeKey k bs = keep (λ b. not? (ℕ-discrete (keyIn b) k)) bs

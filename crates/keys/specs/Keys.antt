@@ -15,15 +15,15 @@ abbrev pub edgesOf : List ℕ → List Edge
 edgesOf ks = map edgeOf ks
 
 -- A bend, a diagonal with its angle beside it, is one number too: twenty bits for the key, and twelve for the angle plus 1,800. So bends ascend as their diagonals do.
-abbrev pub pairOf : ℕ → ℕ
-pairOf b = b / 4096
+abbrev pub keyIn : ℕ → ℕ
+keyIn b = b / 4096
+
+abbrev pub keysIn : List ℕ → List ℕ
+keysIn bs = map keyIn bs
 
 -- the bend of a key with the angle 0
 abbrev pub flatBend : ℕ → ℕ
 flatBend k = k * 4096 + 1800
-
-abbrev pub pairsOf : List ℕ → List ℕ
-pairsOf bs = map pairOf bs
 
 -- its angle, in two's complement
 abbrev pub angleIn : ℕ → Angle

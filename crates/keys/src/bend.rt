@@ -2,7 +2,7 @@
 ghost use mathlib.Core.Path.{_≡_};
 ghost use Prim.Native.Nat.{_+_, _*_, _<_, _%_};
 ghost use lib.ListN.{length};
-ghost use Rattle.keys.specs.Keys.{pairOf, pairsOf, angleIn, codeOf};
+ghost use Rattle.keys.specs.Keys.{keyIn, keysIn, angleIn, codeOf};
 
 // The twelve bits of the angle 0.
 pub const FLAT: u32 = 1800;
@@ -16,28 +16,28 @@ pub fn bend(k: u32, code: u32) -> u32
 }
 
 // The key of a bend.
-pub fn pair(b: u32) -> u32
-    ensures { λ r. ⌜ (r ≡ pairOf b) × (r < 1048576) ⌝ }
+pub fn key_in(b: u32) -> u32
+    ensures { λ r. ⌜ (r ≡ keyIn b) × (r < 1048576) ⌝ }
 {
     b / 4096
 }
 
 // The twelve bits of a bend's angle.
-pub fn code(b: u32) -> u32
+pub fn code_in(b: u32) -> u32
     ensures { λ r. ⌜ (r ≡ b % 4096) × (r < 4096) ⌝ }
 {
     b % 4096
 }
 
 // The angle of a bend, in two's complement.
-pub fn angle(b: u32) -> usize
+pub fn angle_in(b: u32) -> usize
     ensures { λ r. ⌜ (r ≡ angleIn b) × (r < 65536) ⌝ }
 {
     ((b % 4096 + 63736) % 65536) as usize
 }
 
 // The twelve bits of an angle in two's complement; 4,095 if it is out of range.
-pub fn encoded(a: usize) -> u32
+pub fn code_of(a: usize) -> u32
     requires { ⌜ a < 65536 ⌝ }
     ensures { λ r. ⌜ (r ≡ codeOf a) × (r < 4096) ⌝ }
 {
@@ -49,13 +49,13 @@ pub fn encoded(a: usize) -> u32
 }
 
 // The keys of the bends.
-pub fn pairs(bends: &[u32], keys: &mut [u32])
+pub fn keys_in(bends: &[u32], keys: &mut [u32])
     requires { ⌜ length (now keys) ≡ length (now bends) ⌝ }
-    ensures { λ _. ⌜ now (keys .exit) ≡ pairsOf (now (bends .entry)) ⌝ }
+    ensures { λ _. ⌜ now (keys .exit) ≡ keysIn (now (bends .entry)) ⌝ }
 {
     let mut j = 0;
     while j < bends.len() {
-        keys[j] = pair(bends[j]);
+        keys[j] = key_in(bends[j]);
         j += 1;
     }
 }

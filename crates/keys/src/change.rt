@@ -4,19 +4,19 @@ ghost use mathlib.Core.Bool.{true, false};
 ghost use Prim.Native.Nat.{_≤_};
 ghost use lib.ListN.{length, take};
 ghost use Rattle.lists.specs.Lists.{Mem};
-ghost use Rattle.keys.specs.Change.{removePair};
-use crate::bend::pair;
+ghost use Rattle.keys.specs.Change.{removeKey};
+use crate::bend::key_in;
 
 // Puts the bends with another key than k at the front of `out`, and says how many they are.
 pub fn remove(bends: &[u32], k: u32, out: &mut [u32]) -> usize
     requires { ⌜ length (now bends) ≤ length (now out) ⌝ }
-    ensures { λ r. ⌜ (take r (now (out .exit)) ≡ removePair k (now (bends .entry))) × (r ≡ length (removePair k (now (bends .entry)))) ⌝ }
+    ensures { λ r. ⌜ (take r (now (out .exit)) ≡ removeKey k (now (bends .entry))) × (r ≡ length (removeKey k (now (bends .entry)))) ⌝ }
 {
     let mut left: usize = 0;
     let mut j: usize = 0;
     while j < bends.len() {
         let y = bends[j];
-        if pair(y) != k {
+        if key_in(y) != k {
             out[left] = y;
             left += 1;
         }

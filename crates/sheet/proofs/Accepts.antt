@@ -15,7 +15,7 @@ use Rattle.polygon.proofs.Angles.{carried-via, carried-self, carried-allowed, a
 use Rattle.polygon.proofs.Sort.{sort-sub, sort-mem, sort-is, distinct-of}
 use Rattle.polygon.proofs.Reading.{same-set}
 use Rattle.codec.specs.Numbers.{get16}
-use Rattle.sheet.specs.Sheet.{held, bit1, bit3, more, standing, listedAngles, angled, readSheet, normalSheet}
+use Rattle.sheet.specs.Sheet.{held, bit1, bit3, more, anglesIf, listedAngles, angled, readSheet, normalSheet}
 use Rattle.sheet.specs.Listing.{pairsOf, Lists}
 use Rattle.sheet.specs.Framed.{Framed}
 use Rattle.sheet.proofs.Asks.{edgesIn, anglesOf, partIn, Form, form-held, held-form}
@@ -96,13 +96,13 @@ unfolding carried
 angled-carried es ds none = refl
 angled-carried es ds (each vs) = refl
 
-angled-standing : (b : ℕ) (vs : List Angle) → b < 2 → angled (standing b vs) ≡ b
-angled-standing zero vs h = refl
-angled-standing (suc zero) vs h = refl
-angled-standing (suc (suc b)) vs h = absurd (omega arith)
+angled-if : (b : ℕ) (vs : List Angle) → b < 2 → angled (anglesIf b vs) ≡ b
+angled-if zero vs h = refl
+angled-if (suc zero) vs h = refl
+angled-if (suc (suc b)) vs h = absurd (omega arith)
 
 pub read-bit : (s : List ℕ) (p : Polygon) → readSheet s ≡ held p → bit3 (getD s 0 0) ≡ angled (p .angles)
-read-bit s p e = sym (ap angled (read-angles s p e) ∙ (angled-carried (pairsOf s (p .n)) (p .ds) (listedAngles s (p .n)) ∙ angled-standing (bit3 (getD s 0 0)) _ (omega arith)))
+read-bit s p e = sym (ap angled (read-angles s p e) ∙ (angled-carried (pairsOf s (p .n)) (p .ds) (listedAngles s (p .n)) ∙ angled-if (bit3 (getD s 0 0)) _ (omega arith)))
 
 -- A sheet is accepted exactly if, in the published form, it lists the diagonals of a valid part, in any order, either corner first, each with its angle if the part has angles.
 pub accepts : (s : List ℕ) (p : Polygon) → (readSheet s ≡ held p) ↔ (Valid p × Lists s p)

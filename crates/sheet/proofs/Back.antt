@@ -11,7 +11,7 @@ use Rattle.polygon.specs.Polygon.{Polygon, Valid}
 use Rattle.polygon.proofs.Angles.{carried-self, allowed-each}
 use Rattle.polygon.proofs.Sort.{distinct-of}
 use Rattle.codec.specs.Numbers.{bytes16, get16}
-use Rattle.sheet.specs.Sheet.{held, bit3, field, anglesAt, standing, angles, listedAngles, pairBytes, angleBytes, angled, mapByte, readSheet, normalSheet}
+use Rattle.sheet.specs.Sheet.{held, bit3, field, anglesAt, anglesIf, angles, listedAngles, pairBytes, angleBytes, angled, mapByte, readSheet, normalSheet}
 use Rattle.sheet.specs.Listing.{pairsOf, Lists}
 use Rattle.sheet.proofs.Fields.{more-stands, length-is, angles-at}
 use Rattle.codec.proofs.Numbers.{get16-back}
@@ -19,11 +19,11 @@ use Rattle.sheet.proofs.Normal.{pairs-back, pairs-length, angles-back, 
 use Rattle.sheet.proofs.Accepts.{lists-held}
 
 -- the block of angles behind the pairs
-block : (n : ℕ) (front : List ℕ) (k : ℕ) (xs : Angles) → k + 3 ≡ n → Allowed n xs → standing (angled xs) (angles (front ++ angleBytes xs) (length front) k) ≡ xs
+block : (n : ℕ) (front : List ℕ) (k : ℕ) (xs : Angles) → k + 3 ≡ n → Allowed n xs → anglesIf (angled xs) (angles (front ++ angleBytes xs) (length front) k) ≡ xs
 block n front k none e A = refl
 block n front k (each vs) e A = let c : k ≡ length vs = omega arith in ap each (rw c (angles-back front vs))
 
-block-back : (p : Polygon) → Valid p → standing (angled (p .angles)) (angles (normalSheet p) (3 + 4 * length (p .ds)) (length (p .ds))) ≡ p .angles
+block-back : (p : Polygon) → Valid p → anglesIf (angled (p .angles)) (angles (normalSheet p) (3 + 4 * length (p .ds)) (length (p .ds))) ≡ p .angles
 unfolding normalSheet
 block-back p v =
     let front : List ℕ = mapByte (p .n) (p .angles) ∷ (bytes16 (p .n) ++ pairBytes (p .ds)) in

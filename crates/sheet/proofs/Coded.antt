@@ -12,10 +12,10 @@ use Rattle.polygon.specs.Angles.{Angle, Angles, none, each, InRange, Allowed}
 use Rattle.polygon.specs.Polygon.{Edge}
 use Rattle.polygon.specs.Order.{Distinct}
 use Rattle.polygon.specs.Carried.{carried}
-use Rattle.keys.specs.Keys.{edgesOf, pairsOf, anglesIn, codeOf}
+use Rattle.keys.specs.Keys.{edgesOf, keysIn, anglesIn, codeOf}
 use Rattle.keys.proofs.Beside.{code-low, low-code, code-back, carry}
-use Rattle.sheet.specs.Sheet.{standing}
-use Rattle.sheet.specs.Held.{bit, anglesBy, Fits, CodesBy}
+use Rattle.sheet.specs.Sheet.{anglesIf}
+use Rattle.sheet.specs.Held.{bit, anglesBy, CodeFits, CodesBy}
 
 -- the twelve lowest bits of bends
 abbrev pub codesIn : List ℕ → List ℕ
@@ -26,7 +26,7 @@ abbrev pub standBy : Bool → List Angle → Angles
 standBy true vs = each vs
 standBy false vs = none
 
-pub stands-by : (b : Bool) (x : ℕ) (vs : List Angle) → bit b ≡ x → standing x vs ≡ standBy b vs
+pub stands-by : (b : Bool) (x : ℕ) (vs : List Angle) → bit b ≡ x → anglesIf x vs ≡ standBy b vs
 stands-by true x vs e = rw (← e)
 stands-by false x vs e = rw (← e)
 
@@ -44,11 +44,11 @@ coded [] (v ∷ vs) e = absurd (omega (arith, ap length e))
 coded (b ∷ bs) [] e = absurd (omega (arith, ap length e))
 coded (b ∷ bs) (v ∷ vs) e = let (x, xs) = both-of e in coded-cons {b = b} {v = v} x (coded bs vs xs)
 
-fits-range : {bs : List ℕ} {vs : List Angle} → Coded bs vs → All Fits bs → All InRange vs
+fits-range : {bs : List ℕ} {vs : List Angle} → Coded bs vs → All CodeFits bs → All InRange vs
 fits-range coded-nil a = all-nil
 fits-range (coded-cons {v = v} e c) (all-cons h a) = all-cons (low-code v (omega arith)) (fits-range c a)
 
-range-fits : {bs : List ℕ} {vs : List Angle} → Coded bs vs → All InRange vs → All Fits bs
+range-fits : {bs : List ℕ} {vs : List Angle} → Coded bs vs → All InRange vs → All CodeFits bs
 range-fits coded-nil a = all-nil
 range-fits (coded-cons {b = b} {v = v} e c) (all-cons h a) = all-cons {x = b} (omega (arith, code-low v h)) (range-fits c a)
 
@@ -65,8 +65,8 @@ allowed-codes true n bs vs e c a = (a .0, c, fits-range (coded bs vs (e refl)) (
 allowed-codes false n bs vs e c a = tt
 
 -- of bends of the different diagonals es, some in another order
-pub angles-moved : (b : Bool) (n : ℕ) (bs : List ℕ) (vs : List Angle) → (b ≡ true → codesIn bs ≡ map codeOf vs) → {es : List Edge} → edgesOf (pairsOf bs) ≡ es → {o : List ℕ} → Sub o bs → Distinct es
-    → CodesBy b n bs → anglesBy b o ≡ carried es (standBy b vs) (edgesOf (pairsOf o))
+pub angles-moved : (b : Bool) (n : ℕ) (bs : List ℕ) (vs : List Angle) → (b ≡ true → codesIn bs ≡ map codeOf vs) → {es : List Edge} → edgesOf (keysIn bs) ≡ es → {o : List ℕ} → Sub o bs → Distinct es
+    → CodesBy b n bs → anglesBy b o ≡ carried es (standBy b vs) (edgesOf (keysIn o))
 unfolding carried
 angles-moved true n bs vs e {es} q {o} k d a =
     let C = coded bs vs (e refl) in

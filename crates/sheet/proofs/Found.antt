@@ -14,7 +14,7 @@ use Rattle.polygon.specs.Order.{Distinct, sort}
 use Rattle.polygon.specs.Carried.{carried}
 use Rattle.polygon.proofs.Sort.{sort-all, sort-sub, sort-mem, sort-ascends}
 use Rattle.codec.specs.Numbers.{get16}
-use Rattle.keys.specs.Keys.{edgesOf, pairOf, pairsOf, codeOf}
+use Rattle.keys.specs.Keys.{edgesOf, keyIn, keysIn, codeOf}
 use Rattle.keys.specs.Sort.{ascends, sortKeys, FewBits}
 use Rattle.keys.specs.Tops.{Diagonals}
 use Rattle.keys.proofs.Insert.{length-sort}
@@ -79,29 +79,29 @@ module _ {s : List ℕ} {h : Head} {bs : List ℕ} (H : HeadOf s h) (L : BendsRe
   abbrev vs : List Angle
   vs = angles s (anglesAt (getD s 0 0) (h .n)) (h .n - 3)
 
-  standing-is : listedAngles s (h .n) ≡ standBy (h .angled) vs
-  standing-is = stands-by (h .angled) _ vs (H .with-angles)
+  listed-is : listedAngles s (h .n) ≡ standBy (h .angled) vs
+  listed-is = stands-by (h .angled) _ vs (H .with-angles)
 
   codes : h .angled ≡ true → codesIn (take (h .n - 3) bs) ≡ map codeOf vs
   codes a = rw (at-end H a) at (L .codes a)
 
   angles-fit : Allowed (h .n) (listedAngles s (h .n)) → CodesAllowed h (take (h .n - 3) bs)
-  angles-fit a = codes-allowed (h .angled) (h .n) _ vs codes (rw standing-is at a)
+  angles-fit a = codes-allowed (h .angled) (h .n) _ vs codes (rw listed-is at a)
 
   fit-angles : CodesAllowed h (take (h .n - 3) bs) → Allowed (h .n) (listedAngles s (h .n))
-  fit-angles c = rw standing-is (allowed-codes (h .angled) (h .n) _ vs codes (omega (arith, angles-count s (anglesAt (getD s 0 0) (h .n)) (h .n - 3), room H)) c)
+  fit-angles c = rw listed-is (allowed-codes (h .angled) (h .n) _ vs codes (omega (arith, angles-count s (anglesAt (getD s 0 0) (h .n)) (h .n - 3), room H)) c)
 
   moved : {o : List ℕ} → Sub o (take (h .n - 3) bs) → Distinct (pairs s 3 (h .n - 3)) → CodesAllowed h (take (h .n - 3) bs)
-      → anglesBy (h .angled) o ≡ carried (pairs s 3 (h .n - 3)) (listedAngles s (h .n)) (edgesOf (pairsOf o))
-  moved k d c = rw standing-is (angles-moved (h .angled) (h .n) _ vs codes (L .edges) k d c)
+      → anglesBy (h .angled) o ≡ carried (pairs s 3 (h .n - 3)) (listedAngles s (h .n)) (edgesOf (keysIn o))
+  moved k d c = rw listed-is (angles-moved (h .angled) (h .n) _ vs codes (L .edges) k d c)
 
 -- the bends bs that were read of a sheet's pairs; o, the same in order, and k, their keys
 pub record Ordered (s : List ℕ) (h : Head) (bs o k : List ℕ) : Type 0 where
   pub head : HeadOf s h
   pub listed : BendsRead s (h .n) (h .angled) bs
   pub long : 1021 ≤ length bs
-  pub order : k ≡ sortKeys (pairsOf (take (h .n - 3) bs))
-  pub pairs : pairsOf o ≡ k
+  pub order : k ≡ sortKeys (keysIn (take (h .n - 3) bs))
+  pub keys : keysIn o ≡ k
   pub kept : Sub o (take (h .n - 3) bs)
 
 module _ {s : List ℕ} {h : Head} {bs o k : List ℕ} (F : Ordered s h bs o k) where
@@ -112,13 +112,13 @@ module _ {s : List ℕ} {h : Head} {bs o k : List ℕ} (F : Ordered s h bs o k) 
   table = o ++ drop (h .n - 3) bs
 
   sorted : edgesOf k ≡ sort es
-  sorted = ap edgesOf (F .order) ∙ (sort-edges (pairsOf (take (h .n - 3) bs)) ∙ ap sort (F .listed .edges))
+  sorted = ap edgesOf (F .order) ∙ (sort-edges (keysIn (take (h .n - 3) bs)) ∙ ap sort (F .listed .edges))
 
   pub keys-count : length k ≡ h .n - 3
-  keys-count = ap length (F .order) ∙ (length-sort (pairsOf (take (h .n - 3) bs)) ∙ (length-map (take (h .n - 3) bs) pairOf ∙ length-take-le (h .n - 3) bs (omega (arith, F .long, room (F .head)))))
+  keys-count = ap length (F .order) ∙ (length-sort (keysIn (take (h .n - 3) bs)) ∙ (length-map (take (h .n - 3) bs) keyIn ∙ length-take-le (h .n - 3) bs (omega (arith, F .long, room (F .head)))))
 
   pub bends-count : length o ≡ h .n - 3
-  bends-count = sym (length-map o pairOf) ∙ (ap length (F .pairs) ∙ keys-count)
+  bends-count = sym (length-map o keyIn) ∙ (ap length (F .keys) ∙ keys-count)
 
   pub table-long : 1021 ≤ length table
   table-long = simp (length-append, length-drop) (omega (arith, bends-count, F .long, room (F .head)))
@@ -148,7 +148,7 @@ module _ {s : List ℕ} {h : Head} {bs o k : List ℕ} (F : Ordered s h bs o k) 
     keys-long l = simp (length-append, length-drop) (omega (arith, keys-count, room (F .head)))
 
     pub keys-said : 1021 ≤ length ks → KeysOf h table keys
-    keys-said l = record { same = first-key ∙ (sym (F .pairs) ∙ ap pairsOf (sym first)); room = keys-long l }
+    keys-said l = record { same = first-key ∙ (sym (F .keys) ∙ ap keysIn (sym first)); room = keys-long l }
 
     module _ (B : true ≡ ascends k) where
       ascending : Ascending (edgesOf k)
@@ -177,7 +177,7 @@ module _ {s : List ℕ} {h : Head} {bs o k : List ℕ} (F : Ordered s h bs o k) 
           same : partIn s ≡ partOf h table
           same =
               let d : Distinct es = rw (F .head .corners) distinct in
-              let e : edgesOf (pairsOf o) ≡ sort es = ap edgesOf (F .pairs) ∙ sorted in
+              let e : edgesOf (keysIn o) ≡ sort es = ap edgesOf (F .keys) ∙ sorted in
               let a : anglesBy (h .angled) o ≡ carried es (listedAngles s (h .n)) (sort es) = rw e at (moved (F .head) (F .listed) (F .kept) d C) in
               rw (← F .head .corners, first, e, a)
 

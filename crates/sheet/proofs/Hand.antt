@@ -9,7 +9,7 @@ use lib.Seq.{length-take-le}
 use Rattle.polygon.specs.Angles.{none}
 use Rattle.polygon.specs.Polygon.{bare}
 use Rattle.polygon.proofs.Reading.{bare-valid}
-use Rattle.keys.specs.Keys.{edgesOf, pairsOf, flatBend}
+use Rattle.keys.specs.Keys.{edgesOf, keysIn, flatBend}
 use Rattle.keys.proofs.InOrder.{edges-at}
 use Rattle.sheet.specs.declared.Head.{Head}
 use Rattle.sheet.specs.declared.Read.{Read}
@@ -91,15 +91,15 @@ module _ {h : Head} {bs : List ℕ} (P : BentInHand h bs) where
   bends-count = length-take-le (h .n - 3) bs bends-lie
 
 -- the keys of flat bends
-flat-pairs : (ks : List ℕ) → pairsOf (map flatBend ks) ≡ ks
-flat-pairs [] = refl
-flat-pairs (k ∷ ks) = ap₂ _∷_ (omega arith) (flat-pairs ks)
+flat-keys : (ks : List ℕ) → keysIn (map flatBend ks) ≡ ks
+flat-keys [] = refl
+flat-keys (k ∷ ks) = ap₂ _∷_ (omega arith) (flat-keys ks)
 
 -- a part without angles, by bends whose angles are not looked at
 module _ {h : Head} {ks : List ℕ} (bs : List ℕ) (P : InHand h ks) (plain : h .angled ≡ false) (flat : take (h .n - 3) bs ≡ map flatBend (take (h .n - 3) ks)) where
   pub flat-same : partOf h bs ≡ polygonOf h ks
   flat-same =
-      let e = ap pairsOf flat ∙ flat-pairs (take (h .n - 3) ks) in
+      let e = ap keysIn flat ∙ flat-keys (take (h .n - 3) ks) in
       let none-by : anglesBy (h .angled) (take (h .n - 3) bs) ≡ none = ap (λ (b : Bool). anglesBy b (take (h .n - 3) bs)) plain in
       λ i. record { n = h .n; ds = edgesOf (e i); angles = none-by i }
 

@@ -13,7 +13,7 @@ use Rattle.lists.proofs.Lists.{all-append, here}
 use Rattle.polygon.specs.Polygon.{Edge, _—_, Diagonal}
 use Rattle.polygon.specs.Order.{lower-first}
 use Rattle.codec.specs.Numbers.{get16}
-use Rattle.keys.specs.Keys.{keyOf, edgeOf, edgesOf, pairOf, pairsOf, codeOf}
+use Rattle.keys.specs.Keys.{keyOf, edgeOf, edgesOf, keyIn, keysIn, codeOf}
 use Rattle.keys.proofs.InOrder.{edge-of-key}
 use Rattle.sheet.specs.Sheet.{pairs, angles}
 use Rattle.sheet.specs.Held.{pairAt}
@@ -52,7 +52,7 @@ pub record Listed (s : List ℕ) (n : ℕ) (angled : Bool) (at : ℕ) (room : �
   pub upto : i ≤ n - 3
   pub size : length bends ≡ room
   pub diagonals : All (Diagonal n) (pairs s 3 i)
-  pub edges : edgesOf (pairsOf (take i bends)) ≡ pairs s 3 i
+  pub edges : edgesOf (keysIn (take i bends)) ≡ pairs s 3 i
   pub codes : angled ≡ true → codesIn (take i bends) ≡ map codeOf (angles s at i)
 
 pub listed-none : (s : List ℕ) (n : ℕ) (angled : Bool) (at : ℕ) (bends : List ℕ) → Listed s n angled at (length bends) bends 0
@@ -64,14 +64,14 @@ pub listed-next : (s : List ℕ) (n : ℕ) (angled : Bool) (at room : ℕ) (bend
     → Diagonal n (pairAt s (3 + 4 * i)) → k ≡ keyOf (pairAt s (3 + 4 * i)) → c < 4096 → (angled ≡ true → c ≡ codeOf (get16 s (at + 2 * i))) → b ≡ k * 4096 + c
     → Listed s n angled at room (set bends i b) (i + 1)
 listed-next s n angled at room bends i k c b small more fits L d e low f g =
-    let key : pairOf b ≡ k = omega arith in
+    let key : keyIn b ≡ k = omega arith in
     let bits : b % 4096 ≡ c = omega arith in
     let next : take (suc i) (set bends i b) ≡ take i bends ++ (b ∷ []) = take-suc-set bends i b (omega (arith, L .size)) in
-    let edge : edgeOf (pairOf b) ≡ pairAt s (3 + 4 * i) = ap edgeOf (key ∙ e) ∙ edge-of-key (pairAt s (3 + 4 * i)) (omega (arith, d .corner)) in
+    let edge : edgeOf (keyIn b) ≡ pairAt s (3 + 4 * i) = ap edgeOf (key ∙ e) ∙ edge-of-key (pairAt s (3 + 4 * i)) (omega (arith, d .corner)) in
     record {
       upto = omega arith;
       size = simp length-set (L .size);
       diagonals = rw (add-one i, pairs-snoc s 3 i) (all-append (L .diagonals) (all-cons d all-nil));
-      edges = rw (add-one i, next, map-append pairOf (take i bends) (b ∷ []), map-append edgeOf (pairsOf (take i bends)) (pairOf b ∷ []), L .edges, pairs-snoc s 3 i, edge);
+      edges = rw (add-one i, next, map-append keyIn (take i bends) (b ∷ []), map-append edgeOf (keysIn (take i bends)) (keyIn b ∷ []), L .edges, pairs-snoc s 3 i, edge);
       codes = λ a. rw (add-one i, next, map-append (λ (x : ℕ). x % 4096) (take i bends) (b ∷ []), L .codes a, angles-snoc s at i, map-append codeOf (angles s at i) (get16 s (at + 2 * i) ∷ []), bits, f a);
     }

@@ -12,7 +12,7 @@ use Rattle.polygon.specs.Polygon.{Edge}
 use Rattle.polygon.specs.Order.{lower-first}
 use Rattle.codec.specs.Numbers.{get16}
 use Rattle.codec.proofs.Numbers.{get16-same}
-use Rattle.sheet.specs.Sheet.{bit0, bit1, bit2, bit3, field, sheetLength, anglesAt, standing, more, pairs, angles, readSheet}
+use Rattle.sheet.specs.Sheet.{bit0, bit1, bit2, bit3, field, sheetLength, anglesAt, anglesIf, more, pairs, angles, readSheet}
 use Rattle.sheet.specs.Skipped.{pairsEnd, HasNumber, has-number?, stripped, skipped, OnlyThere}
 use Rattle.sheet.proofs.Alike.{Alike, Exact, read-alike}
 use Rattle.sheet.proofs.Asks.{edgesIn, anglesOf}
@@ -82,7 +82,7 @@ module _ (s : List ℕ) (N : HasNumber s) where
   angles-were = omega (arith, angles-at (getD s 0 0) (get16 s 1))
 
   angles-stay : anglesOf (stripped s) ≡ anglesOf s
-  angles-stay = rw (count, map, angles-place, angles-were, angles-bit) (ap (standing (bit3 (getD s 0 0))) (angles-same (stripped s) s (pairsEnd s) (get16 s 1 - 3) byte-behind))
+  angles-stay = rw (count, map, angles-place, angles-were, angles-bit) (ap (anglesIf (bit3 (getD s 0 0))) (angles-same (stripped s) s (pairsEnd s) (get16 s 1 - 3) byte-behind))
 
   exact : bit0 (getD s 0 0) ≡ 1 → 3 ≤ get16 s 1 → bit1 (getD s 0 0) ≡ more (get16 s 1) → Exact (stripped s) ↔ Exact s
   exact low least agrees =

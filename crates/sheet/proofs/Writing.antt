@@ -13,7 +13,7 @@ use Rattle.codec.specs.Answer.{Answer, refusal, written, write}
 use Rattle.lists.proofs.Places.{map-next}
 use Rattle.lists.proofs.Stores.{sets-append, sets-front}
 use Rattle.codec.proofs.Answers.{written-short, written-fits}
-use Rattle.keys.specs.Keys.{edgeOf, edgesOf, pairOf, pairsOf, angleIn, anglesIn}
+use Rattle.keys.specs.Keys.{edgeOf, edgesOf, keyIn, keysIn, angleIn, anglesIn}
 use Rattle.sheet.specs.declared.Head.{Head}
 use Rattle.sheet.specs.Sheet.{field, pairBytes, angleBytes, mapByte, normalSheet}
 use Rattle.sheet.specs.Held.{bit, anglesBy, partOf, BentInHand}
@@ -27,15 +27,15 @@ pairs-snoc (x ∷ es) e = ap (λ (l : List ℕ). bytes16 (x .0) ++ (bytes16 (x .
 
 -- one more edge, and one more angle, in an output
 pub edges-next : (bends out : List ℕ) (at i : ℕ) → i < length bends
-    → sets (sets (sets out at (pairBytes (edgesOf (pairsOf (take i bends))))) (at + i * 4) (bytes16 (pairOf (getD bends i 0) / 1024))) (at + i * 4 + 2) (bytes16 (pairOf (getD bends i 0) % 1024))
-    ≡ sets out at (pairBytes (edgesOf (pairsOf (take (i + 1) bends))))
+    → sets (sets (sets out at (pairBytes (edgesOf (keysIn (take i bends))))) (at + i * 4) (bytes16 (keyIn (getD bends i 0) / 1024))) (at + i * 4 + 2) (bytes16 (keyIn (getD bends i 0) % 1024))
+    ≡ sets out at (pairBytes (edgesOf (keysIn (take (i + 1) bends))))
 edges-next bends out at i h =
-    let es : List Edge = edgesOf (pairsOf (take i bends)) in
-    let k : ℕ = pairOf (getD bends i 0) in
-    let n : length (pairBytes es) ≡ i * 4 = omega (arith, pairs-length es, length-map (pairsOf (take i bends)) edgeOf, length-map (take i bends) pairOf, length-take-le i bends (omega arith)) in
+    let es : List Edge = edgesOf (keysIn (take i bends)) in
+    let k : ℕ = keyIn (getD bends i 0) in
+    let n : length (pairBytes es) ≡ i * 4 = omega (arith, pairs-length es, length-map (keysIn (take i bends)) edgeOf, length-map (take i bends) keyIn, length-take-le i bends (omega arith)) in
     let high : List ℕ = bytes16 (k / 1024) in
     let low : List ℕ = bytes16 (k % 1024) in
-    rw (map-next pairOf bends i 0 h, map-append edgeOf (pairsOf (take i bends)) (k ∷ []), pairs-snoc es (edgeOf k), sets-append (pairBytes es) (high ++ low) out at, n, sets-append high low (sets out at (pairBytes es)) (at + i * 4))
+    rw (map-next keyIn bends i 0 h, map-append edgeOf (keysIn (take i bends)) (k ∷ []), pairs-snoc es (edgeOf k), sets-append (pairBytes es) (high ++ low) out at, n, sets-append high low (sets out at (pairBytes es)) (at + i * 4))
 
 pub angles-next : (bends out : List ℕ) (at i : ℕ) → i < length bends
     → sets (sets out at (run16 (anglesIn (take i bends)))) (at + i * 2) (bytes16 (angleIn (getD bends i 0))) ≡ sets out at (run16 (anglesIn (take (i + 1) bends)))
@@ -63,24 +63,25 @@ module _ {h : Head} {bs : List ℕ} (P : BentInHand h bs) (out : List ℕ) where
   abbrev size : ℕ
   size = 3 + 4 * (h .n - 3) + field (bit (h .angled)) (2 * (h .n - 3))
 
-  pairs-size : length (pairBytes (edgesOf (pairsOf bends))) ≡ 4 * (h .n - 3)
-  pairs-size = omega (arith, pairs-length (edgesOf (pairsOf bends)), length-map (pairsOf bends) edgeOf, length-map bends pairOf, bends-count P)
+  pairs-size : length (pairBytes (edgesOf (keysIn bends))) ≡ 4 * (h .n - 3)
+  pairs-size = omega (arith, pairs-length (edgesOf (keysIn bends)), length-map (keysIn bends) edgeOf, length-map bends keyIn, bends-count P)
 
   sheet-size : length (normalSheet (partOf h bs)) ≡ size
   unfolding normalSheet
-  sheet-size = omega (arith, pairs-size, length-append (pairBytes (edgesOf (pairsOf bends))) (angleBytes (anglesBy (h .angled) bends)), rw (bends-count P) at (bytes-by (h .angled) bends))
+  sheet-size = omega (arith, pairs-size, length-append (pairBytes (edgesOf (keysIn bends))) (angleBytes (anglesBy (h .angled) bends)), rw (bends-count P) at (bytes-by (h .angled) bends))
 
   pub too-short : length out < size → refusal 8 out ≡ written (write (normalSheet (partOf h bs))) out
   too-short k = sym (written-short (normalSheet (partOf h bs)) out (omega (arith, sheet-size)))
 
   abbrev pub stored : List ℕ
-  stored = sets (sets (set out 0 (mapByte (h .n) (anglesBy (h .angled) []))) 1 (bytes16 (h .n))) 3 (pairBytes (edgesOf (pairsOf bends)))
+  stored = sets (sets (set out 0 (mapByte (h .n) (anglesBy (h .angled) []))) 1 (bytes16 (h .n))) 3 (pairBytes (edgesOf (keysIn bends)))
 
-  finished : (o : List ℕ) → size ≤ length out → o ≡ sets stored (3 + 4 * (h .n - 3)) (angleBytes (anglesBy (h .angled) bends))
-      → _≡_ {A = Answer} (record { number = 0; size = size; bytes = o }) (written (write (normalSheet (partOf h bs))) out)
+  -- with angles or without; r is the size that the code tells
+  pub finished : (o : List ℕ) (r : ℕ) (b : Bool) → r ≡ size → h .angled ≡ b → r ≤ length out → o ≡ sets stored (3 + 4 * (h .n - 3)) (angleBytes (anglesBy b bends))
+      → _≡_ {A = Answer} (record { number = 0; size = r; bytes = o }) (written (write (normalSheet (partOf h bs))) out)
   unfolding normalSheet
-  finished o fits e =
-      let es : List ℕ = pairBytes (edgesOf (pairsOf bends)) in
+  finished o r b told a fits e =
+      let es : List ℕ = pairBytes (edgesOf (keysIn bends)) in
       let vs : List ℕ = angleBytes (anglesBy (h .angled) bends) in
       let m : ℕ = mapByte (h .n) (anglesBy (h .angled) bends) in
       let k : length (normalSheet (partOf h bs)) ≤ length out = omega (arith, sheet-size) in
@@ -88,13 +89,7 @@ module _ {h : Head} {bs : List ℕ} (P : BentInHand h bs) (out : List ℕ) where
       let count : List ℕ = sets (set out 0 m) 1 (bytes16 (h .n)) in
       let one : sets (sets count 3 es) (3 + 4 * (h .n - 3)) vs ≡ normalSheet (partOf h bs) ++ drop (length (normalSheet (partOf h bs))) out =
       ap (λ (j : ℕ). sets (sets count 3 es) j vs) at ∙ (sym (sets-append es vs count 3) ∙ (sym (sets-append (bytes16 (h .n)) (es ++ vs) (set out 0 m) 1) ∙ sets-front (m ∷ (bytes16 (h .n) ++ (es ++ vs))) out k)) in
-      let b : o ≡ normalSheet (partOf h bs) ++ drop (length (normalSheet (partOf h bs))) out = rw (map-of (h .n) (h .angled) bends) at e ∙ one in
-      let n = sym sheet-size in
+      let own = e ∙ sym (ap (λ (b : Bool). sets stored (3 + 4 * (h .n - 3)) (angleBytes (anglesBy b bends))) a) in
+      let b : o ≡ normalSheet (partOf h bs) ++ drop (length (normalSheet (partOf h bs))) out = rw (map-of (h .n) (h .angled) bends) at own ∙ one in
+      let n = told ∙ sym sheet-size in
       (λ i. record { number = 0; size = n i; bytes = b i }) ∙ sym (written-fits (normalSheet (partOf h bs)) out k)
-
-  -- without angles, and with them
-  pub finished-plain : (o : List ℕ) → h .angled ≡ false → size ≤ length out → o ≡ stored → _≡_ {A = Answer} (record { number = 0; size = size; bytes = o }) (written (write (normalSheet (partOf h bs))) out)
-  finished-plain o a fits e = finished o fits (e ∙ sym (ap (λ (b : Bool). sets stored (3 + 4 * (h .n - 3)) (angleBytes (anglesBy b bends))) a))
-
-  pub finished-bent : (o : List ℕ) → h .angled ≡ true → size ≤ length out → o ≡ sets stored (3 + 4 * (h .n - 3)) (run16 (anglesIn bends)) → _≡_ {A = Answer} (record { number = 0; size = size; bytes = o }) (written (write (normalSheet (partOf h bs))) out)
-  finished-bent o a fits e = finished o fits (e ∙ sym (ap (λ (b : Bool). sets stored (3 + 4 * (h .n - 3)) (angleBytes (anglesBy b bends))) a))

@@ -9,7 +9,7 @@ use Rattle.polygon.specs.Polygon.{Edge, Diagonal, Polygon, bare, Valid}
 use Rattle.polygon.specs.Order.{lower-first}
 use Rattle.codec.specs.Numbers.{get16}
 use Rattle.lists.specs.Lists.{All}
-use Rattle.keys.specs.Keys.{keyOf, edgesOf, pairsOf, anglesIn, codeOf}
+use Rattle.keys.specs.Keys.{keyOf, edgesOf, keysIn, anglesIn, codeOf}
 use Rattle.sheet.specs.declared.Head.{Head}
 use Rattle.sheet.specs.declared.Read.{Read}
 use Rattle.sheet.specs.declared.Read.the-variants.{Refused, Held}
@@ -37,7 +37,7 @@ anglesBy false bs = none
 
 -- the same with angles: the part of a head and a table that begins with the bends of its diagonals
 abbrev pub partOf : Head → List ℕ → Polygon
-partOf h bs = record { n = h .n; ds = edgesOf (pairsOf (take (h .n - 3) bs)); angles = anglesBy (h .angled) (take (h .n - 3) bs) }
+partOf h bs = record { n = h .n; ds = edgesOf (keysIn (take (h .n - 3) bs)); angles = anglesBy (h .angled) (take (h .n - 3) bs) }
 
 pub record BentInHand (h : Head) (bs : List ℕ) : Type 0 where
   pub valid : Valid (partOf h bs)
@@ -49,7 +49,7 @@ pub data ReadsBent (q : Reading) : Read → List ℕ → Type 0 where
 
 -- the keys of a part's bends stand at the start of a second table
 pub record KeysOf (h : Head) (bs ks : List ℕ) : Type 0 where
-  pub same : take (h .n - 3) ks ≡ pairsOf (take (h .n - 3) bs)
+  pub same : take (h .n - 3) ks ≡ keysIn (take (h .n - 3) bs)
   pub room : 1021 ≤ length ks
 
 abbrev pub KeysSay : Read → List ℕ → List ℕ → Type 0
@@ -92,16 +92,16 @@ pub record KeyIs (n : ℕ) (e : Edge) (r : ℕ) : Type 0 where
 -- the bends that were read of a sheet's pairs, all of them diagonals, in the listed order; with their angles' bits, if there are any
 pub record BendsRead (s : List ℕ) (n : ℕ) (angled : Bool) (bs : List ℕ) : Type 0 where
   pub diagonals : All (Diagonal n) (pairs s 3 (n - 3))
-  pub edges : edgesOf (pairsOf (take (n - 3) bs)) ≡ pairs s 3 (n - 3)
+  pub edges : edgesOf (keysIn (take (n - 3) bs)) ≡ pairs s 3 (n - 3)
   pub codes : angled ≡ true → map (λ b. b % 4096) (take (n - 3) bs) ≡ map codeOf (angles s (length s - 2 * (n - 3)) (n - 3))
 
 -- the angle of a bend is in range
-abbrev pub Fits : ℕ → Type 0
-Fits b = b % 4096 ≤ 3600
+abbrev pub CodeFits : ℕ → Type 0
+CodeFits b = b % 4096 ≤ 3600
 
 -- the angles of bends are allowed
 abbrev pub CodesBy : Bool → ℕ → List ℕ → Type 0
-CodesBy true n bs = (3 < n) × All Fits bs
+CodesBy true n bs = (3 < n) × All CodeFits bs
 CodesBy false n bs = Unit {0}
 
 abbrev pub CodesAllowed : Head → List ℕ → Type 0

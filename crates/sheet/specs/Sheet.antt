@@ -62,15 +62,15 @@ angles s at zero = []
 angles s at (suc k) = get16 s at ∷ angles s (at + 2) k
 
 -- the angles of a sheet in the listed order, if bit 3 stands: "the fields whose bit stands follow in bit order", behind the pairs and the four bytes of bit 2
-abbrev pub standing : ℕ → List Angle → Angles
-standing zero vs = none
-standing (suc b) vs = each vs
+abbrev pub anglesIf : ℕ → List Angle → Angles
+anglesIf zero vs = none
+anglesIf (suc b) vs = each vs
 
 abbrev pub anglesAt : ℕ → ℕ → ℕ
 anglesAt m n = 3 + 4 * (n - 3) + field (bit2 m) 4
 
 abbrev pub listedAngles : List ℕ → ℕ → Angles
-listedAngles s n = standing (bit3 (getD s 0 0)) (angles s (anglesAt (getD s 0 0) n) (n - 3))
+listedAngles s n = anglesIf (bit3 (getD s 0 0)) (angles s (anglesAt (getD s 0 0) n) (n - 3))
 
 -- n has 3 to 1,024 corners; bit 1 stands exactly when n > 3
 unfoldable pub count? : (n : ℕ) → Dec ((3 ≤ n) × (n ≤ 1024))

@@ -8,14 +8,14 @@ ghost use Rattle.polygon.specs.Polygon.{_—_, Diagonal};
 ghost use Rattle.codec.specs.Numbers.{get16};
 ghost use Rattle.keys.specs.Keys.{codeOf};
 ghost use Rattle.sheet.specs.Sheet.{readSheet, sheetLength, pairs, bit0, bit1, bit2, bit3, more};
-ghost use Rattle.sheet.specs.Held.{ReadsBent, KeysSay, HeadOf, HeadSays, KeyIs, pairAt, BendsRead, Fits, CodesAllowed};
+ghost use Rattle.sheet.specs.Held.{ReadsBent, KeysSay, HeadOf, HeadSays, KeyIs, pairAt, BendsRead, CodeFits, CodesAllowed};
 use crate::Head;
 use crate::Read;
 use codec::get16;
 use keys::CORNERS;
 use keys::bend::bend;
-use keys::bend::code;
-use keys::bend::encoded;
+use keys::bend::code_in;
+use keys::bend::code_of;
 use keys::cross::crosses;
 use keys::key;
 use keys::sort::order;
@@ -127,7 +127,7 @@ fn angle_code(sheet: &[u8], angled: bool, at: usize) -> u32
     ensures { λ r. ⌜ (angled ≡ true → r ≡ codeOf (get16 (now (sheet .entry)) at)) × (r < 4096) ⌝ }
 {
     if angled {
-        return encoded(get16(sheet, at));
+        return code_of(get16(sheet, at));
     }
     0
 }
@@ -153,12 +153,12 @@ fn read_bends(sheet: &[u8], n: usize, angled: bool, bends: &mut [u32]) -> bool
 
 // Whether each of the bends has an angle in range.
 fn in_range(bends: &[u32]) -> bool
-    ensures yes { λ r. ⌜ (r ≡ true → All Fits (now (bends .entry))) ⌝ }
-    ensures no { λ r. ⌜ (r ≡ false → All Fits (now (bends .entry)) → ⊥) ⌝ }
+    ensures yes { λ r. ⌜ (r ≡ true → All CodeFits (now (bends .entry))) ⌝ }
+    ensures no { λ r. ⌜ (r ≡ false → All CodeFits (now (bends .entry)) → ⊥) ⌝ }
 {
     let mut j = 0;
     while j < bends.len() {
-        if code(bends[j]) > 3600 {
+        if code_in(bends[j]) > 3600 {
             return false;
         }
         j += 1;

@@ -7,7 +7,7 @@ ghost use lib.ListN.{length, take};
 ghost use lib.Seq.{sets};
 ghost use Rattle.codec.specs.Answer.{answered, written, write};
 ghost use Rattle.codec.specs.Numbers.{run16};
-ghost use Rattle.keys.specs.Keys.{edgesOf, pairsOf, anglesIn, flatBend};
+ghost use Rattle.keys.specs.Keys.{edgesOf, keysIn, anglesIn, flatBend};
 ghost use Rattle.sheet.specs.Sheet.{field, more, normalSheet, pairBytes, mapByte};
 ghost use Rattle.sheet.specs.Held.{bit, polygonOf, InHand, SmallKeys, partOf, anglesBy, BentInHand};
 use crate::Head;
@@ -15,9 +15,9 @@ use codec::Written;
 use codec::put16;
 use keys::DIAGONALS;
 use keys::bend::FLAT;
-use keys::bend::angle;
+use keys::bend::angle_in;
 use keys::bend::bend;
-use keys::bend::pair;
+use keys::bend::key_in;
 use keys::high;
 use keys::low;
 
@@ -39,11 +39,11 @@ fn map_byte(h: Head) -> u8
 // Writes the corners of each bend.
 fn put_edges(out: &mut [u8], at: usize, bends: &[u32])
     requires { ⌜ at + length (now bends) * 4 ≤ length (now out) ⌝ }
-    ensures { λ _. ⌜ now (out .exit) ≡ sets (now (out .entry)) at (pairBytes (edgesOf (pairsOf (now (bends .entry))))) ⌝ }
+    ensures { λ _. ⌜ now (out .exit) ≡ sets (now (out .entry)) at (pairBytes (edgesOf (keysIn (now (bends .entry))))) ⌝ }
 {
     let mut i = 0;
     while i < bends.len() {
-        let k = pair(bends[i]);
+        let k = key_in(bends[i]);
         put16(out, at + i * 4, low(k));
         put16(out, at + i * 4 + 2, high(k));
         i += 1;
@@ -57,13 +57,13 @@ fn put_angles(out: &mut [u8], at: usize, bends: &[u32])
 {
     let mut i = 0;
     while i < bends.len() {
-        put16(out, at + i * 2, angle(bends[i]));
+        put16(out, at + i * 2, angle_in(bends[i]));
         i += 1;
     }
 }
 
 // How long the sheet of a part is in normal order.
-fn size_of(h: Head) -> usize
+fn normal_size(h: Head) -> usize
     requires { ⌜ (3 ≤ h .n) × (h .n ≤ 1024) ⌝ }
     ensures { λ r. ⌜ r ≡ 3 + 4 * (h .n - 3) + field (bit (h .angled)) (2 * (h .n - 3)) ⌝ }
 {
@@ -79,7 +79,7 @@ pub fn write_sheet(h: Head, bends: &[u32], out: &mut [u8]) -> Written
     let n = h.n;
     let angled = h.angled;
     let m = n - 3;
-    let size = size_of(h);
+    let size = normal_size(h);
     if out.len() < size {
         return Written::Refused(8);
     }

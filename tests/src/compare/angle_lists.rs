@@ -4,7 +4,7 @@
 
 use super::any_edits::{any_edit, one_of_each_kind, taken_edits};
 use super::checks::{same_bytes, Outcome};
-use super::lists::{leaves, refuse, same_numbers, size, Run};
+use super::lists::{leaves, same_numbers, size, Growing, Run};
 use super::sheets::{any_angled, any_part, any_sheet, pairs_end, ENOUGH};
 use super::Tests;
 use bend_tests::edit::Edit;
@@ -133,11 +133,9 @@ fn none_taken(tests: &mut Tests, operation: &str, run: Run) {
         for round in 0..600 {
             let part = any_part(size(round, &mut random), &mut random);
             let first = any_sheet(&any_angled(part, &mut random), &mut random);
-            let mut plain = PlainPart::new(&first).expect("a valid sheet");
-            let mut list = Vec::new();
-            refuse(&mut plain, &mut list, &mut random);
-            let (list, numbers): (Vec<Lending>, Vec<u16>) = list.into_iter().unzip();
-            leaves(run, &first, &list, &numbers, &first)?;
+            let mut list = Growing::new(&first);
+            list.refuse(&mut random);
+            list.leaves(run, &first)?;
         }
         Ok(())
     });
@@ -154,26 +152,21 @@ fn through_triangles(tests: &mut Tests, operation: &str, run: Run) {
         for _ in 0..2000 {
             let part = any_part(random.between(3, 7) as Corner, &mut random);
             let first = any_sheet(&part, &mut random);
-            let mut plain = PlainPart::new(&first).expect("a valid sheet");
-            let mut list = Vec::new();
+            let mut list = Growing::new(&first);
             for _ in 0..random.between(1, 14) {
-                let edits = one_of_each_kind(&plain.part, &mut random);
+                let edits = one_of_each_kind(&list.plain.part, &mut random);
                 // taking off lends the least and comes first
                 let &(edit, room) = if random.coin() {
                     &edits[0]
                 } else {
                     random.pick(&edits)
                 };
-                let room = room + *random.pick(&[0, 0, 1, 2, 4, 6]);
-                assert_eq!(plain.edit(edit, room as usize), 0, "{edit:?} is taken");
-                list.push(((edit, room), 0));
-                refuse(&mut plain, &mut list, &mut random);
+                list.take((edit, room + *random.pick(&[0, 0, 1, 2, 4, 6])));
+                list.refuse(&mut random);
             }
-            let left = &plain.part;
+            let left = &list.plain.part;
             lost += usize::from(part.angles.is_some() && left.n > 3 && left.angles.is_none());
-            let expected = Fields::of(left).bytes();
-            let (list, numbers): (Vec<Lending>, Vec<u16>) = list.into_iter().unzip();
-            leaves(run, &first, &list, &numbers, &expected)?;
+            list.leaves(run, &Fields::of(left).bytes())?;
         }
         assert!(
             lost > 100,

@@ -3,14 +3,13 @@
 //! bit 2 and all. `operation` begins the tests' names.
 
 use super::any_edits::{any_list, one_of_each_kind, taken_edits};
-use super::lists::{leaves, refuse, size, Run};
+use super::lists::{leaves, size, Growing, Run};
 use super::sheets::{any_four, any_order, any_part, both_kinds};
 use super::Tests;
 use bend_tests::edit::Edit;
 use bend_tests::edit_list::{edits, encoded, Lending};
 use bend_tests::fields::Fields;
 use bend_tests::part::Part;
-use bend_tests::plain_part::PlainPart;
 use bend_tests::random::Random;
 use bend_tests::shapes::all_parts;
 
@@ -48,11 +47,9 @@ fn none_taken(tests: &mut Tests, operation: &str, run: Run) {
         for round in 0..1000 {
             let part = any_part(size(round, &mut random), &mut random);
             let first = with_bit_2(&part, &mut random);
-            let mut plain = PlainPart::new(&first).expect("a valid sheet");
-            let mut list = Vec::new();
-            refuse(&mut plain, &mut list, &mut random);
-            let (list, numbers): (Vec<Lending>, Vec<u16>) = list.into_iter().unzip();
-            leaves(run, &first, &list, &numbers, &first)?;
+            let mut list = Growing::new(&first);
+            list.refuse(&mut random);
+            list.leaves(run, &first)?;
         }
         Ok(())
     });
@@ -66,20 +63,15 @@ fn some_taken(tests: &mut Tests, operation: &str, run: Run) {
         for round in 0..1000 {
             let part = any_part(size(round, &mut random), &mut random);
             let first = with_bit_2(&part, &mut random);
-            let mut plain = PlainPart::new(&first).expect("a valid sheet");
-            let mut list = Vec::new();
-            refuse(&mut plain, &mut list, &mut random);
+            let mut list = Growing::new(&first);
+            list.refuse(&mut random);
             for _ in 0..random.between(1, 3) {
-                let edits = one_of_each_kind(&plain.part, &mut random);
+                let edits = one_of_each_kind(&list.plain.part, &mut random);
                 let &(edit, least) = random.pick(&edits);
-                let room = least + random.pick(&[0, 0, 4, 20]);
-                assert_eq!(plain.edit(edit, room as usize), 0, "{edit:?} is taken");
-                list.push(((edit, room), 0));
-                refuse(&mut plain, &mut list, &mut random);
+                list.take((edit, least + random.pick(&[0, 0, 4, 20])));
+                list.refuse(&mut random);
             }
-            let expected = Fields::of(&plain.part).bytes();
-            let (list, numbers): (Vec<Lending>, Vec<u16>) = list.into_iter().unzip();
-            leaves(run, &first, &list, &numbers, &expected)?;
+            list.leaves(run, &Fields::of(&list.plain.part).bytes())?;
         }
         Ok(())
     });

@@ -43,13 +43,49 @@ fn any_refused(part: &Part, random: &mut Random) -> Lending {
     (edit, room as u32)
 }
 
-/// A few refused edits, put at the end of the list with their numbers.
-pub fn refuse(plain: &mut PlainPart, list: &mut Vec<(Lending, u16)>, random: &mut Random) {
-    for _ in 0..random.below(5) {
-        let (edit, room) = any_refused(&plain.part, random);
-        let number = plain.edit(edit, room as usize);
-        assert_ne!(number, 0, "{edit:?} is refused");
-        list.push(((edit, room), number));
+/// A list from a first sheet that grows beside its plain part.
+pub struct Growing<'a> {
+    first: &'a [u8],
+    pub plain: PlainPart,
+    list: Vec<Lending>,
+    numbers: Vec<u16>,
+}
+
+impl<'a> Growing<'a> {
+    pub fn new(first: &'a [u8]) -> Growing<'a> {
+        let plain = PlainPart::new(first).expect("a valid sheet");
+        let (list, numbers) = (Vec::new(), Vec::new());
+        Growing {
+            first,
+            plain,
+            list,
+            numbers,
+        }
+    }
+
+    fn push(&mut self, (edit, room): Lending) -> u16 {
+        let number = self.plain.edit(edit, room as usize);
+        self.list.push((edit, room));
+        self.numbers.push(number);
+        number
+    }
+
+    /// A few edits that are refused.
+    pub fn refuse(&mut self, random: &mut Random) {
+        for _ in 0..random.below(5) {
+            let lending = any_refused(&self.plain.part, random);
+            assert_ne!(self.push(lending), 0, "{lending:?} is refused");
+        }
+    }
+
+    /// An edit that is taken.
+    pub fn take(&mut self, lending: Lending) {
+        assert_eq!(self.push(lending), 0, "{lending:?} is taken");
+    }
+
+    /// A failure unless the list gives the plain part's numbers and leaves this sheet.
+    pub fn leaves(&self, run: Run, sheet: &[u8]) -> Outcome {
+        leaves(run, self.first, &self.list, &self.numbers, sheet)
     }
 }
 

@@ -20,15 +20,15 @@ loop-holds c = record { upto = omega arith; kept = refl; done = refl }
 moved-requires : tie.Need-moved-requires Inv-loop μ-loop
 moved-requires c κs =
     let start = c .before .before .before .before .before .before .before in
-    rw (c .low .ensures, c .before .pair .ensures .0) (movable-at (start .args .shift) (start .args .bends .now) (start .pre .1) (c .before .before .before .before .loop .j) (c .before .before .before .loop-test .taken) .0)
+    rw (c .low .ensures, c .before .key-in .ensures .0) (movable-at (start .args .shift) (start .args .bends .now) (start .pre .1) (c .before .before .before .before .loop .j) (c .before .before .before .loop-test .taken) .0)
 
 moved-requires-2 : tie.Need-moved-requires-2 Inv-loop μ-loop
 moved-requires-2 c κs =
     let start = c .before .before .before .before .before .before .before .before .before in
-    rw (c .high .ensures .0, c .before .before .before .pair .ensures .0) (movable-at (start .args .shift) (start .args .bends .now) (start .pre .1) (c .before .before .before .before .before .before .loop .j) (c .before .before .before .before .before .loop-test .taken) .1)
+    rw (c .high .ensures .0, c .before .before .before .key-in .ensures .0) (movable-at (start .args .shift) (start .args .bends .now) (start .pre .1) (c .before .before .before .before .before .before .loop .j) (c .before .before .before .before .before .loop-test .taken) .1)
 
 bend-requires : tie.Need-bend-requires Inv-loop μ-loop
-bend-requires c κs = omega (arith, c .before .before .key .ensures, c .before .before .before .moved2 .ensures .1, c .before .before .before .before .before .moved .ensures .1, c .code .ensures .1)
+bend-requires c κs = omega (arith, c .before .before .key .ensures, c .before .before .before .moved2 .ensures .1, c .before .before .before .before .before .moved .ensures .1, c .code-in .ensures .1)
 
 slice-write-out : tie.Need-slice-write-out Inv-loop μ-loop
 slice-write-out c = omega (arith, c .before .before .before .before .before .before .before .before .before .before .before .loop .inv .kept)
@@ -45,8 +45,8 @@ loop-again c =
       c .before .before .before .before .before .before .moved .ensures .0,
       c .before .before .before .before .before .before .before .low .ensures,
       c .before .before .before .before .before .high .ensures .0,
-      c .before .before .before .before .before .before .before .before .pair .ensures .0,
-      c .before .code .ensures .0,
+      c .before .before .before .before .before .before .before .before .key-in .ensures .0,
+      c .before .code-in .ensures .0,
     ))
 
 same-length : tie.Need-same-length Inv-loop μ-loop

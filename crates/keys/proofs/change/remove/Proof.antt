@@ -19,13 +19,13 @@ loop-holds c = removing-begin _ _ _
 
 loop-again : tie.Need-loop-again Inv-loop μ-loop
 loop-again c =
-    let at-pair = c .before in
-    let at-loop-test = at-pair .before .before in
+    let at-key = c .before in
+    let at-loop-test = at-key .before .before in
     let at-loop = at-loop-test .before in
     let R = at-loop .loop .inv in
     let fits = at-loop .before .before .before .pre in
     let more = at-loop-test .loop-test .taken in
-    let key = at-pair .pair .ensures .0 in
+    let key = at-key .key-in .ensures .0 in
     ⊎-elim (λ w. rw (w .1, w .2) (removing-other R fits more (λ e. w .0 .taken (key ∙ e)))) (λ w. rw (w .1, w .2) (removing-same R fits more (sym key ∙ w .0 .left))) (c .if1 .came)
 
 same-length : tie.Need-same-length Inv-loop μ-loop

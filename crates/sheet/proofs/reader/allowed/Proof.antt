@@ -7,7 +7,7 @@ use borrow.Author.Needs.{needs}
 use borrow.Author.Tests.{not-true, not-false}
 use native.Mathlib.Omega.{arith}
 use Rattle.lists.specs.Lists.{All}
-use Rattle.sheet.specs.Held.{Fits, CodesBy}
+use Rattle.sheet.specs.Held.{CodeFits, CodesBy}
 use Rattle.sheet.proofs.reader.allowed.Statement.{statement}
 use Rattle.sheet.proofs.reader.allowed.Tie as tie
 
@@ -15,10 +15,10 @@ use Rattle.sheet.proofs.reader.allowed.Tie as tie
 plain : (b : Bool) (n : ℕ) (bs : List ℕ) → b ≡ false → CodesBy b n bs
 plain b n bs e = rw e tt
 
-bent : (b : Bool) (n : ℕ) (bs : List ℕ) → b ≡ true → (3 < n) × All Fits bs → CodesBy b n bs
+bent : (b : Bool) (n : ℕ) (bs : List ℕ) → b ≡ true → (3 < n) × All CodeFits bs → CodesBy b n bs
 bent b n bs e a = rw e a
 
-bent-back : (b : Bool) (n : ℕ) (bs : List ℕ) → b ≡ true → CodesBy b n bs → (3 < n) × All Fits bs
+bent-back : (b : Bool) (n : ℕ) (bs : List ℕ) → b ≡ true → CodesBy b n bs → (3 < n) × All CodeFits bs
 bent-back b n bs e a = rw e at a
 
 returns : tie.Need-returns

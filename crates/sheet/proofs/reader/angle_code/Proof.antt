@@ -8,7 +8,7 @@ use Rattle.sheet.proofs.reader.angle_code.Statement.{statement}
 use Rattle.sheet.proofs.reader.angle_code.Tie as tie
 
 returns : tie.Need-returns
-returns c = (λ h. c .encoded .ensures .0 ∙ ap codeOf (c .before .get16 .ensures .0), c .encoded .ensures .1)
+returns c = (λ h. c .code-of .ensures .0 ∙ ap codeOf (c .before .get16 .ensures .0), c .code-of .ensures .1)
 
 returns-2 : tie.Need-returns-2
 returns-2 c = (λ h. absurd (false≢true (sym (c .if1 .left) ∙ h)), omega arith)

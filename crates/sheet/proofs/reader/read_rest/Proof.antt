@@ -23,7 +23,7 @@ ordered c = record {
   listed = at-read c .read-bends .ensures .0 (not-false _ (c .before .before .before .before .before .if1 .left));
   long = omega (arith, at-read c .read-bends .kept .1 .1 .1 .0, start c .pre .1 .0);
   order = c .order .ensures .0;
-  pairs = c .order .ensures .1 .0;
+  keys = c .order .ensures .1 .0;
   kept = c .order .ensures .1 .1 .0;
 }
 

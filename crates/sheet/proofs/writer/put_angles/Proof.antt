@@ -21,7 +21,7 @@ unfolding run16
 loop-holds c = (omega arith, refl, refl)
 
 put16-requires : tie.Need-put16-requires Inv-loop μ-loop
-put16-requires c κs = omega (arith, c .angle .ensures)
+put16-requires c κs = omega (arith, c .angle-in .ensures)
 
 loop-again : tie.Need-loop-again Inv-loop μ-loop
 loop-again c =
@@ -30,7 +30,7 @@ loop-again c =
     let start = c .before .before .before .before .before .before .before .before .before .before in (
       omega arith,
       at-put16 .put16 .kept .0 ∙ at-loop .loop .inv .1,
-      at-put16 .put16 .ensures ∙ rw (c .before .before .before .angle .ensures .0, at-loop .loop .inv .2)
+      at-put16 .put16 .ensures ∙ rw (c .before .before .before .angle-in .ensures .0, at-loop .loop .inv .2)
           (angles-next (start .args .bends .now) (start .args .out .now) (start .args .at) (at-loop .loop .i) (omega arith)),
     )
 

@@ -4,14 +4,14 @@ use mathlib.Core.Path.{_≡_, refl, _∙_}
 use native.Mathlib.Omega.{arith}
 use lib.ListN.{length, take}
 use lib.Seq.{sets, take-all}
-use Rattle.keys.specs.Keys.{edgesOf, pairsOf}
+use Rattle.keys.specs.Keys.{edgesOf, keysIn}
 use Rattle.sheet.specs.Sheet.{pairBytes}
 use Rattle.sheet.proofs.Writing.{edges-next}
 use Rattle.sheet.proofs.writer.put_edges.Statement.{statement}
 use Rattle.sheet.proofs.writer.put_edges.Tie as tie
 
 abbrev Inv-loop : tie.InvT-loop
-Inv-loop out₀ at bends i₀ out i = (i ≤ length bends) × (length out ≡ length out₀) × (out ≡ sets out₀ at (pairBytes (edgesOf (pairsOf (take i bends)))))
+Inv-loop out₀ at bends i₀ out i = (i ≤ length bends) × (length out ≡ length out₀) × (out ≡ sets out₀ at (pairBytes (edgesOf (keysIn (take i bends)))))
 
 abbrev μ-loop : tie.MeasureT-loop
 μ-loop out₀ at bends i₀ out i = length bends - i
@@ -21,7 +21,7 @@ unfolding pairBytes
 loop-holds c = (omega arith, refl, refl)
 
 put16-requires : tie.Need-put16-requires Inv-loop μ-loop
-put16-requires c κs = omega (arith, c .low .ensures, c .before .before .pair .ensures)
+put16-requires c κs = omega (arith, c .low .ensures, c .before .before .key-in .ensures)
 
 put16-requires-2 : tie.Need-put16-requires-2 Inv-loop μ-loop
 put16-requires-2 c κs = omega (arith, c .before .before .before .before .put16 .kept .0, c .high .ensures)
@@ -32,12 +32,12 @@ loop-again c =
     let at-high = c .before .before .before in
     let at-put16 = c .before .before .before .before .before .before .before in
     let at-low = c .before .before .before .before .before .before .before .before in
-    let at-pair = c .before .before .before .before .before .before .before .before .before .before in
+    let at-key = c .before .before .before .before .before .before .before .before .before .before in
     let at-loop = c .before .before .before .before .before .before .before .before .before .before .before .before .before in
     let start = c .before .before .before .before .before .before .before .before .before .before .before .before .before .before .before .before in (
       omega arith,
       at-put162 .put162 .kept .0 ∙ (at-put16 .put16 .kept .0 ∙ at-loop .loop .inv .1),
-      at-put162 .put162 .ensures ∙ rw (at-put16 .put16 .ensures, at-low .low .ensures, at-high .high .ensures .0, at-pair .pair .ensures .0, at-loop .loop .inv .2)
+      at-put162 .put162 .ensures ∙ rw (at-put16 .put16 .ensures, at-low .low .ensures, at-high .high .ensures .0, at-key .key-in .ensures .0, at-loop .loop .inv .2)
           (edges-next (start .args .bends .now) (start .args .out .now) (start .args .at) (at-loop .loop .i) (omega arith)),
     )
 

@@ -5,12 +5,12 @@ use native.Mathlib.Omega.{arith}
 use lib.ListN.{length, take, length-set}
 use lib.Seq.{take-all}
 use Rattle.lists.proofs.Places.{mapped-next}
-use Rattle.keys.specs.Keys.{pairOf, pairsOf}
-use Rattle.keys.proofs.bend.pairs.Statement.{statement}
-use Rattle.keys.proofs.bend.pairs.Tie as tie
+use Rattle.keys.specs.Keys.{keyIn, keysIn}
+use Rattle.keys.proofs.bend.keys_in.Statement.{statement}
+use Rattle.keys.proofs.bend.keys_in.Tie as tie
 
 abbrev Inv-loop : tie.InvT-loop
-Inv-loop bends keys₀ j₀ keys j = (j ≤ length bends) × (length keys ≡ length keys₀) × (take j keys ≡ pairsOf (take j bends))
+Inv-loop bends keys₀ j₀ keys j = (j ≤ length bends) × (length keys ≡ length keys₀) × (take j keys ≡ keysIn (take j bends))
 
 abbrev μ-loop : tie.MeasureT-loop
 μ-loop bends keys₀ j₀ keys j = length bends - j
@@ -22,7 +22,7 @@ loop-again : tie.Need-loop-again Inv-loop μ-loop
 loop-again c =
     let at-loop = c .before .before .before in
     let bends = c .before .before .before .before .before .before .args .bends .now in
-    (omega arith, simp length-set (at-loop .loop .inv .1), mapped-next pairOf bends (at-loop .loop .keys) (at-loop .loop .j) 0 (omega arith) (omega arith) (c .pair .ensures .0) (at-loop .loop .inv .2))
+    (omega arith, simp length-set (at-loop .loop .inv .1), mapped-next keyIn bends (at-loop .loop .keys) (at-loop .loop .j) 0 (omega arith) (omega arith) (c .key-in .ensures .0) (at-loop .loop .inv .2))
 
 returns : tie.Need-returns Inv-loop μ-loop
 returns c =
@@ -30,7 +30,7 @@ returns c =
     let j = c .before .loop .j in
     sym (take-all j (c .before .loop .keys) (omega arith)) ∙ (c .before .loop .inv .2 ∙ rw (take-all j bends (omega arith)))
 
-pub pairs-spec : {M : Type 1} → statement M
-pairs-spec = tie.close
+pub keys-in-spec : {M : Type 1} → statement M
+keys-in-spec = tie.close
     (tie.spec Inv-loop μ-loop loop-holds (λ c. omega arith) (λ c. omega arith) (λ c κs. omega arith) (λ c. omega arith) (λ c. omega arith) (λ c. omega arith) (λ c. omega arith)
     loop-again (λ c. omega arith) returns)

@@ -6,8 +6,8 @@ use native.Mathlib.Omega.{arith}
 use Prim.Native.Nat.{ℕ, _+_, _%_, _<_, _≤_}
 use Rattle.polygon.specs.Angles.{InRange}
 use Rattle.keys.proofs.Beside.{code-in, code-out}
-use Rattle.keys.proofs.bend.encoded.Statement.{statement}
-use Rattle.keys.proofs.bend.encoded.Tie as tie
+use Rattle.keys.proofs.bend.code_of.Statement.{statement}
+use Rattle.keys.proofs.bend.code_of.Tie as tie
 
 outside : (a : ℕ) → 3600 < (a + 1800) % 65536 → ¬ InRange a
 outside a h (inl k) = omega arith
@@ -26,5 +26,5 @@ returns c = (sym (code-out _ (outside _ (c .if1 .taken))), omega arith)
 returns-2 : tie.Need-returns-2
 returns-2 c = (sym (code-in _ (within _ (c .before .pre) (c .if1 .left))), omega arith)
 
-pub encoded-spec : {M : Type 1} → statement M
-encoded-spec = tie.close (tie.spec (λ c. omega arith) returns (λ c. omega arith) returns-2)
+pub code-of-spec : {M : Type 1} → statement M
+code-of-spec = tie.close (tie.spec (λ c. omega arith) returns (λ c. omega arith) returns-2)
