@@ -56,7 +56,7 @@ fn order(chart: &[u8], at: &[usize], n: usize, keys: &mut [u32], spare: &mut [u3
 {
     stroke_keys(chart, at, n, keys);
     let m = at.len();
-    sort(&mut keys[..m], spare, 32);
+    sort(&mut keys[..m], spare);
 }
 
 // Writes how a stroke is found on the tape.

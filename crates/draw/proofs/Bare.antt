@@ -4,7 +4,7 @@ use mathlib.Core.List.{List}
 use Prim.Native.Nat.{ℕ}
 use Rattle.polygon.specs.Polygon.{Polygon, bare}
 use Rattle.sheet.specs.Sheet.{Reading, refused, held}
-use Rattle.sheet.specs.Held.{bared}
+use Rattle.sheet.proofs.Hand.{bared}
 use Rattle.chart.specs.Chart.{chartOf}
 use Rattle.chart.proofs.Theorems.{chart-bare}
 use Rattle.log_line.specs.Line.{line}

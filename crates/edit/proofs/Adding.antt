@@ -15,7 +15,7 @@ use Rattle.polygon.proofs.Sort.{distinct-of}
 use Rattle.keys.specs.Keys.{keyOf, flatBend}
 use Rattle.keys.specs.Sort.{insertKey, merge}
 use Rattle.keys.proofs.Insert.{merge-one}
-use Rattle.keys.proofs.Beside.{edgesIn}
+use Rattle.keys.proofs.Beside.{bendEdges}
 use Rattle.sheet.specs.declared.Head.{Head}
 use Rattle.sheet.specs.Sheet.{refused}
 use Rattle.sheet.specs.declared.Read.the-variants.{Held}
@@ -78,15 +78,15 @@ module _ {h : Head} {bs : List ℕ} (P : BentInHand h bs) (i : ℕ) where
         first : take (h .n - 3) moved ≡ risen
         first = rw (bends-count P) at R
 
-        edges : edgesIn risen ≡ map (both (up i)) (edgesIn old)
+        edges : bendEdges risen ≡ map (both (up i)) (bendEdges old)
         edges = moved-edges (Up i 1) old can-rise ∙ rw (up-one i)
 
-        T : Triangulated (h .n) (edgesIn old)
+        T : Triangulated (h .n) (bendEdges old)
         T = P .valid .triangulated
 
         -- the diagonal that enters is a new one
-        fresh : ¬ Mem (entering (h .n) i) (edgesIn risen)
-        fresh m = all-mem (entering-apart (h .n) i (edgesIn old) T inside) (rw edges at m) .other refl
+        fresh : ¬ Mem (entering (h .n) i) (bendEdges risen)
+        fresh m = all-mem (entering-apart (h .n) i (bendEdges old) T inside) (rw edges at m) .other refl
 
         now-first : take (h .n + 1 - 3) after ≡ insertKey b risen
         now-first =
@@ -96,13 +96,13 @@ module _ {h : Head} {bs : List ℕ} (P : BentInHand h bs) (i : ℕ) where
         low : entering (h .n) i .1 < 1024
         low = entering-low (h .n) i inside small
 
-        all-edges : edgesIn (insertKey b risen) ≡ earAdded (h .n) i (edgesIn old)
+        all-edges : bendEdges (insertKey b risen) ≡ earAdded (h .n) i (bendEdges old)
         unfolding earAdded
         all-edges = inserted b (entering (h .n) i) risen E low fresh ∙ ap (insert (entering (h .n) i)) edges
 
         part : partOf (record { n = h .n + 1; angled = h .angled }) after ≡ given (addEar i) (partOf h bs)
         part =
-            let apart : Distinct (edgesIn risen) = rw edges (distinct-of (moved-ascending (h .n) i (edgesIn old) T inside)) in
+            let apart : Distinct (bendEdges risen) = rw edges (distinct-of (moved-ascending (h .n) i (bendEdges old) T inside)) in
             let comes = new-comes b (entering (h .n) i) risen E low fresh fresh (all-imp (λ c m. inl m) (all-self risen)) in
             let over : 3 < suc (h .n) = omega (arith, P .valid .least) in
             let first-so : take (suc (h .n) - 3) after ≡ insertKey b risen = rw (add-one (h .n)) at now-first in

@@ -15,7 +15,7 @@ use Rattle.polygon.proofs.Order.{remove-all}
 use Rattle.polygon.proofs.Sort.{distinct-of}
 use Rattle.keys.specs.Keys.{keyOf}
 use Rattle.keys.specs.Change.{removeKey}
-use Rattle.keys.proofs.Beside.{edgesIn}
+use Rattle.keys.proofs.Beside.{bendEdges}
 use Rattle.sheet.specs.declared.Head.{Head}
 use Rattle.sheet.specs.declared.Read.the-variants.{Held}
 use Rattle.sheet.specs.Sheet.{refused}
@@ -48,7 +48,7 @@ module _ {h : Head} {bs : List ℕ} (P : BentInHand h bs) (c : ℕ) where
     remove-triangle e = ask-yes 9 _ _ inside ∙ ask-no 11 _ _ (λ f. f e)
 
     module _ (big : ¬ (h .n ≡ 3)) where
-      pub remove-no-ear : ¬ All (Away c) (edgesIn old) → rule (removeEar c) (partOf h bs) ≡ refused 12
+      pub remove-no-ear : ¬ All (Away c) (bendEdges old) → rule (removeEar c) (partOf h bs) ≡ refused 12
       unfolding rule
       remove-no-ear f = ask-yes 9 _ _ inside ∙ (ask-yes 11 _ _ big ∙ ask-no 12 _ _ f)
 
@@ -61,24 +61,24 @@ module _ {h : Head} {bs : List ℕ} (P : BentInHand h bs) (c : ℕ) where
         taken-out P (neighbours (h .n) c) (ear-diagonal (partOf h bs) c (P .valid) t) (K ∙ e)
 
     -- all bends under their new numbers: the ear's diagonal has become a side
-    falls : All (λ e. Movable (Down c 1) (e .0) × Movable (Down c 1) (e .1)) (edgesIn old)
+    falls : All (λ e. Movable (Down c 1) (e .0) × Movable (Down c 1) (e .1)) (bendEdges old)
     falls = all-imp (λ e d. ((omega (arith, d .forth, d .corner, P .valid .most), λ l. omega arith), (omega (arith, d .corner, P .valid .most), λ l. omega arith))) (P .valid .triangulated .diagonals)
 
     abbrev fallen : List ℕ
     fallen = map (movedBend (Down c 1)) old
 
-    edges : edgesIn fallen ≡ map (both (down c)) (edgesIn old)
+    edges : bendEdges fallen ≡ map (both (down c)) (bendEdges old)
     unfolding down
     edges = moved-edges (Down c 1) old falls
 
-    apart : Distinct (edgesIn fallen)
+    apart : Distinct (bendEdges fallen)
     apart = rw edges (distinct-of (renumbered-ascending _ (down c) (down-mono c) (t .2) (P .valid .triangulated .ascending)))
 
     module _ {rest : List ℕ} (W : Without h bs (neighbours (h .n) c) rest) where
       pub can-fall : AllMovable (Down c 1) rest
       can-fall = rw (W .left) (remove-all (neighbours (h .n) c) falls)
 
-      new-edges : edgesIn (map (movedBend (Down c 1)) rest) ≡ earRemoved (h .n) c (edgesIn old)
+      new-edges : bendEdges (map (movedBend (Down c 1)) rest) ≡ earRemoved (h .n) c (bendEdges old)
       unfolding earRemoved down
       new-edges = moved-edges (Down c 1) rest can-fall ∙ ap (map (both (moved (Down c 1)))) (W .left)
 

@@ -19,7 +19,7 @@ use Rattle.keys.specs.Change.{removeKey}
 use Rattle.keys.proofs.InOrder.{edge-of-key}
 use Rattle.keys.proofs.Insert.{merge-one}
 use Rattle.keys.proofs.Removal.{edges-mem, mem-edges}
-use Rattle.keys.proofs.Beside.{edgesIn}
+use Rattle.keys.proofs.Beside.{bendEdges}
 use Rattle.sheet.specs.declared.Head.{Head}
 use Rattle.sheet.specs.Sheet.{refused}
 use Rattle.sheet.specs.declared.Read.the-variants.{Held}
@@ -100,18 +100,18 @@ module _ {h : Head} {bs : List ℕ} (P : BentInHand h bs) (a b : ℕ) where
     turn-out M = taken-out P (a — b) (rw edge-k at (mem-edges k (keysIn old) M)) K
 
   pub flipped-over : a ≤ b → b < h .n → {rest : List ℕ} → Without h bs (a — b) rest → {other turned : ℕ}
-      → ((x y : ℕ) → common (h .n) (edgesIn old) (a — b) ≡ x ∷ (y ∷ []) → other ≡ keyOf (x — y)) → turned ≡ flatBend other
+      → ((x y : ℕ) → common (h .n) (bendEdges old) (a — b) ≡ x ∷ (y ∷ []) → other ≡ keyOf (x — y)) → turned ≡ flatBend other
       → (after : List ℕ) → take (1 + length rest) after ≡ merge (turned ∷ []) rest → 1021 ≤ length after → ReadsBent (rule (flip a b) (partOf h bs)) (Held h) after
   flipped-over up inside {rest} W {other} {turned} O B after I long =
       let T = P .valid .triangulated in
-      let ds : List Edge = edgesIn old in
+      let ds : List Edge = bendEdges old in
       let (f, A) = across (h .n) ds T (a — b) (W .member) in
       let low : f .1 < 1024 = omega (arith, joined-corners (h .n) ds T _ _ (A .low-high) .1, P .valid .most) in
       let key : turned ≡ flatBend (keyOf f) = B ∙ ap flatBend (O (f .0) (f .1) (common-is (h .n) ds T (a — b) f A)) in
       let m : h .n - 3 ≡ 1 + length rest = omega (arith, W .size) in
       let new : ¬ Mem f ds = fresh (h .n) ds T (a — b) f A (W .member) in
-      let newer : ¬ Mem f (edgesIn rest) = λ k. new (all-mem (remove-all (a — b) (all-self ds)) (rw (W .left) at k)) in
-      let edges : edgesIn (insertKey turned rest) ≡ insert f (remove (a — b) ds) = inserted turned f rest key low newer ∙ ap (insert f) (W .left) in
+      let newer : ¬ Mem f (bendEdges rest) = λ k. new (all-mem (remove-all (a — b) (all-self ds)) (rw (W .left) at k)) in
+      let edges : bendEdges (insertKey turned rest) ≡ insert f (remove (a — b) ds) = inserted turned f rest key low newer ∙ ap (insert f) (W .left) in
       let first : take (h .n - 3) after ≡ insertKey turned rest = ap (λ (j : ℕ). take j after) m ∙ (I ∙ merge-one turned rest) in
       let comes = new-comes turned f rest key low newer new (all-imp (λ c q. inl q) (all-of rest (W .kept))) in
       let over : 3 < h .n = omega (arith, W .size) in

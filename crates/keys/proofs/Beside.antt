@@ -39,28 +39,28 @@ code-back a b (inl h) e = omega (arith, code-in a (inl h))
 code-back a b (inr h) e = omega (arith, code-in a (inr h))
 
 -- the diagonals of bends
-abbrev pub edgesIn : List ℕ → List Edge
-edgesIn bs = edgesOf (keysIn bs)
+abbrev pub bendEdges : List ℕ → List Edge
+bendEdges bs = edgesOf (keysIn bs)
 
-abbrev pub edgeIn : ℕ → Edge
-edgeIn b = edgeOf (keyIn b)
+abbrev pub bendEdge : ℕ → Edge
+bendEdge b = edgeOf (keyIn b)
 
-pub mem-edge : {b : ℕ} {bs : List ℕ} → Mem b bs → Mem (edgeIn b) (edgesIn bs)
+pub mem-edge : {b : ℕ} {bs : List ℕ} → Mem b bs → Mem (bendEdge b) (bendEdges bs)
 mem-edge m = mem-map edgeOf (mem-map keyIn m)
 
 -- among bends of different diagonals each has its own angle
-angle-own : {bs : List ℕ} (b : ℕ) → Distinct (edgesIn bs) → Mem b bs → angleOf (edgesIn bs) (anglesIn bs) (edgeIn b) ≡ angleIn b
+angle-own : {bs : List ℕ} (b : ℕ) → Distinct (bendEdges bs) → Mem b bs → angleOf (bendEdges bs) (anglesIn bs) (bendEdge b) ≡ angleIn b
 angle-own {bs = []} b d m = absurd (not-empty m)
-angle-own {bs = c ∷ bs} b (sorted-cons o d) (head e) = angle-here (edgeIn c) (edgesIn bs) (angleIn c) (anglesIn bs) (edgeIn b) (ap edgeIn (sym e)) ∙ ap angleIn (sym e)
+angle-own {bs = c ∷ bs} b (sorted-cons o d) (head e) = angle-here (bendEdge c) (bendEdges bs) (angleIn c) (anglesIn bs) (bendEdge b) (ap bendEdge (sym e)) ∙ ap angleIn (sym e)
 angle-own {bs = c ∷ bs} b (sorted-cons o d) (tail m) =
-    angle-there (edgeIn c) (edgesIn bs) (angleIn c) (anglesIn bs) (edgeIn b) (λ q. all-mem o (mem-edge m) (sym q)) ∙ angle-own b d m
+    angle-there (bendEdge c) (bendEdges bs) (angleIn c) (anglesIn bs) (bendEdge b) (λ q. all-mem o (mem-edge m) (sym q)) ∙ angle-own b d m
 
 -- a bend that comes from the bends bs: it is one of them, or its diagonal is new and its angle 0
 abbrev pub ComesFrom : List ℕ → ℕ → Type 0
-ComesFrom bs b = Mem b bs ⊎ ((angleIn b ≡ 0) × (¬ Mem (edgeIn b) (edgesIn bs)))
+ComesFrom bs b = Mem b bs ⊎ ((angleIn b ≡ 0) × (¬ Mem (bendEdge b) (bendEdges bs)))
 
 -- Bends that all come from others have the angles that those have, and 0.
-pub carry : (bs : List ℕ) {cs : List ℕ} → Distinct (edgesIn bs) → All (ComesFrom bs) cs → anglesIn cs ≡ map (angleOf (edgesIn bs) (anglesIn bs)) (edgesIn cs)
+pub carry : (bs : List ℕ) {cs : List ℕ} → Distinct (bendEdges bs) → All (ComesFrom bs) cs → anglesIn cs ≡ map (angleOf (bendEdges bs) (anglesIn bs)) (bendEdges cs)
 carry bs d all-nil = refl
 carry bs d (all-cons {x} (inl m) a) = ap₂ _∷_ (sym (angle-own x d m)) (carry bs d a)
-carry bs d (all-cons {x} (inr (z, f)) a) = ap₂ _∷_ (z ∙ sym (angle-unlisted (edgesIn bs) (anglesIn bs) (edgeIn x) f)) (carry bs d a)
+carry bs d (all-cons {x} (inr (z, f)) a) = ap₂ _∷_ (z ∙ sym (angle-unlisted (bendEdges bs) (anglesIn bs) (bendEdge x) f)) (carry bs d a)

@@ -2,7 +2,7 @@
 use mathlib.Core.Path.{_≡_, refl}
 use Rattle.polygon.specs.Polygon.{Polygon, bare}
 use Rattle.sheet.specs.Sheet.{Reading, refused, held}
-use Rattle.sheet.specs.Held.{bared}
+use Rattle.sheet.proofs.Hand.{bared}
 use Rattle.umbrella.specs.Best.{planOf}
 use Rattle.plan.specs.Answer.{countsOf, answer}
 

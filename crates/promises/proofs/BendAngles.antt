@@ -12,10 +12,9 @@ use Rattle.polygon.specs.Carried.{carried}
 use Rattle.polygon.proofs.Angles.{angle-none}
 use Rattle.codec.specs.Numbers.{get16}
 use Rattle.codec.specs.Answer.{write}
-use Rattle.codec.specs.TwoOutputs.{writtenBoth}
 use Rattle.sheet.specs.Sheet.{bit3, Reading, refused, held, listedAngles, angled, readSheet, normalSheet, outcome, ordered}
 use Rattle.sheet.specs.Listing.{pairsOf}
-use Rattle.sheet.specs.Held.{bared}
+use Rattle.sheet.proofs.Hand.{bared}
 use Rattle.sheet.proofs.Asks.{refused-1c, refused-by-23}
 use Rattle.sheet.proofs.Accepts.{read-angles, read-bit, same-normal}
 use Rattle.sheet.proofs.Back.{normal-bit, normal-count}
@@ -24,16 +23,12 @@ use Rattle.sheet.proofs.Valid.{read-valid}
 use Rattle.edit.specs.Rules.{Edit, rule}
 use Rattle.edit.specs.Calls.{onHeld, edited}
 use Rattle.edit.proofs.Theorems.{turn-angles, add-angles, off-angles, result-angled}
-use Rattle.plan.specs.Answer.{answer, planned}
-use Rattle.plan.proofs.Bare.{answer-bare}
-use Rattle.draw.specs.Answer.{charted, drawn, chartedBoth, drawnWithBars}
-use Rattle.draw.specs.Printed.{printedOf, printed}
-use Rattle.draw.specs.Program.{output, outputOf}
-use Rattle.draw.proofs.Bare.{charted-bare, both-bare, printed-bare, output-bare}
 use Rattle.chart_reader.specs.Reader.{readChart, chartRead}
 use Rattle.chart_reader.proofs.Verdict.{by-reading}
 use Rattle.chart_reader.proofs.Accepts.{held-keeps}
-use Rattle.promises.specs.BendAngles.{Bit3, SameDrawing, BendAngles}
+use Rattle.promises.specs.SameDrawing.{SameDrawing}
+use Rattle.promises.specs.BendAngles.{Bit3, BendAngles}
+use Rattle.promises.proofs.SameDrawing.{drawn-alike}
 
 -- what is written is the normal sheet of the part that a reading holds
 wrote : {A : Type 0} (r : Reading) (t : List ℕ) → outcome r ≡ write t → ((p : Polygon) → r ≡ held p → normalSheet p ≡ t → A) → A
@@ -76,18 +71,8 @@ moves s t p q d e f g h = ap outcome d ∙ (ap write (same-normal s t p q d e f 
 
 -- of two sheets that hold parts which differ in angles only
 same-drawing : (s t : List ℕ) (p q : Polygon) → readSheet s ≡ held p → readSheet t ≡ held q → p .n ≡ q .n → p .ds ≡ q .ds → SameDrawing s t
-unfolding planned drawn drawnWithBars printed output bared
-same-drawing s t p q d e n ds =
-    let r : Reading = readSheet s in
-    let u : Reading = readSheet t in
-    let b : bared r ≡ bared u = ap bared d ∙ ((λ i. held (record { n = n i; ds = ds i; angles = none })) ∙ sym (ap bared e)) in
-    record {
-      plan = sym (answer-bare r) ∙ (ap answer b ∙ answer-bare u);
-      draw = sym (charted-bare r) ∙ (ap charted b ∙ charted-bare u);
-      draw-bars = λ out bars. ap (λ o. writtenBoth o out bars) (sym (both-bare r) ∙ (ap chartedBoth b ∙ both-bare u));
-      log = sym (printed-bare r) ∙ (ap printedOf b ∙ printed-bare u);
-      program = λ chart text. sym (output-bare r chart text) ∙ (ap (λ (x : Reading). outputOf x chart text) b ∙ output-bare u chart text);
-    }
+unfolding bared
+same-drawing s t p q d e n ds = drawn-alike s t (ap bared d ∙ ((λ i. held (record { n = n i; ds = ds i; angles = none })) ∙ sym (ap bared e)))
 
 pub bend-angles : BendAngles
 bend-angles = record {

@@ -3,5 +3,6 @@ pub mod Known
 pub mod DemandTwo
 pub mod DemandOne
 pub mod Runs
+pub mod SameDrawing
 pub mod PartNumbers
 pub mod BendAngles

@@ -7,8 +7,8 @@ use native.Mathlib.Decide.{ℕ-discrete}
 use Rattle.lists.specs.Lists.{choose}
 use Rattle.polygon.specs.Polygon.{Polygon}
 use Rattle.codec.specs.Answer.{Answer}
-use Rattle.codec.specs.TwoOutputs.{writtenBoth}
 use Rattle.sheet.specs.Sheet.{Reading, refused, held, readSheet, normalSheet, outcome, ordered}
+use Rattle.sheet.proofs.Hand.{bared}
 use Rattle.sheet.proofs.Normal.{map-byte}
 use Rattle.sheet.proofs.Back.{normal-map}
 use Rattle.sheet.proofs.Skipped.{skips, same-reading, only-there}
@@ -16,12 +16,9 @@ use Rattle.edit.specs.Rules.{rule}
 use Rattle.edit.specs.Model.{left, chosen, modelSheet}
 use Rattle.edit.specs.Calls.{onHeld, edited, Call, called, lent, sheetAfter, answers, sheetLeft}
 use Rattle.edit.proofs.List.{list-of-edits}
-use Rattle.plan.specs.Answer.{answer, planned}
 use Rattle.log_line.specs.Line.{line}
-use Rattle.draw.specs.Answer.{charted, drawn, chartedBoth, drawnWithBars}
-use Rattle.draw.specs.Printed.{printedOf, printed}
-use Rattle.draw.specs.Program.{output, outputOf}
 use Rattle.chart_reader.specs.Reader.{readChart, chartRead}
+use Rattle.promises.proofs.SameDrawing.{drawn-alike}
 use Rattle.promises.proofs.Runs.{alike-called, run-alike}
 use Rattle.promises.specs.PartNumbers.{NoBit2, WritesNone, SameAnswers, LeftBy, PartNumbersGo}
 
@@ -52,15 +49,11 @@ alike-list (c ∷ cs) s t e =
 
 -- what is read of a sheet settles every answer
 alike-answers : (s t : List ℕ) → readSheet s ≡ readSheet t → SameAnswers s t
-unfolding ordered edited planned drawn drawnWithBars printed output
+unfolding ordered edited
 alike-answers s t e = record {
   order = ap outcome e;
   edit = λ x. ap (λ (r : Reading). outcome (onHeld r (rule x))) e;
-  plan = ap answer e;
-  draw = ap charted e;
-  draw-bars = λ out bars. ap (λ (r : Reading). writtenBoth (chartedBoth r) out bars) e;
-  log = ap printedOf e;
-  program = λ chart text. ap (λ (r : Reading). outputOf r chart text) e;
+  drawing = drawn-alike s t (ap bared e);
   run = run-alike s t e;
   numbers = λ cs. alike-list cs s t e .0;
   left = λ cs. alike-list cs s t e .1;

@@ -17,12 +17,8 @@ use Rattle.sheet.specs.Listing.{pairsOf}
 use Rattle.sheet.specs.Framed.{Paired}
 use Rattle.edit.specs.Rules.{Edit, addEar, removeEar, flip, up, down, both, entering, neighbours, rule}
 use Rattle.edit.specs.Calls.{edited}
-use Rattle.plan.specs.Answer.{planned}
-use Rattle.chart.specs.Chart.{Bar}
-use Rattle.draw.specs.Answer.{drawn, drawnWithBars}
-use Rattle.draw.specs.Printed.{printed}
-use Rattle.draw.specs.Program.{output}
 use Rattle.chart_reader.specs.Reader.{chartRead}
+use Rattle.promises.specs.SameDrawing.{SameDrawing}
 
 -- bit 3 of the map byte stands
 abbrev pub Bit3 : List ℕ → Type 0
@@ -31,14 +27,6 @@ Bit3 s = bit3 (getD s 0 0) ≡ 1
 -- the part has angles
 abbrev pub Angled : Polygon → Type 0
 Angled p = angled (p .angles) ≡ 1
-
--- what is planned, drawn and printed of two sheets is the same, whatever is lent
-pub record SameDrawing (s t : List ℕ) : Type 0 where
-  pub plan : planned s ≡ planned t
-  pub draw : drawn s ≡ drawn t
-  pub draw-bars : (out : List ℕ) (bars : List Bar) → drawnWithBars s out bars ≡ drawnWithBars t out bars
-  pub log : printed s ≡ printed t
-  pub program : (chart text : List ℕ) → output s chart text ≡ output t chart text
 
 pub record BendAngles : Type 0 where
   -- "bit 3 stands for signed angles, .., one for each pair in the listed order;": of a sheet that holds p, it stands exactly if p has angles, and each diagonal has the angle that is listed with it

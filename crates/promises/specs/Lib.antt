@@ -2,6 +2,7 @@
 pub mod DemandOne
 pub mod DemandTwo
 pub mod DemandThree
+pub mod SameDrawing
 pub mod PartNumbers
 pub mod BendAngles
 pub mod Known

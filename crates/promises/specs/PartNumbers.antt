@@ -13,14 +13,10 @@ use Rattle.edit.specs.Rules.{Edit}
 use Rattle.edit.specs.Model.{taken}
 use Rattle.edit.specs.Calls.{edited, Call, lent, answers, sheetLeft}
 use Rattle.edit_list.specs.Result.{Result, resultOf, packedRun}
-use Rattle.plan.specs.Answer.{planned}
-use Rattle.chart.specs.Chart.{Bar}
 use Rattle.log_line.specs.declared.Facts.{Facts}
 use Rattle.log_line.specs.Line.{line}
-use Rattle.draw.specs.Answer.{drawn, drawnWithBars}
-use Rattle.draw.specs.Printed.{printed}
-use Rattle.draw.specs.Program.{output}
 use Rattle.chart_reader.specs.Reader.{chartRead}
+use Rattle.promises.specs.SameDrawing.{SameDrawing}
 
 -- bit 2 of the map byte does not stand in the sheet; in what an operation writes, if it is not refused
 abbrev pub NoBit2 : List ℕ → Type 0
@@ -43,11 +39,7 @@ pub record SameRun (r q : Result) : Type 0 where
 pub record SameAnswers (s t : List ℕ) : Type 0 where
   pub order : ordered s ≡ ordered t
   pub edit : (e : Edit) → edited e s ≡ edited e t
-  pub plan : planned s ≡ planned t
-  pub draw : drawn s ≡ drawn t
-  pub draw-bars : (out : List ℕ) (bars : List Bar) → drawnWithBars s out bars ≡ drawnWithBars t out bars
-  pub log : printed s ≡ printed t
-  pub program : (chart text : List ℕ) → output s chart text ≡ output t chart text
+  pub drawing : SameDrawing s t
   pub run : (list front back outs : List ℕ) → SameRun (resultOf s list front back outs) (resultOf t list front back outs)
   pub numbers : (cs : List Call) → answers s cs ≡ answers t cs
   pub left : (cs : List Call) → readSheet (sheetLeft s cs) ≡ readSheet (sheetLeft t cs)

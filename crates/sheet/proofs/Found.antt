@@ -24,7 +24,7 @@ use Rattle.sheet.specs.declared.Read.{Read}
 use Rattle.sheet.specs.declared.Read.the-variants.{Refused, Held}
 use Rattle.sheet.specs.Sheet.{refused, held, bit3, field, anglesAt, angles, listedAngles, readSheet, pairs}
 use Rattle.sheet.specs.Framed.{Paired}
-use Rattle.sheet.specs.Held.{bit, anglesBy, partOf, HeadOf, HeadSays, ReadsBent, gives-bent, KeysOf, BendsRead, CodesAllowed}
+use Rattle.sheet.specs.Held.{bit, anglesBy, partOf, HeadOf, HeadSays, ReadsBent, gives, KeysOf, BendsRead, CodesAllowed}
 use Rattle.sheet.proofs.Asks.{refused-5, refused-6, refused-7, refused-23, form-held, edgesIn, partIn}
 use Rattle.sheet.proofs.Fields.{length-is, angles-at}
 use Rattle.sheet.proofs.Normal.{angles-count}
@@ -185,4 +185,4 @@ module _ {s : List ℕ} {h : Head} {bs o k : List ℕ} (F : Ordered s h bs o k) 
           is = form-held (record { paired = paired; allowed = rw (F .head .corners) at (fit-angles (F .head) (F .listed) C) }) ∙ ap held same
 
           pub read : ReadsBent (readSheet s) (Held h) table
-          read = gives-bent is (record { valid = read-valid s _ is; room = table-long })
+          read = gives is (record { valid = read-valid s _ is; room = table-long })

@@ -7,7 +7,7 @@ use native.Mathlib.Omega.{arith}
 use lib.ListN.{length, take}
 use lib.Seq.{length-take-le}
 use Rattle.polygon.specs.Angles.{none}
-use Rattle.polygon.specs.Polygon.{bare}
+use Rattle.polygon.specs.Polygon.{Polygon, bare}
 use Rattle.polygon.proofs.Reading.{bare-valid}
 use Rattle.keys.specs.Keys.{edgesOf, keysIn, flatBend}
 use Rattle.keys.proofs.InOrder.{edges-at}
@@ -15,48 +15,35 @@ use Rattle.sheet.specs.declared.Head.{Head}
 use Rattle.sheet.specs.declared.Read.{Read}
 use Rattle.sheet.specs.declared.Read.the-variants.{Refused, Held}
 use Rattle.sheet.specs.Sheet.{Reading, refused, held}
-use Rattle.sheet.specs.Held.{anglesBy, polygonOf, SmallKeys, InHand, Reads, refuses, gives, partOf, BentInHand, ReadsBent, refuses-bent, gives-bent, KeysOf, KeysSay, bared}
+use Rattle.sheet.specs.Held.{anglesBy, polygonOf, partOf, InHandAs, ReadsAs, refuses, gives, InHand, Reads, BentInHand, ReadsBent, SmallKeys, KeysOf, KeysSay}
 
 -- the reading in each case of the code's answer
-abbrev pub readOf : Read → List ℕ → Reading
-readOf (Refused k) ks = refused k
-readOf (Held h) ks = held (polygonOf h ks)
-
-abbrev pub bentOf : Read → List ℕ → Reading
-bentOf (Refused k) bs = refused k
-bentOf (Held h) bs = held (partOf h bs)
+abbrev pub readOf : (Head → List ℕ → Polygon) → Read → List ℕ → Reading
+readOf of (Refused k) xs = refused k
+readOf of (Held h) xs = held (of h xs)
 
 -- What is worked out of a reading, in the case x of the code's answer.
-pub read-is : {A : Type 0} {q : Reading} {r x : Read} {ks : List ℕ} (f : Reading → A) → Reads q r ks → r ≡ x → f (readOf x ks) ≡ f q
-read-is {A} {q} {r} {x} {ks} f R e = ap f (sym (go (rw e at R)))
+pub read-is : {A : Type 0} {of : Head → List ℕ → Polygon} {q : Reading} {r x : Read} {xs : List ℕ} (f : Reading → A) → ReadsAs of q r xs → r ≡ x → f (readOf of x xs) ≡ f q
+read-is {A} {of} {q} {r} {x} {xs} f R e = ap f (sym (go (rw e at R)))
   where
-    go : {y : Read} → Reads q y ks → q ≡ readOf y ks
+    go : {y : Read} → ReadsAs of q y xs → q ≡ readOf of y xs
     go (refuses p) = p
     go (gives p P) = p
 
-pub in-hand : {q : Reading} {r : Read} {h : Head} {ks : List ℕ} → Reads q r ks → r ≡ Held h → InHand h ks
-in-hand {q} {r} {h} {ks} R e = go (rw e at R)
+pub in-hand : {of : Head → List ℕ → Polygon} {q : Reading} {r : Read} {h : Head} {xs : List ℕ} → ReadsAs of q r xs → r ≡ Held h → InHandAs of h xs
+in-hand {of} {q} {r} {h} {xs} R e = go (rw e at R)
   where
-    go : Reads q (Held h) ks → InHand h ks
+    go : ReadsAs of q (Held h) xs → InHandAs of h xs
     go (gives p P) = P
-
--- the same of a part with angles
-pub bent-is : {A : Type 0} {q : Reading} {r x : Read} {bs : List ℕ} (f : Reading → A) → ReadsBent q r bs → r ≡ x → f (bentOf x bs) ≡ f q
-bent-is {A} {q} {r} {x} {bs} f R e = ap f (sym (go (rw e at R)))
-  where
-    go : {y : Read} → ReadsBent q y bs → q ≡ bentOf y bs
-    go (refuses-bent p) = p
-    go (gives-bent p P) = p
-
-pub bent-in-hand : {q : Reading} {r : Read} {h : Head} {bs : List ℕ} → ReadsBent q r bs → r ≡ Held h → BentInHand h bs
-bent-in-hand {q} {r} {h} {bs} R e = go (rw e at R)
-  where
-    go : ReadsBent q (Held h) bs → BentInHand h bs
-    go (gives-bent p P) = P
 
 -- its keys, which stand in a second table
 pub keys-of : {r : Read} {h : Head} {bs ks : List ℕ} → KeysSay r bs ks → r ≡ Held h → KeysOf h bs ks
 keys-of K e = rw e at K
+
+-- what is read of a sheet by one who does not ask for angles
+unfoldable pub bared : Reading → Reading
+bared (refused k) = refused k
+bared (held p) = held (bare p)
 
 -- A part with angles is in hand without them, by its keys; and so is one that was read.
 module _ {h : Head} {bs ks : List ℕ} (P : BentInHand h bs) (K : KeysOf h bs ks) where
@@ -68,27 +55,22 @@ module _ {h : Head} {bs ks : List ℕ} (P : BentInHand h bs) (K : KeysOf h bs ks
 
 pub plainly : {q : Reading} {r : Read} {bs ks : List ℕ} → ReadsBent q r bs → KeysSay r bs ks → Reads (bared q) r ks
 unfolding bared
-plainly (refuses-bent p) K = refuses (ap bared p)
-plainly (gives-bent p P) K = gives (ap bared p ∙ ap held (plain-same P K)) (plain-in-hand P K)
+plainly (refuses p) K = refuses (ap bared p)
+plainly (gives p P) K = gives (ap bared p ∙ ap held (plain-same P K)) (plain-in-hand P K)
+
+-- the keys or bends lie in the table
+front-count : (n : ℕ) (xs : List ℕ) → n ≤ 1024 → 1021 ≤ length xs → length (take (n - 3) xs) ≡ n - 3
+front-count n xs most room = length-take-le (n - 3) xs (omega arith)
 
 module _ {h : Head} {ks : List ℕ} (P : InHand h ks) where
-  -- the keys lie in the table
-  pub keys-lie : h .n - 3 ≤ length ks
-  keys-lie = omega (arith, P .room, P .valid .most)
-
   pub keys-count : length (take (h .n - 3) ks) ≡ h .n - 3
-  keys-count = length-take-le (h .n - 3) ks keys-lie
+  keys-count = front-count (h .n) ks (P .valid .most) (P .room)
 
   pub keys-small : SmallKeys (take (h .n - 3) ks)
   keys-small j i = let d = edges-at (take (h .n - 3) ks) (P .valid .triangulated .diagonals) j i in omega (arith, d .forth, d .corner, P .valid .most)
 
-module _ {h : Head} {bs : List ℕ} (P : BentInHand h bs) where
-  -- the bends lie in the table
-  pub bends-lie : h .n - 3 ≤ length bs
-  bends-lie = omega (arith, P .room, P .valid .most)
-
-  pub bends-count : length (take (h .n - 3) bs) ≡ h .n - 3
-  bends-count = length-take-le (h .n - 3) bs bends-lie
+pub bends-count : {h : Head} {bs : List ℕ} → BentInHand h bs → length (take (h .n - 3) bs) ≡ h .n - 3
+bends-count {h} {bs} P = front-count (h .n) bs (P .valid .most) (P .room)
 
 -- the keys of flat bends
 flat-keys : (ks : List ℕ) → keysIn (map flatBend ks) ≡ ks

@@ -5,7 +5,7 @@ use mathlib.Core.List.{List, map}
 use Prim.Native.Nat.{ℕ, _+_, _*_, _-_, _%_, _≤_, _<_}
 use lib.ListN.{length, take, getD}
 use Rattle.polygon.specs.Angles.{Angles, none, each}
-use Rattle.polygon.specs.Polygon.{Edge, Diagonal, Polygon, bare, Valid}
+use Rattle.polygon.specs.Polygon.{Edge, Diagonal, Polygon, Valid}
 use Rattle.polygon.specs.Order.{lower-first}
 use Rattle.codec.specs.Numbers.{get16}
 use Rattle.lists.specs.Lists.{All}
@@ -20,32 +20,37 @@ use Rattle.sheet.specs.Framed.{Framed}
 abbrev pub polygonOf : Head → List ℕ → Polygon
 polygonOf h ks = record { n = h .n; ds = edgesOf (take (h .n - 3) ks); angles = none }
 
--- such a part in the code's hands: valid, in a table with room for the keys of any part
-pub record InHand (h : Head) (ks : List ℕ) : Type 0 where
-  pub valid : Valid (polygonOf h ks)
-  pub room : 1021 ≤ length ks
-
--- what the code's answer says of the reading q: refused by the same number, or the part in hand
-pub data Reads (q : Reading) : Read → List ℕ → Type 0 where
-  refuses : {k : ℕ} {ks : List ℕ} → q ≡ refused k → Reads q (Refused k) ks
-  gives : {h : Head} {ks : List ℕ} → q ≡ held (polygonOf h ks) → InHand h ks → Reads q (Held h) ks
-
 -- the angles beside the keys of bends, if the head says that there are any
 abbrev pub anglesBy : Bool → List ℕ → Angles
 anglesBy true bs = each (anglesIn bs)
 anglesBy false bs = none
 
--- the same with angles: the part of a head and a table that begins with the bends of its diagonals
+-- the part of a head and a table that begins with the bends of its diagonals
 abbrev pub partOf : Head → List ℕ → Polygon
 partOf h bs = record { n = h .n; ds = edgesOf (keysIn (take (h .n - 3) bs)); angles = anglesBy (h .angled) (take (h .n - 3) bs) }
 
-pub record BentInHand (h : Head) (bs : List ℕ) : Type 0 where
-  pub valid : Valid (partOf h bs)
-  pub room : 1021 ≤ length bs
+-- a part in the code's hands, of its head and its table xs: valid, in a table with room for any part
+pub record InHandAs (of : Head → List ℕ → Polygon) (h : Head) (xs : List ℕ) : Type 0 where
+  pub valid : Valid (of h xs)
+  pub room : 1021 ≤ length xs
 
-pub data ReadsBent (q : Reading) : Read → List ℕ → Type 0 where
-  refuses-bent : {k : ℕ} {bs : List ℕ} → q ≡ refused k → ReadsBent q (Refused k) bs
-  gives-bent : {h : Head} {bs : List ℕ} → q ≡ held (partOf h bs) → BentInHand h bs → ReadsBent q (Held h) bs
+-- what the code's answer says of the reading q: refused by the same number, or the part in hand
+pub data ReadsAs (of : Head → List ℕ → Polygon) (q : Reading) : Read → List ℕ → Type 0 where
+  refuses : {k : ℕ} {xs : List ℕ} → q ≡ refused k → ReadsAs of q (Refused k) xs
+  gives : {h : Head} {xs : List ℕ} → q ≡ held (of h xs) → InHandAs of h xs → ReadsAs of q (Held h) xs
+
+-- both by keys, without angles; and by bends
+abbrev pub InHand : Head → List ℕ → Type 0
+InHand = InHandAs polygonOf
+
+abbrev pub Reads : Reading → Read → List ℕ → Type 0
+Reads = ReadsAs polygonOf
+
+abbrev pub BentInHand : Head → List ℕ → Type 0
+BentInHand = InHandAs partOf
+
+abbrev pub ReadsBent : Reading → Read → List ℕ → Type 0
+ReadsBent = ReadsAs partOf
 
 -- the keys of a part's bends stand at the start of a second table
 pub record KeysOf (h : Head) (bs ks : List ℕ) : Type 0 where
@@ -55,11 +60,6 @@ pub record KeysOf (h : Head) (bs ks : List ℕ) : Type 0 where
 abbrev pub KeysSay : Read → List ℕ → List ℕ → Type 0
 KeysSay (Refused k) bs ks = Unit {0}
 KeysSay (Held h) bs ks = KeysOf h bs ks
-
--- what is read of a sheet by one who does not ask for angles
-unfoldable pub bared : Reading → Reading
-bared (refused k) = refused k
-bared (held p) = held (bare p)
 
 -- the keys are of edges whose corners are below 1,024
 abbrev pub SmallKeys : List ℕ → Type 0

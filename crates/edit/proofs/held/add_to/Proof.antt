@@ -5,7 +5,7 @@ use borrow.Author.Needs.{needs}
 use native.Mathlib.Omega.{arith}
 use lib.ListN.{length, take}
 use lib.Seq.{length-take-le}
-use Rattle.sheet.specs.Held.{refuses-bent}
+use Rattle.sheet.specs.Held.{refuses}
 use Rattle.sheet.proofs.Hand.{bends-count}
 use Rattle.edit.proofs.Adding.{add-outside, add-full, can-rise, added}
 use Rattle.edit.proofs.held.add_to.Statement.{statement}
@@ -16,10 +16,10 @@ moved-count : (c : tie.After-renumber) → length (take (c .before .before .befo
 moved-count c = length-take-le _ (c .renumber .last .1 .1 .0) (omega (arith, c .renumber .kept .1 .1 .0, c .before .before .before .before .before .before .pre .valid .most))
 
 returns : tie.Need-returns
-returns c = refuses-bent (add-outside (c .before .before .pre) (c .before .before .args .side) (omega arith))
+returns c = refuses (add-outside (c .before .before .pre) (c .before .before .args .side) (omega arith))
 
 returns-2 : tie.Need-returns-2
-returns-2 c = refuses-bent (add-full (c .before .before .before .pre) (c .before .before .before .args .side) (omega arith) (c .if2 .taken))
+returns-2 c = refuses (add-full (c .before .before .before .pre) (c .before .before .before .args .side) (omega arith) (c .if2 .taken))
 
 slice-aggregate-renumber : tie.Need-slice-aggregate-renumber
 slice-aggregate-renumber c = sym (bends-count (c .before .before .before .before .pre))

@@ -1,17 +1,17 @@
 -- The lower corner goes first.
 use borrow.Author.Needs.{needs}
 use native.Mathlib.Omega.{arith}
-use Rattle.sheet.specs.Held.{partOf, refuses-bent}
+use Rattle.sheet.specs.Held.{partOf, refuses}
 use Rattle.edit.proofs.Reading.{flip-either}
 use Rattle.edit.proofs.Turning.{turn-outside}
 use Rattle.edit.proofs.held.flip_in.Statement.{statement}
 use Rattle.edit.proofs.held.flip_in.Tie as tie
 
 returns : tie.Need-returns
-returns c = refuses-bent (turn-outside (c .before .before .before .pre .0) (c .before .before .before .args .a) (c .before .before .before .args .b) (λ t. omega arith))
+returns c = refuses (turn-outside (c .before .before .before .pre .0) (c .before .before .before .args .a) (c .before .before .before .args .b) (λ t. omega arith))
 
 returns-2 : tie.Need-returns-2
-returns-2 c = refuses-bent (turn-outside (c .before .before .before .before .pre .0) (c .before .before .before .before .args .a) (c .before .before .before .before .args .b) (λ t. omega arith))
+returns-2 c = refuses (turn-outside (c .before .before .before .before .pre .0) (c .before .before .before .before .args .a) (c .before .before .before .before .args .b) (λ t. omega arith))
 
 returns-4 : tie.Need-returns-4
 returns-4 c =

@@ -4,7 +4,7 @@ use borrow.Author.Needs.{needs}
 use borrow.Author.Tests.{not-true, not-false}
 use native.Mathlib.Omega.{arith}
 use lib.ListN.{length, take}
-use Rattle.sheet.specs.Held.{partOf, refuses-bent}
+use Rattle.sheet.specs.Held.{partOf, refuses}
 use Rattle.sheet.proofs.Hand.{keys-count, bends-count, plain-in-hand}
 use Rattle.edit.specs.Rules.{removeEar, neighbours}
 use Rattle.edit.proofs.Rule.{Takes}
@@ -31,10 +31,10 @@ count : (c : tie.After-remove) → c .remove .result ≡ length (take (c .remove
 count c = c .remove .ensures .1 ∙ ap length (sym (c .remove .ensures .0))
 
 returns : tie.Need-returns
-returns c = refuses-bent (remove-outside (c .before .before .before .pre .0) (c .before .before .before .args .corner) (omega arith))
+returns c = refuses (remove-outside (c .before .before .before .pre .0) (c .before .before .before .args .corner) (omega arith))
 
 returns-2 : tie.Need-returns-2
-returns-2 c = refuses-bent (remove-triangle (c .before .before .before .before .pre .0) (c .before .before .before .before .args .corner) (omega arith) (c .if2 .taken))
+returns-2 c = refuses (remove-triangle (c .before .before .before .before .pre .0) (c .before .before .before .before .args .corner) (omega arith) (c .if2 .taken))
 
 slice-aggregate-is-ear : tie.Need-slice-aggregate-is-ear
 slice-aggregate-is-ear c = let P = c .before .before .before .before .before .pre in sym (keys-count (plain-in-hand (P .0) (P .1)))
@@ -42,7 +42,7 @@ slice-aggregate-is-ear c = let P = c .before .before .before .before .before .pr
 returns-3 : tie.Need-returns-3
 returns-3 c =
     let s = c .before .before .before .before .before .before .before in
-    refuses-bent (remove-no-ear (s .pre .0) (s .args .corner) (omega arith) (c .before .before .before .if2 .left) (λ a. c .before .is-ear .ensures .1 (not-true _ (c .if3 .taken)) (rw (s .pre .1 .same) a)))
+    refuses (remove-no-ear (s .pre .0) (s .args .corner) (omega arith) (c .before .before .before .if2 .left) (λ a. c .before .is-ear .ensures .1 (not-true _ (c .if3 .taken)) (rw (s .pre .1 .same) a)))
 
 slice-aggregate-remove : tie.Need-slice-aggregate-remove
 slice-aggregate-remove c = sym (bends-count (c .before .before .before .before .before .before .before .before .before .before .pre .0))

@@ -5,7 +5,7 @@ use borrow.Author.Tests.{not-true, not-false}
 use native.Mathlib.Omega.{arith}
 use lib.ListN.{length, take}
 use Rattle.polygon.specs.Polygon.{_—_}
-use Rattle.sheet.specs.Held.{refuses-bent}
+use Rattle.sheet.specs.Held.{refuses}
 use Rattle.sheet.proofs.Hand.{keys-count, keys-small, bends-count, plain-in-hand}
 use Rattle.edit.proofs.InHand.{Without}
 use Rattle.edit.proofs.Turning.{turn-lacks, turn-out, flipped-over}
@@ -31,7 +31,7 @@ slice-aggregate-has c = let P = c .before .before .before .before .pre .0 in sym
 returns : tie.Need-returns
 returns c =
     let s = c .before .before .before .before .before .before in
-    refuses-bent (turn-lacks (s .pre .0 .0) (s .args .a) (s .args .b) (s .pre .1 .0) (s .pre .1 .1) (c .before .before .before .key .ensures) (λ m. c .before .has .ensures .1 (not-true _ (c .if1 .taken)) (rw (s .pre .0 .1 .same) m)))
+    refuses (turn-lacks (s .pre .0 .0) (s .args .a) (s .args .b) (s .pre .1 .0) (s .pre .1 .1) (c .before .before .before .key .ensures) (λ m. c .before .has .ensures .1 (not-true _ (c .if1 .taken)) (rw (s .pre .0 .1 .same) m)))
 
 slice-aggregate-turned-key : tie.Need-slice-aggregate-turned-key
 slice-aggregate-turned-key c = let P = c .before .before .before .before .before .before .before .pre .0 in sym (keys-count (plain-in-hand (P .0) (P .1)))

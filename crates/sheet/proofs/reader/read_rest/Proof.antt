@@ -5,7 +5,7 @@ use borrow.Author.Needs.{needs}
 use borrow.Author.Tests.{not-true, not-false}
 use native.Mathlib.Omega.{arith}
 use lib.Seq.{length-take-le}
-use Rattle.sheet.specs.Held.{refuses-bent}
+use Rattle.sheet.specs.Held.{refuses}
 use Rattle.sheet.proofs.Found.{small-all, room, no-diagonals, Ordered, first-count, repeated, in-order, crossing, forbidden, read, keys-said}
 use Rattle.sheet.proofs.reader.read_rest.Statement.{statement}
 use Rattle.sheet.proofs.reader.read_rest.Tie as tie
@@ -31,7 +31,7 @@ read-bends-requires : tie.Need-read-bends-requires
 read-bends-requires c κs = let R = room (c .before .before .before .before .pre .0) in omega arith
 
 returns : tie.Need-returns
-returns c = (refuses-bent (no-diagonals (c .before .before .before .before .before .before .before .before .pre .0) (c .before .before .before .read-bends .ensures .1 (not-true _ (c .if1 .taken)))), tt)
+returns c = (refuses (no-diagonals (c .before .before .before .before .before .before .before .before .pre .0) (c .before .before .before .read-bends .ensures .1 (not-true _ (c .if1 .taken)))), tt)
 
 slice-aggregate-allowed : tie.Need-slice-aggregate-allowed
 slice-aggregate-allowed c =
@@ -66,7 +66,7 @@ order-requires c κs =
 returns-2 : tie.Need-returns-2
 returns-2 c =
     let at-order = c .before .before .before .before .before in
-    (refuses-bent (repeated (ordered at-order) (sym (not-true _ (c .if2 .taken)) ∙ at-order .order .ensures .1 .1 .1)), tt)
+    (refuses (repeated (ordered at-order) (sym (not-true _ (c .if2 .taken)) ∙ at-order .order .ensures .1 .1 .1)), tt)
 
 slice-aggregate-crosses : tie.Need-slice-aggregate-crosses
 slice-aggregate-crosses c = let at-order = c .before .before .before .before .before .before in sym (first-count (ordered at-order) (start at-order .args .keys .now))
@@ -84,7 +84,7 @@ returns-3 c =
     let at-if2 = c .before .before .before in
     let at-order = at-if2 .before .before .before .before .before in
     let up = sym (not-false _ (at-if2 .if2 .left)) ∙ at-order .order .ensures .1 .1 .1 in
-    (refuses-bent (crossing (ordered at-order) (start at-order .args .keys .now) up (c .before .crosses .ensures .1 (c .if3 .taken))), tt)
+    (refuses (crossing (ordered at-order) (start at-order .args .keys .now) up (c .before .crosses .ensures .1 (c .if3 .taken))), tt)
 
 returns-4 : tie.Need-returns-4
 returns-4 c =
@@ -92,7 +92,7 @@ returns-4 c =
     let at-order = at-if2 .before .before .before .before .before in
     let up = sym (not-false _ (at-if2 .if2 .left)) ∙ at-order .order .ensures .1 .1 .1 in
     let free = c .before .before .crosses .ensures .0 (c .before .if3 .left) in
-    (refuses-bent (forbidden (ordered at-order) (start at-order .args .keys .now) up free (at-order .before .before .before .allowed .ensures .1 (not-true _ (c .if4 .taken)))), tt)
+    (refuses (forbidden (ordered at-order) (start at-order .args .keys .now) up free (at-order .before .before .before .allowed .ensures .1 (not-true _ (c .if4 .taken)))), tt)
 
 returns-5 : tie.Need-returns-5
 returns-5 c =

@@ -1,6 +1,6 @@
 -- The head, and then the rest.
 use borrow.Author.Needs.{needs}
-use Rattle.sheet.specs.Held.{refuses-bent}
+use Rattle.sheet.specs.Held.{refuses}
 use Rattle.sheet.proofs.Found.{says-refused, says-held}
 use Rattle.sheet.proofs.reader.read_sheet.Statement.{statement}
 use Rattle.sheet.proofs.reader.read_sheet.Tie as tie
@@ -11,7 +11,7 @@ read-rest-requires c κs =
     (says-held (start .args .sheet .now) _ _ (c .before .before .before .before .before .read-head .ensures) (c .before .before .before .h .given .1), start .pre)
 
 returns : tie.Need-returns
-returns c = (refuses-bent (says-refused (c .before .before .before .before .before .before .before .args .sheet .now) _ _ (c .before .before .before .read-head .ensures) (c .before .k .given .1)), tt)
+returns c = (refuses (says-refused (c .before .before .before .before .before .before .before .args .sheet .now) _ _ (c .before .before .before .read-head .ensures) (c .before .k .given .1)), tt)
 
 pub read-sheet-spec : {M : Type 1} → statement M
 read-sheet-spec = tie.close (tie.spec (λ c κs. search needs) (λ c. search needs) (λ c. search needs) read-rest-requires returns (λ c. search needs) (λ c. search needs) (λ c. search needs))
