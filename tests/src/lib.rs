@@ -1,6 +1,7 @@
 //! A model of the operations on bend charts, written sentence by sentence from
-//! document 01 and from requests (xi) and (xii) of document 02. It shares nothing
-//! with the library that it is compared with.
+//! document 01 and from requests (iv), (xi) and (xii) of document 02, the first with
+//! chapter 6 of document 004. It shares nothing with the library that it is compared
+//! with.
 //!
 //! Each module's header names the heading of document 01 that it follows, and the
 //! request where it rules instead.
@@ -8,6 +9,9 @@
 pub mod answer;
 pub mod changes;
 pub mod chart;
+pub mod depth;
+pub mod depth_parts;
+pub mod depth_search;
 pub mod draw;
 pub mod edit;
 pub mod edit_list;

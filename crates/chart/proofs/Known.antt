@@ -9,7 +9,7 @@ use Rattle.polygon.specs.Polygon.{_—_, Polygon}
 use Rattle.polygon.specs.Order.{same?}
 use Rattle.polygon.specs.Tree.{span, chordsAt, treeOf, grow, far, farther, near?}
 use Rattle.umbrella.specs.Plan.{fold}
-use Rattle.umbrella.specs.Numbers.{ud}
+use Rattle.umbrella.specs.Values.{ud}
 use Rattle.umbrella.specs.Best.{best, umbrella, leftAt, rightAt, stemAt, over-node}
 use Rattle.umbrella.proofs.Known.{three, hexagon, seven}
 use Rattle.chart.specs.Places.{cols, rows}

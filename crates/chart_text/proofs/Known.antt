@@ -8,7 +8,7 @@ use Rattle.lists.specs.Lists.{all?, below, choose, either?, keep, mem?, not?, n
 use Rattle.polygon.specs.Order.{before?, same?, cross?, none-cross?, diagonal?}
 use Rattle.polygon.specs.Tree.{treeOf, grow, far, farther, near?}
 use Rattle.umbrella.specs.Plan.{fold}
-use Rattle.umbrella.specs.Numbers.{ud}
+use Rattle.umbrella.specs.Values.{ud}
 use Rattle.umbrella.specs.Best.{best, umbrella, leftAt, rightAt, stemAt, over-node}
 use Rattle.sheet.specs.Sheet.{ask, count?}
 use Rattle.chart.specs.Chart.{strokeEdge, barsOf}

@@ -13,7 +13,7 @@ use Rattle.umbrella.specs.Best.{best}
 use Rattle.umbrella.proofs.Theorems.{umbrellas-bound}
 use Rattle.tree.specs.declared.Root.{Root}
 use Rattle.tree.proofs.Whole.{keyed}
-use Rattle.levels.specs.Numbered.{Filled}
+use Rattle.levels.specs.Kept.{Filled}
 use Rattle.chart.specs.Places.{cols, rows}
 use Rattle.chart.specs.Chart.{layout, chart}
 use Rattle.chart.specs.Bytes.{bytesOf}

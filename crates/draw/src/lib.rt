@@ -9,7 +9,7 @@ ghost use Rattle.codec.specs.Answer.{answered, written, write};
 ghost use Rattle.codec.specs.TwoOutputs.{answeredBoth};
 ghost use Rattle.sheet.specs.Held.{polygonOf, InHand};
 ghost use Rattle.umbrella.specs.Best.{best};
-ghost use Rattle.levels.specs.Numbered.{Filled};
+ghost use Rattle.levels.specs.Kept.{Filled};
 ghost use Rattle.chart.specs.Chart.{chart, chartOf};
 ghost use Rattle.chart.specs.Bytes.{bytesOf};
 ghost use Rattle.chart.specs.declared.Bar.{Bar};
@@ -27,7 +27,7 @@ use drawing::place;
 use drawing::walk::COLUMNS;
 use keys::CORNERS;
 use keys::DIAGONALS;
-use levels::NUMBERS;
+use levels::VALUES;
 use levels::fill;
 use sheet::Head;
 use sheet::Read;
@@ -48,7 +48,7 @@ struct Charted {
 fn write_part(
     n: usize,
     tree: &[u32; PLACES],
-    depths: &[u16; NUMBERS],
+    depths: &[u8; VALUES],
     p: Root,
     out: &mut [u8],
 ) -> Charted
@@ -74,7 +74,7 @@ fn draw_part(h: Head, keys: &[u32], out: &mut [u8]) -> Written
 {
     let m = h.n - 3;
     let mut tree = [0u32; PLACES];
-    let mut depths = [0u16; NUMBERS];
+    let mut depths = [0u8; VALUES];
     let p = fill(&keys[..m], h.n, &mut tree, &mut depths);
     write_part(h.n, &tree, &depths, p, out).written
 }

@@ -13,7 +13,7 @@ use crate::write_part;
 use codec::Written;
 use codec::least;
 use keys::DIAGONALS;
-use levels::NUMBERS;
+use levels::VALUES;
 use levels::fill;
 use log_line::put_refused;
 use plan::counts_of;
@@ -46,7 +46,7 @@ fn show_part(h: Head, keys: &[u32], chart: &mut [u8], text: &mut [u8]) -> Shown
 {
     let m = h.n - 3;
     let mut tree = [0u32; PLACES];
-    let mut depths = [0u16; NUMBERS];
+    let mut depths = [0u8; VALUES];
     let p = fill(&keys[..m], h.n, &mut tree, &mut depths);
     let c = write_part(h.n, &tree, &depths, p, chart);
     let end = counts_line(

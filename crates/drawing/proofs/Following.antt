@@ -10,7 +10,7 @@ use lib.Seq.{sets, length-sets}
 use Rattle.polygon.specs.Polygon.{_—_}
 use Rattle.polygon.specs.Tree.{Tree, leaf, span}
 use Rattle.polygon.proofs.Order.{low-of, high-of}
-use Rattle.umbrella.specs.Numbers.{ud, handle}
+use Rattle.umbrella.specs.Values.{ud, handle}
 use Rattle.umbrella.specs.declared.roles.Role.{Role}
 use Rattle.umbrella.specs.declared.roles.Step.{Step}
 use Rattle.umbrella.specs.Roles.{fromRight, isHung, stepAt, stepOf}
@@ -19,7 +19,7 @@ use Rattle.tree.specs.declared.Two.{Two}
 use Rattle.tree.specs.Table.{edgeAt, apexAt, TreeAt, beyond}
 use Rattle.tree.proofs.Pieces.{at-edge, closed, corners, ends, inside}
 use Rattle.levels.specs.declared.Six.{Six}
-use Rattle.levels.specs.Numbered.{six, sixAt, Tabled}
+use Rattle.levels.specs.Kept.{six, sixAt, Tabled}
 use Rattle.levels.proofs.Knowing.{TabledParts, tabled-parts}
 use Rattle.drawing.specs.declared.lines.Line.{Line}
 use Rattle.drawing.specs.declared.lines.Way.{Way}

@@ -6,7 +6,7 @@ use Prim.Native.Nat.{ℕ, suc, _*_, _≤_}
 use native.Mathlib.Omega.{arith}
 use Rattle.polygon.specs.Tree.{Tree, leaf, node}
 use Rattle.umbrella.specs.Plan.{Plan, none, plain, stemLeft, stemRight, levels}
-use Rattle.umbrella.specs.Numbers.{ud}
+use Rattle.umbrella.specs.Values.{ud}
 use Rattle.umbrella.specs.Best.{best}
 use Rattle.umbrella.specs.declared.roles.Role.the-variants.{Hung, LeftRim, RightRim, FromLeft, FromRight}
 use Rattle.umbrella.specs.Roles.{stemStep, stepOf}

@@ -9,7 +9,7 @@ use lib.ListN.{length, set, length-set}
 use lib.Seq.{sets}
 use Rattle.polygon.specs.Polygon.{Edge}
 use Rattle.polygon.specs.Tree.{Tree, leaf, node}
-use Rattle.umbrella.specs.Numbers.{ud}
+use Rattle.umbrella.specs.Values.{ud}
 use Rattle.umbrella.specs.declared.roles.Role.{Role}
 use Rattle.umbrella.specs.declared.roles.Role.the-variants.{Hung, LeftRim, RightRim}
 use Rattle.umbrella.specs.Roles.{isHung}
@@ -18,7 +18,7 @@ use Rattle.tree.specs.declared.Two.{Two}
 use Rattle.tree.specs.Table.{apexAt, beyond}
 use Rattle.umbrella.proofs.Wide.{nine}
 use Rattle.tree.proofs.Pieces.{closed, ends}
-use Rattle.levels.specs.Numbered.{Tabled}
+use Rattle.levels.specs.Kept.{Tabled}
 use Rattle.levels.proofs.Knowing.{TabledParts, tabled-parts}
 use Rattle.drawing.specs.declared.lines.Line.{Line}
 use Rattle.drawing.specs.declared.lines.Way.{Way}

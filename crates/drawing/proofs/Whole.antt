@@ -11,14 +11,14 @@ use lib.ListN.{length, take, drop, getD, set, length-set, length-append, length-
 use lib.Seq.{sets, sets-eq, take-at, take-suc, drop-cons, getD-take, getD-set-same, getD-set-other}
 use Rattle.polygon.specs.Tree.{Tree, span}
 use Rattle.umbrella.specs.declared.roles.Role.the-variants.{Hung}
-use Rattle.umbrella.specs.Numbers.{ud}
+use Rattle.umbrella.specs.Values.{ud}
 use Rattle.umbrella.specs.Best.{best}
 use Rattle.umbrella.proofs.Theorems.{computed-has}
 use Rattle.lists.proofs.Places.{at-all}
 use Rattle.tree.specs.declared.Root.{Root}
 use Rattle.tree.specs.Table.{edgeAt}
 use Rattle.tree.proofs.Pieces.{corners, ends}
-use Rattle.levels.specs.Numbered.{Filled}
+use Rattle.levels.specs.Kept.{Filled}
 use Rattle.chart.specs.Places.{cols, rows}
 use Rattle.drawing.specs.declared.lines.Line.{Line}
 use Rattle.drawing.specs.declared.lines.Way.{Way}

@@ -4,15 +4,15 @@
 ghost use mathlib.Core.Path.{_≡_};
 ghost use lib.ListN.{length};
 ghost use Rattle.polygon.specs.Tree.{Tree};
-ghost use Rattle.levels.specs.Numbered.{Filled};
+ghost use Rattle.levels.specs.Kept.{Filled};
 ghost use Rattle.drawing.specs.Located.{Located};
 use crate::lines::Line;
 use crate::lines::Way;
 use crate::walk::COLUMNS;
 use crate::walk::draw_piece;
 use keys::CORNERS;
-use levels::NUMBERS;
-use levels::numbers;
+use levels::VALUES;
+use levels::values;
 use tree::PLACES;
 use tree::Root;
 use umbrella::roles::Role;
@@ -30,7 +30,7 @@ pub struct Size {
 pub fn place(
     n: usize,
     tree: &[u32; PLACES],
-    depths: &[u16; NUMBERS],
+    depths: &[u8; VALUES],
     p: Root,
     columns: &mut [u16; COLUMNS],
     rows: &mut [u16; CORNERS],
@@ -54,7 +54,7 @@ pub fn place(
     rows[0] = 0;
     rows[n - 1] = 0;
     let c = draw_piece(tree, depths, columns, rows, p, w, 0);
-    let ud = numbers(depths, p.e as usize).ud as usize;
+    let ud = values(depths, p.e as usize).ud as usize;
     Size {
         columns: c,
         rows: 2 * ud + 1,

@@ -7,7 +7,7 @@ ghost use lib.ListN.{length};
 ghost use Rattle.polygon.specs.Tree.{Tree};
 ghost use Rattle.umbrella.specs.declared.roles.Role.the-variants.{Hung};
 ghost use Rattle.umbrella.specs.Roles.{isHung};
-ghost use Rattle.levels.specs.Numbered.{Tabled};
+ghost use Rattle.levels.specs.Kept.{Tabled};
 ghost use Rattle.drawing.specs.Walk.{Walked, Room, Turned};
 use crate::lines::Way;
 use crate::lines::beside_line;
@@ -17,8 +17,8 @@ use crate::lines::go_on;
 use crate::lines::near_line;
 use crate::lines::rims_of;
 use keys::CORNERS;
-use levels::NUMBERS;
-use levels::numbers;
+use levels::VALUES;
+use levels::values;
 use tree::PLACES;
 use tree::Root;
 use tree::open;
@@ -49,7 +49,7 @@ fn turn(columns: &mut [u16], from: usize, to: usize)
 // Draws a hung piece: the two rims of its umbrella. Returns the place behind its columns.
 pub fn draw_piece(
     tree: &[u32; PLACES],
-    depths: &[u16; NUMBERS],
+    depths: &[u8; VALUES],
     columns: &mut [u16; COLUMNS],
     rows: &mut [u16; CORNERS],
     p: Root,
@@ -66,7 +66,7 @@ pub fn draw_piece(
         return at;
     }
     let t = open(tree, p);
-    let ud = numbers(depths, p.e as usize).ud;
+    let ud = values(depths, p.e as usize).ud;
     let m = w.far;
     let far = far_line(ud, m);
     let near = near_line(m);
@@ -98,7 +98,7 @@ pub fn draw_piece(
 // Draws a rim or a stem: the column of each of its edges, and the pieces beside it. It is written as it is built, and turned if its columns are to stand the other way round.
 fn draw_stem(
     tree: &[u32; PLACES],
-    depths: &[u16; NUMBERS],
+    depths: &[u8; VALUES],
     columns: &mut [u16; COLUMNS],
     rows: &mut [u16; CORNERS],
     p: Root,
@@ -121,8 +121,8 @@ fn draw_stem(
         let t = open(tree, x);
         let l = t.left;
         let r = t.right;
-        let a = numbers(depths, l.e as usize);
-        let b = numbers(depths, r.e as usize);
+        let a = values(depths, l.e as usize);
+        let b = values(depths, r.e as usize);
         let s = step_at(role, w.d, a.ud, b.ud, a.handle);
         let n = go_on(t, s, right, w);
         let line = beside_line(s.crossed, w);
@@ -144,7 +144,7 @@ fn draw_stem(
 // Draws a piece beside a rim or a stem: a hung piece, or the rim beyond the gate.
 fn draw_beside(
     tree: &[u32; PLACES],
-    depths: &[u16; NUMBERS],
+    depths: &[u8; VALUES],
     columns: &mut [u16; COLUMNS],
     rows: &mut [u16; CORNERS],
     p: Root,

@@ -11,8 +11,8 @@ use Rattle.polygon.specs.Tree.{Tree, node}
 use Rattle.tree.specs.declared.Root.{Root}
 use Rattle.tree.specs.declared.Two.{Two}
 use Rattle.tree.specs.Table.{TreeAt, beyond}
-use Rattle.tree.proofs.Pieces.{Parts, opened, closed}
-use Rattle.levels.specs.Numbered.{Deep, flat, Grows, Leaves, Passed, begun, left, right}
+use Rattle.tree.proofs.Pieces.{Parts, opened}
+use Rattle.levels.specs.Kept.{Deep, Grows, Leaves, Passed, begun, left, right}
 use Rattle.levels.proofs.Storing.{grows-on, grows-self, leaves-grow}
 use Rattle.levels.proofs.Passing.{passed-grows}
 
@@ -47,20 +47,13 @@ descending-begins tr ds path from p t s l h i = record {
   fits = omega arith;
 }
 
--- the tables after the smaller part y, with the tree s, has its numbers; k places of the path are taken
+-- the tables after the smaller part y, with the tree s, has its values; k places of the path are taken
 pub record Dealt (tr ds path ds′ path′ : List ℕ) (k : ℕ) (y : Root) (s : Tree) : Type 0 where
   pub grows : Grows tr ds ds′
   pub deep : Deep tr ds′ (y .e) s
   pub kept : (j : ℕ) → j < k → getD path′ j 0 ≡ getD path j 0
   pub room : length ds′ ≡ 12270
   pub path-room : length path′ ≡ 1024
-
--- a side has them
-pub side-deep : {tr ds : List ℕ} {e u v : ℕ} {s : Tree} → TreeAt tr e u v s → v ≤ u + 1 → Leaves tr ds → Deep tr ds e s
-side-deep {e = e} {u} {v} x o l = let q = closed x o in rw q (flat (l .sides e u v (rw q at x)))
-
-pub dealt-side : {tr ds : List ℕ} {y : Root} {s : Tree} (path : List ℕ) (k : ℕ) → TreeAt tr (y .e) (y .u) (y .v) s → y .v ≤ y .u + 1 → Leaves tr ds → length ds ≡ 12270 → length path ≡ 1024 → Dealt tr ds path ds path k y s
-dealt-side path k x o l h i = record { grows = grows-self; deep = side-deep x o l; kept = λ j q. refl; room = h; path-room = i }
 
 -- the two parts of the piece reached, the one to be gone into second
 pub record Halves (tr ds₀ path₀ : List ℕ) (from : ℕ) (p : Root) (ds path : List ℕ) (x : Root) (k : ℕ) (b : Two) : Type 0 where
@@ -77,7 +70,7 @@ module _ {tr ds₀ path₀ : List ℕ} {from : ℕ} {p : Root} {ds path : List �
   d : Parts tr (x .e) (x .u) (x .v) (D .t)
   d = opened (D .shows) apart
 
-  -- the way further down, when the smaller part has its numbers
+  -- the way further down, when the smaller part has its values
   module _ {ds′ path′ : List ℕ} {y : Root} {s : Tree} (S : Dealt tr ds (set path k (x .e)) ds′ path′ (k + 1) y s) where
     at-x : getD path′ k 0 ≡ x .e
     at-x = S .kept k (omega arith) ∙ getD-set-same path k (x .e) 0 (omega (arith, D .path-room, D .fits))

@@ -1,13 +1,13 @@
--- What is known of the two parts of a piece whose numbers stand in the table.
+-- What is known of the two parts of a piece whose values stand in the table.
 use mathlib.Core.Path.{_≡_}
 use mathlib.Core.List.{List}
 use Prim.Native.Nat.{ℕ, _+_, _-_, _<_, _≤_}
 use native.Mathlib.Omega.{arith}
 use Rattle.polygon.specs.Tree.{Tree, node}
-use Rattle.umbrella.specs.Numbers.{ud}
+use Rattle.umbrella.specs.Values.{ud}
 use Rattle.tree.specs.Table.{apexAt, rightEdge}
 use Rattle.tree.proofs.Pieces.{Parts, opened}
-use Rattle.levels.specs.Numbered.{six, sixAt, Deep, deep, Tabled}
+use Rattle.levels.specs.Kept.{six, sixAt, Deep, deep, Tabled}
 use Rattle.levels.proofs.Storing.{deep-root}
 
 pub record TabledParts (tr ds : List ℕ) (e u v : ℕ) (t : Tree) : Type 0 where

@@ -1,15 +1,15 @@
 -- The way down through the larger parts of a piece, and one step back up.
--- Rests on Storing.antt, and on Pieces.antt of the crate tree.
-use mathlib.Core.Path.{_≡_, refl, sym, _∙_, ap, ap₂}
+-- Rests on Storing.antt and Joining.antt.
+use mathlib.Core.Path.{_≡_, refl, sym, _∙_, ap}
 use mathlib.Core.List.{List}
-use Prim.Native.Nat.{ℕ, suc, _+_, _-_, _<_, _≤_, max}
+use Prim.Native.Nat.{ℕ, suc, _-_, _<_, _≤_}
 use native.Mathlib.Omega.{arith}
 use lib.ListN.{length, getD}
-use Rattle.polygon.specs.Tree.{Tree, node, span}
+use Rattle.polygon.specs.Tree.{Tree, node}
 use Rattle.tree.specs.Table.{rightEdge, TreeAt, triangle}
-use Rattle.tree.proofs.Pieces.{ends, inside}
-use Rattle.levels.specs.Numbered.{six, join, sixAt, withSix, Deep, deep, Grows, Passed, begun, left, right, Rising}
-use Rattle.levels.proofs.Storing.{six-node, join-fits, six-same, deep-root, deep-grows, store-grows}
+use Rattle.levels.specs.Kept.{six, withSix, Deep, PartsHeld, Grows, Passed, begun, left, right, Rising}
+use Rattle.levels.proofs.Storing.{deep-grows}
+use Rattle.levels.proofs.Joining.{stored-grows, stored-deep}
 
 shows-left : {tr : List ℕ} {e u v : ℕ} {l r : Tree} → TreeAt tr e u v (node l r) → (w : ℕ) × TreeAt tr (e - 1) u w l
 shows-left (triangle i h k q x y) = (_, x)
@@ -20,18 +20,14 @@ shows-right (triangle i h k q x y) = (_, y)
 -- the piece whose edge stands at j of the path, and its two parts
 pub record Turn (tr ds path : List ℕ) (from e₀ : ℕ) (t₀ : Tree) (j : ℕ) : Type 0 where
   pub e : ℕ
-  pub u : ℕ
-  pub v : ℕ
   pub l : Tree
   pub r : Tree
   pub at : getD path j 0 ≡ e
-  pub shows : TreeAt tr e u v (node l r)
+  pub held : PartsHeld tr ds e l r
   pub passed : Passed tr ds path from e₀ t₀ j e (node l r)
-  pub deep-l : Deep tr ds (e - 1) l
-  pub deep-r : Deep tr ds (rightEdge tr e) r
 
 module _ {tr ds path : List ℕ} {from e₀ : ℕ} {t₀ : Tree} where
-  -- where the numbers of more pieces are right, and the path is written further on
+  -- where the values of more pieces are right, and the path is written further on
   pub passed-grows : {ds′ path′ : List ℕ} {k e : ℕ} {t : Tree} → Grows tr ds ds′ → ((j : ℕ) → j < k → getD path′ j 0 ≡ getD path j 0) → Passed tr ds path from e₀ t₀ k e t → Passed tr ds′ path′ from e₀ t₀ k e t
   passed-grows g f (begun p q z) = begun p q z
   passed-grows g f (left {j} p s x y d) = left p (passed-grows g (λ i h. f i (omega arith)) s) x (f j (omega arith) ∙ y) (deep-grows g (shows-right x .1) d)
@@ -44,40 +40,18 @@ module _ {tr ds path : List ℕ} {from e₀ : ℕ} {t₀ : Tree} where
       go (begun p q z) d = absurd (omega arith)
       go (left {j = i} {e} {u} {v} {l} {r} p s x y a) d =
           let q : i ≡ j = omega arith in
-          record { e = e; u = u; v = v; l = l; r = r; at = ap (λ (n : ℕ). getD path n 0) (sym q) ∙ y; shows = x; passed = rw q at s; deep-l = d; deep-r = a }
+          record { e = e; l = l; r = r; at = ap (λ (n : ℕ). getD path n 0) (sym q) ∙ y; held = record { u = u; v = v; shows = x; deep-l = d; deep-r = a }; passed = rw q at s }
       go (right {j = i} {e} {u} {v} {l} {r} p s x y a) d =
           let q : i ≡ j = omega arith in
-          record { e = e; u = u; v = v; l = l; r = r; at = ap (λ (n : ℕ). getD path n 0) (sym q) ∙ y; shows = x; passed = rw q at s; deep-l = a; deep-r = d }
+          record { e = e; l = l; r = r; at = ap (λ (n : ℕ). getD path n 0) (sym q) ∙ y; held = record { u = u; v = v; shows = x; deep-l = a; deep-r = d }; passed = rw q at s }
 
-  module _ {j : ℕ} (T : Turn tr ds path from e₀ t₀ j) (room : length ds ≡ 12270) where
-    pub turn-places : (1 ≤ T .e) × (T .e < 2045) × (rightEdge tr (T .e) < 2045)
-    turn-places = go (T .shows)
-      where
-        go : {e u v : ℕ} {l r : Tree} → TreeAt tr e u v (node l r) → (1 ≤ e) × (e < 2045) × (rightEdge tr e < 2045)
-        go (triangle i h k q x y) = (i, h, inside y)
+  -- its values are stored
+  module _ {j : ℕ} (T : Turn tr ds path from e₀ t₀ j) (room : length ds ≡ 12270) (ds′ : List ℕ) (is : ds′ ≡ withSix ds (T .e) (six (node (T .l) (T .r)))) where
+    pub turn-grows : Grows tr ds ds′
+    turn-grows = stored-grows (T .held) room ds′ is
 
-    pub turn-fits : max (sixAt ds (T .e - 1) .«part_a») (sixAt ds (rightEdge tr (T .e)) .«fan_b») < 1024
-    turn-fits = join-fits (T .l) (T .r) (deep-root (T .deep-l)) (deep-root (T .deep-r)) (wide (T .shows))
-      where
-        wide : {e u v : ℕ} {l r : Tree} → TreeAt tr e u v (node l r) → span l + span r < 1024
-        wide (triangle i h k q x y) = omega (arith, ends x, ends y)
-
-    numbers : join (sixAt ds (T .e - 1)) (sixAt ds (rightEdge tr (T .e))) ≡ six (node (T .l) (T .r))
-    numbers = ap₂ join (deep-root (T .deep-l)) (deep-root (T .deep-r)) ∙ sym (six-node (T .l) (T .r))
-
-    -- its numbers are stored
-    module _ (ds′ : List ℕ) (is : ds′ ≡ withSix ds (T .e) (join (sixAt ds (T .e - 1)) (sixAt ds (rightEdge tr (T .e))))) where
-      stored : ds′ ≡ withSix ds (T .e) (six (node (T .l) (T .r)))
-      stored = is ∙ ap (withSix ds (T .e)) numbers
-
-      pub turn-grows : Grows tr ds ds′
-      turn-grows = rw stored (store-grows ds room (T .shows))
-
-      pub turn-rises : Rising tr ds′ path from e₀ t₀ j
-      turn-rises = record { e = T .e; t = node (T .l) (T .r); passed = passed-grows turn-grows (λ i h. refl) (T .passed); deep = parts (T .shows) }
-        where
-          parts : {u v : ℕ} → TreeAt tr (T .e) u v (node (T .l) (T .r)) → Deep tr ds′ (T .e) (node (T .l) (T .r))
-          parts (triangle i h k q x y) = deep (ap (λ (x : List ℕ). sixAt x (T .e)) stored ∙ six-same ds (T .e) _ (omega arith)) (deep-grows turn-grows x (T .deep-l)) (deep-grows turn-grows y (T .deep-r))
+    pub turn-rises : Rising tr ds′ path from e₀ t₀ j
+    turn-rises = record { e = T .e; t = node (T .l) (T .r); passed = passed-grows turn-grows (λ i h. refl) (T .passed); deep = stored-deep (T .held) room ds′ is }
 
   -- at the place where the path begins the way is back
   pub back-at-start : (k : ℕ) → k ≤ from → Rising tr ds path from e₀ t₀ k → Deep tr ds e₀ t₀

@@ -1,56 +1,40 @@
--- The numbers of an edge stored in the table, and that numbers which are right stay right.
--- Rests on the theorems of the crate umbrella, and on Pieces.antt of the crate tree.
+-- The values of an edge stored in the table, and that values which are right stay right.
+-- Rests on Pieces.antt of the crate tree.
 use mathlib.Core.Path.{_≡_, _∙_, ap}
 use mathlib.Core.List.{List}
-use Prim.Native.Nat.{ℕ, _+_, _*_, _<_, _≤_, max}
+use Prim.Native.Nat.{ℕ, _+_, _*_, _<_, _≤_}
 use native.Mathlib.Decide.{ℕ-discrete}
-use native.Mathlib.Numerals.{add-one}
 use native.Mathlib.Omega.{arith}
 use lib.ListN.{length, getD, set, length-set}
 use lib.Seq.{getD-set-same, getD-set-other}
-use Rattle.polygon.specs.Tree.{Tree, leaf, node, span}
-use Rattle.umbrella.specs.Numbers.{ud}
-use Rattle.umbrella.specs.Best.{best}
-use Rattle.umbrella.proofs.Inequalities.{inequalities}
-use Rattle.umbrella.proofs.Theorems.{computed-has, umbrellas-bound}
+use Rattle.polygon.specs.Tree.{Tree, leaf, node}
+use Rattle.umbrella.specs.Values.{ud}
 use Rattle.tree.specs.Table.{TreeAt, side, triangle}
 use Rattle.tree.proofs.Pieces.{one-piece, inside}
 use Rattle.levels.specs.declared.Six.{Six}
-use Rattle.levels.specs.Numbered.{six, join, sixAt, withSix, Deep, flat, deep, Grows, Leaves}
-
-pub six-node : (l r : Tree) → six (node l r) ≡ join (six l) (six r)
-unfolding ud
-six-node l r = simp add-one
-
--- a piece has fewer levels than sides besides its root edge
-ud-below : (t : Tree) → ud t < span t
-ud-below t = omega (arith, computed-has t, umbrellas-bound (best t))
-
--- what `join` asks
-pub join-fits : (l r : Tree) {a b : Six} → a ≡ six l → b ≡ six r → span l + span r < 1024 → max (a .«part_a») (b .«fan_b») < 1024
-join-fits l r p q h = rw (p, q) (omega (arith, inequalities l, inequalities r, ud-below l, ud-below r))
+use Rattle.levels.specs.Kept.{six, sixAt, withSix, Deep, flat, deep, Grows, Leaves}
 
 module _ (ds : List ℕ) (e : ℕ) (s : Six) where
   pub with-length : length (withSix ds e s) ≡ length ds
   with-length = simp length-set
 
-  -- the table as the numbers are stored, one after the other
+  -- the table as the values are stored, one after the other
   abbrev d₁ : List ℕ
-  d₁ = set ds (6 * e) (s .ud)
+  d₁ = set ds (6 * e) (s .handle)
 
   abbrev d₂ : List ℕ
-  d₂ = set d₁ (6 * e + 1) (s .handle)
+  d₂ = set d₁ (6 * e + 1) (s .«fan_a»)
 
   abbrev d₃ : List ℕ
-  d₃ = set d₂ (6 * e + 2) (s .«fan_a»)
+  d₃ = set d₂ (6 * e + 2) (s .«fan_b»)
 
   abbrev d₄ : List ℕ
-  d₄ = set d₃ (6 * e + 3) (s .«fan_b»)
+  d₄ = set d₃ (6 * e + 3) (s .«partial_a»)
 
   abbrev d₅ : List ℕ
-  d₅ = set d₄ (6 * e + 4) (s .«part_a»)
+  d₅ = set d₄ (6 * e + 4) (s .«partial_b»)
 
-  -- places that nothing is stored at from the sixth number on, from the fifth on, .., from the first on
+  -- places that nothing is stored at from the sixth value on, from the fifth on, .., from the first on
   from-sixth : (i : ℕ) → ¬ ((6 * e + 5 ≤ i) × (i < 6 * e + 6)) → getD (withSix ds e s) i 0 ≡ getD d₅ i 0
   from-sixth i o = getD-set-other d₅ (6 * e + 5) i _ 0 (λ q. o (omega arith))
 
@@ -71,23 +55,23 @@ module _ (ds : List ℕ) (e : ℕ) (s : Six) where
 
   pub six-other : (f : ℕ) → ¬ (f ≡ e) → sixAt (withSix ds e s) f ≡ sixAt ds f
   six-other f o = λ i. record {
-    ud = other-place (6 * f) (λ h. o (omega arith)) i;
-    handle = other-place (6 * f + 1) (λ h. o (omega arith)) i;
-    «fan_a» = other-place (6 * f + 2) (λ h. o (omega arith)) i;
-    «fan_b» = other-place (6 * f + 3) (λ h. o (omega arith)) i;
-    «part_a» = other-place (6 * f + 4) (λ h. o (omega arith)) i;
-    «part_b» = other-place (6 * f + 5) (λ h. o (omega arith)) i;
+    handle = other-place (6 * f) (λ h. o (omega arith)) i;
+    «fan_a» = other-place (6 * f + 1) (λ h. o (omega arith)) i;
+    «fan_b» = other-place (6 * f + 2) (λ h. o (omega arith)) i;
+    «partial_a» = other-place (6 * f + 3) (λ h. o (omega arith)) i;
+    «partial_b» = other-place (6 * f + 4) (λ h. o (omega arith)) i;
+    ud = other-place (6 * f + 5) (λ h. o (omega arith)) i;
   }
 
-  -- its own places: a number is not overwritten by those stored after it
+  -- its own places: a value is not overwritten by those stored after it
   pub six-same : 6 * e + 6 ≤ length ds → sixAt (withSix ds e s) e ≡ s
   six-same room = λ i. record {
-    ud = (from-second (6 * e) (λ h. omega arith) ∙ getD-set-same ds (6 * e) _ 0 (omega arith)) i;
-    handle = (from-third (6 * e + 1) (λ h. omega arith) ∙ getD-set-same d₁ (6 * e + 1) _ 0 (simp length-set (omega arith))) i;
-    «fan_a» = (from-fourth (6 * e + 2) (λ h. omega arith) ∙ getD-set-same d₂ (6 * e + 2) _ 0 (simp length-set (omega arith))) i;
-    «fan_b» = (from-fifth (6 * e + 3) (λ h. omega arith) ∙ getD-set-same d₃ (6 * e + 3) _ 0 (simp length-set (omega arith))) i;
-    «part_a» = (from-sixth (6 * e + 4) (λ h. omega arith) ∙ getD-set-same d₄ (6 * e + 4) _ 0 (simp length-set (omega arith))) i;
-    «part_b» = getD-set-same d₅ (6 * e + 5) (s .«part_b») 0 (simp length-set (omega arith)) i;
+    handle = (from-second (6 * e) (λ h. omega arith) ∙ getD-set-same ds (6 * e) _ 0 (omega arith)) i;
+    «fan_a» = (from-third (6 * e + 1) (λ h. omega arith) ∙ getD-set-same d₁ (6 * e + 1) _ 0 (simp length-set (omega arith))) i;
+    «fan_b» = (from-fourth (6 * e + 2) (λ h. omega arith) ∙ getD-set-same d₂ (6 * e + 2) _ 0 (simp length-set (omega arith))) i;
+    «partial_a» = (from-fifth (6 * e + 3) (λ h. omega arith) ∙ getD-set-same d₃ (6 * e + 3) _ 0 (simp length-set (omega arith))) i;
+    «partial_b» = (from-sixth (6 * e + 4) (λ h. omega arith) ∙ getD-set-same d₄ (6 * e + 4) _ 0 (simp length-set (omega arith))) i;
+    ud = getD-set-same d₅ (6 * e + 5) (s .ud) 0 (simp length-set (omega arith)) i;
   }
 
 module _ {tr ds : List ℕ} where
@@ -109,7 +93,7 @@ module _ {tr ds : List ℕ} where
   pub grows-self : Grows tr ds ds
   grows-self = record { right = λ e u v t s h. h }
 
--- a place shows one piece only, so storing its numbers harms none that are right
+-- a place shows one piece only, so storing its values harms none that are right
 pub store-grows : {tr : List ℕ} {e u v : ℕ} {t : Tree} (ds : List ℕ) → length ds ≡ 12270 → TreeAt tr e u v t → Grows tr ds (withSix ds e (six t))
 store-grows {tr} {e} {t = t} ds room s = record { right = λ f u′ v′ t′ s′ h. go f u′ v′ t′ s′ h (ℕ-discrete f e) }
   where
@@ -117,7 +101,7 @@ store-grows {tr} {e} {t = t} ds room s = record { right = λ f u′ v′ t′ s�
     go f u′ v′ t′ s′ h (yes q) = ap (sixAt (withSix ds e (six t))) q ∙ (six-same ds e (six t) (omega (arith, inside s)) ∙ ap six (one-piece s (rw q at s′)))
     go f u′ v′ t′ s′ h (no q) = six-other ds e (six t) f q ∙ h
 
--- a table of zeros has the numbers of the sides
+-- a table of zeros has the values of the sides
 pub fresh-leaves : {tr : List ℕ} (ds : List ℕ) → ((i : ℕ) → getD ds i 0 ≡ 0) → Leaves tr ds
 unfolding ud
-fresh-leaves ds z = record { sides = λ e u v s i. record { ud = z (6 * e) i; handle = z (6 * e + 1) i; «fan_a» = z (6 * e + 2) i; «fan_b» = z (6 * e + 3) i; «part_a» = z (6 * e + 4) i; «part_b» = z (6 * e + 5) i } }
+fresh-leaves ds z = record { sides = λ e u v s i. record { handle = z (6 * e) i; «fan_a» = z (6 * e + 1) i; «fan_b» = z (6 * e + 2) i; «partial_a» = z (6 * e + 3) i; «partial_b» = z (6 * e + 4) i; ud = z (6 * e + 5) i } }

@@ -1,2 +1,2 @@
 -- What serves the contracts and the code.
-pub mod Numbered
+pub mod Kept

@@ -1,4 +1,4 @@
--- From the numbers and counts of a part to what the operation answers.
+-- From the values and counts of a part to what the operation answers.
 -- Rests on Counted.antt and on the theorems of the crate umbrella.
 use mathlib.Core.Path.{_≡_, _∙_}
 use Prim.Native.Nat.{ℕ, _+_, _*_}
@@ -8,7 +8,7 @@ use Rattle.umbrella.specs.Best.{best}
 use Rattle.umbrella.proofs.Theorems.{computed-has}
 use Rattle.umbrella.specs.declared.roles.Role.the-variants.{Hung}
 use Rattle.levels.specs.declared.Six.{Six}
-use Rattle.levels.specs.Numbered.{six}
+use Rattle.levels.specs.Kept.{six}
 use Rattle.plan.specs.declared.counts.Tally.{Tally}
 use Rattle.plan.specs.declared.Planned.{Planned}
 use Rattle.plan.specs.declared.Planned.the-variants.{Counts, Refused}

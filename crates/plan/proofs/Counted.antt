@@ -6,7 +6,7 @@ use Prim.Native.Nat.{ℕ, suc, _+_, _-_, _≤_, min, max}
 use native.Mathlib.Omega.{arith}
 use Rattle.polygon.specs.Tree.{Tree, leaf, node}
 use Rattle.umbrella.specs.Plan.{fold, foldLeft, foldRight, foldLeftGate, foldRightGate, foldStem, umbrellas, stems}
-use Rattle.umbrella.specs.Numbers.{ud, fanA, fanB}
+use Rattle.umbrella.specs.Values.{ud, fanA, fanB}
 use Rattle.umbrella.specs.Best.{best}
 use Rattle.umbrella.specs.declared.roles.Role.{Role}
 use Rattle.umbrella.specs.declared.roles.Role.the-variants.{Hung, LeftRim, RightRim, FromLeft, FromRight}
@@ -74,30 +74,30 @@ module _ (x y : ℕ) where
   -- an umbrella with one level: sides are hung on it and beside its stem, which it has if a piece on its rim is no side
   abbrev OneLevel : Tree → Type 0
   OneLevel leaf = Unit {0}
-  OneLevel (node l r) = (d : ℕ) → ud (node l r) ≡ 1 → ((max (fanA l) (fanB r) ≡ 0) × (weight x y Hung d (node l r) ≡ x)) ⊎ ((1 ≤ max (fanA l) (fanB r)) × (weight x y Hung d (node l r) ≡ x + y))
+  OneLevel (node l r) = (d : ℕ) → ud (node l r) ≡ 1 → ((max (fanA l r) (fanB l r) ≡ 0) × (weight x y Hung d (node l r) ≡ x)) ⊎ ((1 ≤ max (fanA l r) (fanB l r)) × (weight x y Hung d (node l r) ≡ x + y))
 
   one-level : (t : Tree) → OneLevel t
   unfolding weight ud stemStep
   one-level = by-recursion (record {
     Hung = λ t p. OneLevel t;
-    Left = λ d t A. d ≡ 0 → (fanA t ≡ 0) × (weight x y LeftRim d t ≡ 0);
-    LeftGated = λ d t G. d ≡ 0 → (1 ≤ fanA t) × (weight x y LeftRim d t ≡ y);
-    Right = λ d t B. d ≡ 0 → (fanB t ≡ 0) × (weight x y RightRim d t ≡ 0);
-    RightGated = λ d t G. d ≡ 0 → (1 ≤ fanB t) × (weight x y RightRim d t ≡ y);
+    Left = λ d t A. (s : Tree) → d ≡ 0 → (fanA t s ≡ 0) × (weight x y LeftRim d t ≡ 0);
+    LeftGated = λ d t G. (s : Tree) → d ≡ 0 → (1 ≤ fanA t s) × (weight x y LeftRim d t ≡ y);
+    Right = λ d t B. (s : Tree) → d ≡ 0 → (fanB s t ≡ 0) × (weight x y RightRim d t ≡ 0);
+    RightGated = λ d t G. (s : Tree) → d ≡ 0 → (1 ≤ fanB s t) × (weight x y RightRim d t ≡ y);
     Entered = λ k d t T. d ≡ 0 → (1 ≤ ud t) × (weight x y (stem k) d t ≡ 0);
   }) (record {
     empty = tt;
-    bare = λ k l r A B h L R d e. let (u, m) = L (omega (arith, h)) in let (v, n) = R (omega (arith, h)) in inl (omega (arith, u, v), hung-total d l r k (omega (arith, h)) ∙ rw (m, n) (omega arith));
-    stem-below = λ k l r G B h L R d e. let (u, m) = L (omega (arith, h)) in let (v, n) = R (omega (arith, h)) in inr (omega (arith, u), hung-total d l r k (omega (arith, h)) ∙ rw (m, n) (omega arith));
-    stem-above = λ k l r A G h L R d e. let (u, m) = L (omega (arith, h)) in let (v, n) = R (omega (arith, h)) in inr (omega (arith, v), hung-total d l r k (omega (arith, h)) ∙ rw (m, n) (omega arith));
-    left-end = λ d z. (refl, refl);
-    left-on = λ d a b A p e i L P z. (omega (arith, L z), own-total LeftRim d a b _ refl e ∙ rw (L z .1, hung-side d b (omega arith)) (omega arith));
-    left-past = λ d a b G p e i L P z. (omega (arith, L z), own-total LeftRim d a b _ refl e ∙ rw (L z .1, hung-side d b (omega arith)) (omega arith));
-    left-gate = λ d a b A T e L s z. (omega (arith, s z), own-total LeftRim d a b _ refl e ∙ rw (L z .1, s z .1) (omega arith));
-    right-end = λ d z. (refl, refl);
-    right-on = λ d a b p B e i P R z. (omega (arith, R z), own-total RightRim d a b _ refl e ∙ rw (R z .1, hung-side d a (omega arith)) (omega arith));
-    right-past = λ d a b p G e i P R z. (omega (arith, R z), own-total RightRim d a b _ refl e ∙ rw (R z .1, hung-side d a (omega arith)) (omega arith));
-    right-gate = λ d a b T B e s R z. (omega (arith, s z), own-total RightRim d a b _ refl e ∙ rw (R z .1, s z .1) (omega arith));
+    bare = λ k l r A B h L R d e. let (u, m) = L r (omega (arith, h)) in let (v, n) = R l (omega (arith, h)) in inl (omega (arith, u, v), hung-total d l r k (omega (arith, h)) ∙ rw (m, n) (omega arith));
+    stem-below = λ k l r G B h L R d e. let (u, m) = L r (omega (arith, h)) in let (v, n) = R l (omega (arith, h)) in inr (omega (arith, u), hung-total d l r k (omega (arith, h)) ∙ rw (m, n) (omega arith));
+    stem-above = λ k l r A G h L R d e. let (u, m) = L r (omega (arith, h)) in let (v, n) = R l (omega (arith, h)) in inr (omega (arith, v), hung-total d l r k (omega (arith, h)) ∙ rw (m, n) (omega arith));
+    left-end = λ d s z. (refl, refl);
+    left-on = λ d a b A p e i L P s z. (omega (arith, L b z), own-total LeftRim d a b _ refl e ∙ rw (L b z .1, hung-side d b (omega arith)) (omega arith));
+    left-past = λ d a b G p e i L P s z. (omega (arith, L b z), own-total LeftRim d a b _ refl e ∙ rw (L b z .1, hung-side d b (omega arith)) (omega arith));
+    left-gate = λ d a b A T e L f s z. (omega (arith, f z), own-total LeftRim d a b _ refl e ∙ rw (L b z .1, f z .1) (omega arith));
+    right-end = λ d s z. (refl, refl);
+    right-on = λ d a b p B e i P R s z. (omega (arith, R a z), own-total RightRim d a b _ refl e ∙ rw (R a z .1, hung-side d a (omega arith)) (omega arith));
+    right-past = λ d a b p G e i P R s z. (omega (arith, R a z), own-total RightRim d a b _ refl e ∙ rw (R a z .1, hung-side d a (omega arith)) (omega arith));
+    right-gate = λ d a b T B e f R s z. (omega (arith, f z), own-total RightRim d a b _ refl e ∙ rw (R a z .1, f z .1) (omega arith));
     ends = λ k d e z. (omega arith, stem-total k d leaf leaf _ e);
     ends-left = λ k d v w p e i P z. absurd (omega arith);
     ends-right = λ k d v w p e i P z. absurd (omega arith);
@@ -110,7 +110,7 @@ pub counted-best : (t : Tree) (d : ℕ) → counted Hung d t ≡ record { umbrel
 counted-best t d = rw (hung-is 1 0 suc suc (λ n. omega arith) (λ n. omega arith) t d, hung-is 0 1 (λ n. n) suc (λ n. omega arith) (λ n. omega arith) t d)
 
 -- an umbrella with one level: the code looks at its fans
-pub counted-one-level : (l r : Tree) (d : ℕ) → ud (node l r) ≡ 1 → counted Hung d (node l r) ≡ record { umbrellas = 1; stems = min (max (fanA l) (fanB r)) 1 }
+pub counted-one-level : (l r : Tree) (d : ℕ) → ud (node l r) ≡ 1 → counted Hung d (node l r) ≡ record { umbrellas = 1; stems = min (max (fanA l r) (fanB l r)) 1 }
 counted-one-level l r d h = rw (umbrella-is (one-level 1 0 (node l r) d h), stem-is (one-level 0 1 (node l r) d h))
   where
     umbrella-is : {f n : ℕ} → ((f ≡ 0) × (n ≡ 1)) ⊎ ((1 ≤ f) × (n ≡ 1 + 0)) → n ≡ 1

@@ -7,7 +7,7 @@ use mathlib.Core.List.{List}
 use Prim.Native.Nat.{ℕ, _+_, _-_, _≤_, _<_, min, max}
 use native.Mathlib.Omega.{arith}
 use Rattle.polygon.specs.Tree.{Tree, leaf, node, span}
-use Rattle.umbrella.specs.Numbers.{ud}
+use Rattle.umbrella.specs.Values.{ud}
 use Rattle.umbrella.specs.declared.roles.Role.{Role}
 use Rattle.umbrella.specs.declared.roles.Role.the-variants.{Hung, LeftRim, RightRim, FromLeft, FromRight}
 use Rattle.umbrella.specs.declared.roles.Step.{Step}
@@ -18,7 +18,7 @@ use Rattle.tree.specs.declared.Two.{Two}
 use Rattle.tree.specs.Table.{beyond}
 use Rattle.tree.proofs.Pieces.{closed, corners, ends, one-piece}
 use Rattle.levels.specs.declared.Six.{Six}
-use Rattle.levels.specs.Numbered.{six, sixAt, Tabled}
+use Rattle.levels.specs.Kept.{six, sixAt, Tabled}
 use Rattle.levels.proofs.Knowing.{TabledParts}
 use Rattle.plan.specs.declared.counts.Tally.{Tally}
 use Rattle.plan.specs.declared.counts.Spot.{Spot}
@@ -62,39 +62,30 @@ pub none-to-count : {tr ds : List ℕ} {x : Spot} {t : Tree} → ToCount tr ds x
 unfolding weight
 none-to-count L h y z = rw (L .none h)
 
--- the numbers that the code reads at the triangle of x
-pub record NumbersRead (tr ds : List ℕ) (x : Spot) (b : Two) (l r own : Six) : Type 0 where
-  pub two-is : b ≡ beyond tr (x .piece)
-  pub left-is : l ≡ sixAt ds (b .left .e)
-  pub right-is : r ≡ sixAt ds (b .right .e)
-  pub own-is : own ≡ sixAt ds (x .piece .e)
-
-module _ {tr ds : List ℕ} {x : Spot} {b : Two} {l r own : Six} {t : Tree} (N : NumbersRead tr ds x b l r own) (K : TabledParts tr ds (x .piece .e) (x .piece .u) (x .piece .v) t) where
+-- the values that the code reads at the triangle of x: its own, and those of the pieces beyond
+module _ {tr ds : List ℕ} (x : Spot) {own : Six} {t : Tree} (own-is : own ≡ sixAt ds (x .piece .e)) (K : TabledParts tr ds (x .piece .e) (x .piece .u) (x .piece .v) t) where
   abbrev a : Tree
   a = K .parts .l
 
   abbrev c : Tree
   c = K .parts .r
 
-  l-is : l ≡ six a
-  l-is = N .left-is ∙ (ap (λ (z : Two). sixAt ds (z .left .e)) (N .two-is) ∙ K .six-l)
-
-  r-is : r ≡ six c
-  r-is = N .right-is ∙ (ap (λ (z : Two). sixAt ds (z .right .e)) (N .two-is) ∙ K .six-r)
+  own-six : own ≡ six (node a c)
+  own-six = own-is ∙ K .six-t
 
   own-levels : own .ud ≡ ud (node a c)
-  own-levels = ap (λ (z : Six). z .ud) (N .own-is ∙ K .six-t)
+  own-levels = ap (λ (z : Six). z .ud) own-six
 
   -- the counts are those of a triangle's piece
   of-node : (y z : ℕ) → weight y z (x .role) (x .d) t ≡ weight y z (x .role) (x .d) (node a c)
   of-node y z = ap (weight y z (x .role) (x .d)) (K .parts .is)
 
   -- an umbrella with one level is counted at once
-  pub fork-low : {w : Fork} → own .ud - 1 ≡ 0 → isHung (x .role) ≡ true → w ≡ lowFork (min (max (l .«fan_a») (r .«fan_b»)) 1) → Forked tr ds x t w
-  unfolding weight ud
+  pub fork-low : {w : Fork} → own .ud ≡ 1 → isHung (x .role) ≡ true → w ≡ lowFork (min (max (own .«fan_a») (own .«fan_b»)) 1) → Forked tr ds x t w
+  unfolding weight
   fork-low z h e =
       let q = counted-one-level a c (x .d) (omega (arith, own-levels)) in
-      rw (e, l-is, r-is) (record {
+      rw (e, own-six) (record {
         small = leaf;
         large = leaf;
         left-small = nothing;
@@ -109,35 +100,42 @@ module _ {tr ds : List ℕ} {x : Spot} {b : Two} {l r own : Six} {t : Tree} (N :
       nothing = record { known = λ h. absurd (omega arith); none = λ h. refl; low = omega arith }
 
   -- else the two pieces beyond are left
-  module _ {s : Step} {k : ℕ} (s-is : s ≡ stepAt (x .role) (x .d) (l .ud) (r .ud) (l .handle)) (k-is : k ≡ levelsUnder (x .role) (x .d) (own .ud - 1)) where
-    split : (y z : ℕ) → weight y z (x .role) (x .d) t ≡ weight y z (s .left) k a + weight y z (s .right) k c + adds (x .role) y (atGate z (s .crossed))
-    unfolding weight
-    split y z = of-node y z ∙ rw (s-is, k-is, l-is, r-is, own-levels)
+  module _ {b : Two} {l r : Six} (two-is : b ≡ beyond tr (x .piece)) (left-is : l ≡ sixAt ds (b .left .e)) (right-is : r ≡ sixAt ds (b .right .e)) where
+    l-is : l ≡ six a
+    l-is = left-is ∙ (ap (λ (z : Two). sixAt ds (z .left .e)) two-is ∙ K .six-l)
 
-    umbrellas-split : weight 1 0 (x .role) (x .d) t ≡ weight 1 0 (s .left) k a + weight 1 0 (s .right) k c + adds (x .role) 1 0
-    umbrellas-split = split 1 0 ∙ rw (no-gate (s .crossed))
+    r-is : r ≡ six c
+    r-is = right-is ∙ (ap (λ (z : Two). sixAt ds (z .right .e)) two-is ∙ K .six-r)
 
-    pub fork-both : {w : Fork} → (w ≡ forkOf (x .role) s (spot k (b .left) (s .left)) (spot k (b .right) (s .right))) ⊎ (w ≡ forkOf (x .role) s (spot k (b .right) (s .right)) (spot k (b .left) (s .left))) → Forked tr ds x t w
-    fork-both (inl e) = rw (e, N .two-is) (record {
-      small = a;
-      large = c;
-      left-small = to-count k (s .left) (K .known-l);
-      left-large = to-count k (s .right) (K .known-r);
-      less-small = omega (arith, K .parts);
-      less-large = omega (arith, K .parts);
-      umbrellas-are = omega (arith, umbrellas-split);
-      stems-are = omega (arith, split 0 1);
-    })
-    fork-both (inr e) = rw (e, N .two-is) (record {
-      small = c;
-      large = a;
-      left-small = to-count k (s .right) (K .known-r);
-      left-large = to-count k (s .left) (K .known-l);
-      less-small = omega (arith, K .parts);
-      less-large = omega (arith, K .parts);
-      umbrellas-are = omega (arith, umbrellas-split);
-      stems-are = omega (arith, split 0 1);
-    })
+    module _ {s : Step} {k : ℕ} (s-is : s ≡ stepAt (x .role) (x .d) (l .ud) (r .ud) (l .handle)) (k-is : k ≡ levelsUnder (x .role) (x .d) (own .ud - 1)) where
+      split : (y z : ℕ) → weight y z (x .role) (x .d) t ≡ weight y z (s .left) k a + weight y z (s .right) k c + adds (x .role) y (atGate z (s .crossed))
+      unfolding weight
+      split y z = of-node y z ∙ rw (s-is, k-is, l-is, r-is, own-levels)
+
+      umbrellas-split : weight 1 0 (x .role) (x .d) t ≡ weight 1 0 (s .left) k a + weight 1 0 (s .right) k c + adds (x .role) 1 0
+      umbrellas-split = split 1 0 ∙ rw (no-gate (s .crossed))
+
+      pub fork-both : {w : Fork} → (w ≡ forkOf (x .role) s (spot k (b .left) (s .left)) (spot k (b .right) (s .right))) ⊎ (w ≡ forkOf (x .role) s (spot k (b .right) (s .right)) (spot k (b .left) (s .left))) → Forked tr ds x t w
+      fork-both (inl e) = rw (e, two-is) (record {
+        small = a;
+        large = c;
+        left-small = to-count k (s .left) (K .known-l);
+        left-large = to-count k (s .right) (K .known-r);
+        less-small = omega (arith, K .parts);
+        less-large = omega (arith, K .parts);
+        umbrellas-are = omega (arith, umbrellas-split);
+        stems-are = omega (arith, split 0 1);
+      })
+      fork-both (inr e) = rw (e, two-is) (record {
+        small = c;
+        large = a;
+        left-small = to-count k (s .right) (K .known-r);
+        left-large = to-count k (s .left) (K .known-l);
+        less-small = omega (arith, K .parts);
+        less-large = omega (arith, K .parts);
+        umbrellas-are = omega (arith, umbrellas-split);
+        stems-are = omega (arith, split 0 1);
+      })
 
 -- m umbrellas and n stems are counted of the piece begun with, at x₀, and the piece at x is left
 pub record Counting (tr ds : List ℕ) (x₀ x : Spot) (m n : ℕ) : Type 0 where

@@ -6,13 +6,13 @@ use mathlib.Core.List.{List}
 use Prim.Native.Nat.{ℕ, _+_, _-_, _<_, _≤_}
 use Rattle.polygon.specs.Tree.{Tree, leaf, node}
 use Rattle.umbrella.specs.Plan.{Plan, levels, umbrellas, stems}
-use Rattle.umbrella.specs.Numbers.{ud}
+use Rattle.umbrella.specs.Values.{ud}
 use Rattle.umbrella.specs.declared.roles.Role.{Role}
 use Rattle.umbrella.specs.declared.roles.Role.the-variants.{Hung, LeftRim, RightRim, FromLeft, FromRight}
 use Rattle.umbrella.specs.Roles.{stepOf, levelsUnder}
 use Rattle.umbrella.specs.declared.roles.Step.{Step}
 use Rattle.tree.specs.declared.Root.{Root}
-use Rattle.levels.specs.Numbered.{Tabled}
+use Rattle.levels.specs.Kept.{Tabled}
 use Rattle.plan.specs.declared.Totals.{Totals}
 use Rattle.plan.specs.declared.counts.Tally.{Tally}
 use Rattle.plan.specs.declared.counts.Spot.{Spot}

@@ -4,10 +4,10 @@ ghost use mathlib.Core.Path.{_≡_};
 ghost use mathlib.Core.Logic.{_⊎_};
 ghost use Prim.Native.Nat.{_+_, _<_, _≤_, max, min};
 ghost use Rattle.polygon.specs.Tree.{Tree};
-ghost use Rattle.levels.specs.Numbered.{Tabled};
+ghost use Rattle.levels.specs.Kept.{Tabled};
 ghost use Rattle.plan.specs.Counts.{atGate, adds, counted, spot, forkOf, lowFork, Forked};
-use levels::NUMBERS;
-use levels::numbers;
+use levels::VALUES;
+use levels::values;
 use tree::PLACES;
 use tree::Root;
 use tree::Two;
@@ -127,7 +127,7 @@ fn one_level(a: u16, b: u16) -> Fork
 }
 
 // Counts at the triangle of a piece that is no side.
-fn triangle(tree: &[u32; PLACES], depths: &[u16; NUMBERS], x: Spot) -> Fork
+fn triangle(tree: &[u32; PLACES], depths: &[u8; VALUES], x: Spot) -> Fork
     requires known { ⌜ ((t : Tree) × Tabled (now tree) (now depths) (x .piece .e) (x .piece .u) (x .piece .v) t) ⌝ }
     requires apart { ⌜ x .piece .u + 1 < x .piece .v ⌝ }
     ensures { λ r. ⌜ ((t : Tree) → Tabled (now (tree .entry)) (now (depths .entry)) (x .piece .e) (x .piece .u) (x .piece .v) t
@@ -135,21 +135,21 @@ fn triangle(tree: &[u32; PLACES], depths: &[u16; NUMBERS], x: Spot) -> Fork
 {
     let p = x.piece;
     let role = x.role;
-    let t = open(tree, p);
-    let l = numbers(depths, t.left.e as usize);
-    let r = numbers(depths, t.right.e as usize);
-    let own = numbers(depths, p.e as usize).ud - 1;
-    if own == 0 {
+    let own = values(depths, p.e as usize);
+    if own.ud == 1 {
         if is_hung(role) {
-            return one_level(l.fan_a, r.fan_b);
+            return one_level(own.fan_a, own.fan_b);
         }
     }
+    let t = open(tree, p);
+    let l = values(depths, t.left.e as usize);
+    let r = values(depths, t.right.e as usize);
     let s = step_at(role, x.d, l.ud, r.ud, l.handle);
-    larger_last(role, levels_under(role, x.d, own), t, s)
+    larger_last(role, levels_under(role, x.d, own.ud - 1), t, s)
 }
 
 // Counts in the piece p, by its role with d levels under the umbrella; for a hung piece d is not looked at.
-pub fn count(tree: &[u32; PLACES], depths: &[u16; NUMBERS], p: Root, role: Role, d: u16) -> Tally
+pub fn count(tree: &[u32; PLACES], depths: &[u8; VALUES], p: Root, role: Role, d: u16) -> Tally
     requires { ⌜ ((t : Tree) × Tabled (now tree) (now depths) (p .e) (p .u) (p .v) t) ⌝ }
     ensures { λ r. ⌜ ((t : Tree) → Tabled (now (tree .entry)) (now (depths .entry)) (p .e) (p .u) (p .v) t → r ≡ counted role d t) ⌝ }
 {

@@ -1,19 +1,19 @@
 // The operation Plan: levels, umbrellas and stems of the plan drawn of a sheet's part.
-// The crates tree and levels hold the part's tree and the numbers of its pieces; counts.rt counts the umbrellas and stems of the plan drawn.
+// The crates tree and levels hold the part's tree and the values of its edges; counts.rt counts the umbrellas and stems of the plan drawn.
 // The definitions that the contracts cite are in specs/; Answer.antt says what the operation answers.
 ghost use mathlib.Core.Path.{_≡_};
 ghost use Prim.Native.Nat.{ℕ};
 ghost use Rattle.polygon.specs.Tree.{Tree};
 ghost use Rattle.sheet.specs.Held.{polygonOf, InHand};
 ghost use Rattle.umbrella.specs.Best.{best, planOf};
-ghost use Rattle.levels.specs.Numbered.{Filled};
+ghost use Rattle.levels.specs.Kept.{Filled};
 ghost use Rattle.plan.specs.Counts.{totalsOf};
 ghost use Rattle.plan.specs.Answer.{plannedOf, planned};
 use crate::counts::count;
 use keys::DIAGONALS;
-use levels::NUMBERS;
+use levels::VALUES;
 use levels::fill;
-use levels::numbers;
+use levels::values;
 use sheet::Head;
 use sheet::Read;
 use sheet::reader::read_sheet;
@@ -37,11 +37,11 @@ pub struct Totals {
 }
 
 // The counts of a part whose tables are filled.
-pub fn counts_of(tree: &[u32; PLACES], depths: &[u16; NUMBERS], p: Root) -> Totals
+pub fn counts_of(tree: &[u32; PLACES], depths: &[u8; VALUES], p: Root) -> Totals
     requires { ⌜ ((n : ℕ) × (t : Tree) × Filled n t (now tree) (now depths) p) ⌝ }
     ensures { λ r. ⌜ ((n : ℕ) (t : Tree) → Filled n t (now (tree .entry)) (now (depths .entry)) p → r ≡ totalsOf (best t)) ⌝ }
 {
-    let s = numbers(depths, p.e as usize);
+    let s = values(depths, p.e as usize);
     let t = count(tree, depths, p, Role::Hung, 0);
     Totals {
         levels: s.ud,
@@ -57,7 +57,7 @@ pub fn plan_part(h: Head, keys: &[u32]) -> Totals
 {
     let m = h.n - 3;
     let mut tree = [0u32; PLACES];
-    let mut depths = [0u16; NUMBERS];
+    let mut depths = [0u8; VALUES];
     let p = fill(&keys[..m], h.n, &mut tree, &mut depths);
     counts_of(&tree, &depths, p)
 }

@@ -3,22 +3,18 @@
 use mathlib.Core.Path.{_≡_, refl, sym}
 use mathlib.Core.Logic.{_⊎_, inl, inr, _↔_}
 use mathlib.Core.List.{List}
-use Prim.Native.Nat.{ℕ, suc, _+_, _-_, _≤_, _<_}
+use Prim.Native.Nat.{ℕ, suc, _+_, _≤_, _<_}
 use native.Mathlib.Decide.{decLe}
 use native.Mathlib.Omega.{arith}
 use Rattle.lists.specs.Lists.{Sub}
 use Rattle.lists.proofs.Lists.{all-mem}
 use Rattle.polygon.specs.Polygon.{Edge, _—_, Triangulated, Linked}
-use Rattle.polygon.specs.Tree.{Tree, leaf, node, span, chords, inner, grow, treeOf, Piece, itself, beyond-left, beyond-right, PieceOf}
+use Rattle.polygon.specs.Tree.{Tree, leaf, node, span, chords, inner, piece, treeOf, Piece, itself, beyond-left, beyond-right, PieceOf}
 use Rattle.polygon.proofs.Order.{low-of, high-of}
 use Rattle.polygon.proofs.Chords.{span-pos, chords-in, inner-left, inner-right, inner-chords, inner-sub, node-cases, InPieces}
 use Rattle.polygon.proofs.TreeOf.{grow-ok}
 use Rattle.polygon.proofs.TreeTheorem.{tree-of}
 use Rattle.polygon.proofs.Triangle.{JoinedIn, touch, link, touch-root, linked-up}
-
--- the piece (u,v) of a part with these diagonals
-unfoldable pub piece : List Edge → ℕ → ℕ → Tree
-piece ds u v = grow (v - u) ds u v
 
 -- two corners that are joined in the piece `node l r` on the corners from u on: both in l, both in r, or the ends of the root edge
 abbrev pub Where : ℕ → Tree → Tree → ℕ → ℕ → Type 0

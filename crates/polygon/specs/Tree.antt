@@ -54,6 +54,10 @@ grow (suc k) ds u v =
     let t = node (grow k ds u c) (grow k ds c v) in
     choose (decLt (suc u) v) t leaf
 
+-- the piece (u,v)
+unfoldable pub piece : List Edge → ℕ → ℕ → Tree
+piece ds u v = grow (v - u) ds u v
+
 unfoldable pub treeOf : ℕ → List Edge → Tree
 treeOf n ds = grow n ds 0 (n - 1)
 

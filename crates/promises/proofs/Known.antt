@@ -7,14 +7,14 @@ use Rattle.lists.specs.Lists.{All, all-cons, all-nil, all?, below, choose, eith
 use Rattle.polygon.specs.Angles.{in-range?, allowed?}
 use Rattle.polygon.specs.Carried.{angleOf, carried}
 use Rattle.polygon.specs.Order.{before?, same?, cross?, none-cross?, diagonal?, distinct?, remove, place, insert, sort, lower-first}
-use Rattle.polygon.specs.Tree.{span, chordsAt, treeOf, grow, far, farther, near?}
+use Rattle.polygon.specs.Tree.{span, chordsAt, piece, treeOf, grow, far, farther, near?}
 use Rattle.codec.specs.Answer.{fit, written}
 use Rattle.codec.specs.Numbers.{run16}
 use Rattle.sheet.specs.Sheet.{ask, pairs, angles, count?, more, readSheet, pairBytes, mapByte, normalSheet, outcome, ordered}
 use Rattle.edit.specs.Rules.{up, down, both, entering, earAdded, neighbours, earRemoved, away?, result, side?, linked?, joined?, common, enter, flipped, rule}
 use Rattle.edit.specs.Calls.{onHeld, edited}
 use Rattle.umbrella.specs.Plan.{fold}
-use Rattle.umbrella.specs.Numbers.{ud}
+use Rattle.umbrella.specs.Values.{ud}
 use Rattle.umbrella.specs.Best.{best, umbrella, leftAt, rightAt, stemAt, over-node}
 use Rattle.plan.specs.Answer.{answer, planned}
 use Rattle.chart.specs.Places.{cols, rows}
@@ -24,10 +24,10 @@ use Rattle.chart.specs.Bytes.{barBytes, strokeBytes, bytesOf}
 use Rattle.log_line.specs.Line.{digits, decimal, line, refusedLine}
 use Rattle.draw.specs.Answer as draw
 use Rattle.draw.specs.Printed.{printedOf, printed}
-use Rattle.promises.specs.Known.{sheet, barsIn, columnsIn, Holds, cases}
+use Rattle.promises.specs.Known.{sheet, barsIn, columnsIn, valuesIn, Holds, cases}
 
 pub known : All Holds cases
-unfolding sheet barsIn columnsIn readSheet ask pairs angles carried angleOf allowed? in-range? three? recast? count? more pairBytes run16 mapByte normalSheet outcome ordered written fit Dec·and choose put keep
+unfolding sheet barsIn columnsIn valuesIn piece readSheet ask pairs angles carried angleOf allowed? in-range? three? recast? count? more pairBytes run16 mapByte normalSheet outcome ordered written fit Dec·and choose put keep
     numbers below all? diagonal? distinct? sorted? not? mem? same? none-cross? cross? sort insert place before? either? lower-first remove decLe ℕ-discrete decLt
     side? linked? joined? common enter flipped result up down both entering earAdded neighbours earRemoved away? rule onHeld edited planned answer draw.drawn draw.charted printed printedOf digits decimal line
     refusedLine chartOf chart layout treeOf grow far farther near? span chordsAt best umbrella leftAt rightAt stemAt over-node ud fold cols rows edges edgesAt
@@ -39,4 +39,5 @@ known =
     (all-cons refl (all-cons refl (all-cons refl (all-cons refl (all-cons refl (all-cons refl (all-cons refl
     (all-cons refl (all-cons refl (all-cons refl (all-cons refl (all-cons refl (all-cons refl (all-cons refl
     (all-cons refl (all-cons refl (all-cons refl (all-cons refl (all-cons refl (all-cons refl (all-cons refl
-    (all-cons refl (all-cons refl (all-cons refl (all-cons refl all-nil)))))))))))))))))))))))))))))))))))))))))))))
+    (all-cons refl (all-cons refl (all-cons refl (all-cons refl (all-cons refl (all-cons refl (all-cons refl
+    (all-cons refl (all-cons refl (all-cons refl (all-cons refl all-nil))))))))))))))))))))))))))))))))))))))))))))))))))))

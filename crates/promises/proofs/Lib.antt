@@ -6,3 +6,4 @@ pub mod Runs
 pub mod SameDrawing
 pub mod PartNumbers
 pub mod BendAngles
+pub mod DepthInOrder

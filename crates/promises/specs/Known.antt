@@ -1,13 +1,15 @@
--- The known parts of document 01 that are marked M, one part more, and the known sheets of requests (xi) and (xii), as one list of cases, each on a sheet's bytes. proofs/Known.antt proves them all.
+-- The known parts of document 01 that are marked M, one part more, and the known sheets of requests (iv), (xi) and (xii), as one list of cases, each on a sheet's bytes. proofs/Known.antt proves them all.
 use mathlib.Core.Path.{_≡_}
 use mathlib.Core.List.{List, [], _∷_, _++_}
 use Prim.Native.Nat.{ℕ}
 use Rattle.polygon.specs.Polygon.{Edge, _—_}
+use Rattle.polygon.specs.Tree.{piece}
 use Rattle.codec.specs.Numbers.{bytes16}
 use Rattle.codec.specs.Answer.{Answer, write, written}
 use Rattle.sheet.specs.Sheet.{Reading, refused, held, readSheet, pairBytes, ordered}
 use Rattle.edit.specs.Rules.{Edit, addEar, removeEar, flip}
 use Rattle.edit.specs.Calls.{edited}
+use Rattle.umbrella.specs.Values.{values}
 use Rattle.plan.specs.Answer.{planned}
 use Rattle.chart.specs.Chart.{Bar, barsOf, chartOf}
 use Rattle.draw.specs.Answer.{drawn}
@@ -45,11 +47,16 @@ unfoldable pub columnsIn : Reading → ℕ
 columnsIn (refused k) = 0
 columnsIn (held p) = chartOf p .columns
 
+-- the six values of its edge (a,b), in the order of document 004, chapter 6
+unfoldable pub valuesIn : Reading → ℕ → ℕ → List ℕ
+valuesIn (refused k) a b = []
+valuesIn (held p) a b = values (piece (p .ds) a b)
+
 abbrev pub bar : ℕ → ℕ → ℕ → Bar
 bar r l s = record { row = r; left = l; right = s }
 
 -- a case: a sheet refused by a number; one with these levels, umbrellas and stems; with these chart bytes; with these bars; with so many columns; a sheet whose diagonal is turned; one that is edited; one with this line;
--- a sheet and an output, and the answer of setting in order
+-- a sheet and an output, and the answer of setting in order; a sheet with these six values at the edge (a,b)
 pub data Case : Type 0 where
   refusedBy : List ℕ → ℕ → Case
   counted : List ℕ → ℕ → ℕ → ℕ → Case
@@ -60,6 +67,7 @@ pub data Case : Type 0 where
   changed : List ℕ → Edit → List ℕ → Case
   lined : List ℕ → List ℕ → Case
   inOrder : List ℕ → List ℕ → Answer → Case
+  valued : List ℕ → ℕ → ℕ → List ℕ → Case
 
 abbrev pub Holds : Case → Type 0
 Holds (refusedBy s k) = readSheet s ≡ refused k
@@ -71,6 +79,7 @@ Holds (turned s a b t) = edited (flip a b) s ≡ write t
 Holds (changed s e t) = edited e s ≡ write t
 Holds (lined s bs) = printed s ≡ bs
 Holds (inOrder s out a) = written (ordered s) out ≡ a
+Holds (valued s a b xs) = valuesIn (readSheet s) a b ≡ xs
 
 -- the part of the last two cases
 abbrev pub manyHung : List ℕ
@@ -151,4 +160,14 @@ cases =
     -- "The chart doesn't depend on angles."
     ∷ counted (bentSquare 1 194) 1 1 0
     ∷ barred (bentSquare 1 194) (bar 0 0 1 ∷ bar 2 0 0 ∷ bar 2 1 2 ∷ bar 0 2 2 ∷ [])
+    -- Request (iv), "handle, fans, partial umbrellas, then the whole": the triangle, "(0 if none)", and one of its sides
+    ∷ valued (sheet 3 []) 0 2 (0 ∷ 0 ∷ 0 ∷ 0 ∷ 0 ∷ 1 ∷ [])
+    ∷ valued (sheet 3 []) 1 2 (0 ∷ 0 ∷ 0 ∷ 0 ∷ 0 ∷ 0 ∷ [])
+    -- the hexagon: the root, whose stem goes across (2,4), and (0,4), where either of two pieces is left hanging
+    ∷ valued (sheet 6 ((0 — 2) ∷ (2 — 4) ∷ (0 — 4) ∷ [])) 0 5 (1 ∷ 1 ∷ 0 ∷ 0 ∷ 0 ∷ 1 ∷ [])
+    ∷ valued (sheet 6 ((0 — 2) ∷ (2 — 4) ∷ (0 — 4) ∷ [])) 0 4 (1 ∷ 0 ∷ 0 ∷ 0 ∷ 0 ∷ 1 ∷ [])
+    -- n = 7, (0,5) (1,5) (1,3) (3,5): the root, and (3,5), which is on no rim
+    ∷ valued (sheet 7 ((0 — 5) ∷ (1 — 5) ∷ (1 — 3) ∷ (3 — 5) ∷ [])) 0 6 (1 ∷ 1 ∷ 0 ∷ 1 ∷ 0 ∷ 2 ∷ [])
+    ∷ valued (sheet 7 ((0 — 5) ∷ (1 — 5) ∷ (1 — 3) ∷ (3 — 5) ∷ [])) 0 5 (1 ∷ 0 ∷ 1 ∷ 0 ∷ 0 ∷ 1 ∷ [])
+    ∷ valued (sheet 7 ((0 — 5) ∷ (1 — 5) ∷ (1 — 3) ∷ (3 — 5) ∷ [])) 3 5 (0 ∷ 0 ∷ 0 ∷ 0 ∷ 0 ∷ 1 ∷ [])
     ∷ []

@@ -1,6 +1,6 @@
 -- What holds of the plan drawn of a piece: an induction over the walk of it, for any statements about hung pieces, rims and stems.
 -- The choices of Best.antt are decided here, once: each step of the induction is told how the walk goes on (Roles.antt), and that the hung pieces do with the levels under the umbrella.
--- Rests on Cases.antt, on the inequalities between the six numbers, and on the levels of the plan computed.
+-- Rests on Cases.antt, on the inequalities between the six values, and on the levels of the plan computed.
 use mathlib.Core.Path.{_≡_, refl}
 use mathlib.Core.Bool.{Bool, true, false, not, false≢true}
 use Prim.Native.Nat.{ℕ, suc, _≤_, min, max}
@@ -8,7 +8,7 @@ use native.Mathlib.Decide.{decLe}
 use native.Mathlib.Omega.{arith}
 use Rattle.polygon.specs.Tree.{Tree, leaf, node}
 use Rattle.umbrella.specs.Plan.{Plan, none, plain, stemLeft, stemRight, LeftRim, leftEnd, leftOn, RightRim, rightEnd, rightOn, LeftGate, leftGate, leftPast, RightGate, rightGate, rightPast, Stem, endBoth, endLeft, endRight, goLeft, goRight, levels}
-use Rattle.umbrella.specs.Numbers.{ud, handle, fanA, fanB, partA, partB}
+use Rattle.umbrella.specs.Values.{ud, handle, fanA, fanB, partialA, partialB}
 use Rattle.umbrella.specs.Best.{Over, Node, two, umbrella, leftAt, rightAt, stemAt, under, best, bestLeft, bestRight, gateLeft, gateRight, bestStem}
 use Rattle.umbrella.specs.declared.roles.Role.{Role}
 use Rattle.umbrella.specs.declared.roles.Role.the-variants as role
@@ -74,47 +74,47 @@ goes true d a b e = rw e
 goes false d a b e = rw e
 
 -- a stem through a piece does with d levels: so do the piece beside it and the stem through the piece ahead
-through-left : (x y z w d : ℕ) → (z ≤ d → ⊥) → min (max x y) (max z w) ≤ d → x ≤ d
+through-left : (x y z w d : ℕ) → (w ≤ d → ⊥) → min (max x y) (max z w) ≤ d → x ≤ d
 through-left x y z w d i h = omega arith
 
-through-right : (x y z w d : ℕ) → (y ≤ d → x ≤ d → ⊥) → min (max x y) (max z w) ≤ d → (z ≤ d) × (w ≤ d)
+through-right : (x y z w d : ℕ) → (y ≤ d → x ≤ d → ⊥) → min (max x y) (max z w) ≤ d → (w ≤ d) × (z ≤ d)
 through-right x y z w d i h = go (decLe y d) (decLe x d)
   where
-    go : Dec (y ≤ d) → Dec (x ≤ d) → (z ≤ d) × (w ≤ d)
+    go : Dec (y ≤ d) → Dec (x ≤ d) → (w ≤ d) × (z ≤ d)
     go (yes a) (yes b) = absurd (i a b)
     go (yes a) (no b) = (omega arith, omega arith)
     go (no a) b = (omega arith, omega arith)
 
 module _ (S : Statements) (N : Steps S) where
   -- what is known of the pieces beyond a triangle
-  abbrev RimsBelow : ℕ → Tree → Type 0
-  RimsBelow d t = (fanA t ≤ d → S .Left d t (bestLeft t)) × ((f : Over (fanA t) d) → partA t ≤ d → S .LeftGated d t (gateLeft d t f))
+  abbrev RimsBelow : ℕ → Tree → Tree → Type 0
+  RimsBelow d l r = (fanA l r ≤ d → S .Left d l (bestLeft l)) × ((f : Over (fanA l r) d) → partialA l r ≤ d → S .LeftGated d l (gateLeft d l r f))
 
-  abbrev RimsAbove : ℕ → Tree → Type 0
-  RimsAbove d t = (fanB t ≤ d → S .Right d t (bestRight t)) × ((f : Over (fanB t) d) → partB t ≤ d → S .RightGated d t (gateRight d t f))
+  abbrev RimsAbove : ℕ → Tree → Tree → Type 0
+  RimsAbove d l r = (fanB l r ≤ d → S .Right d r (bestRight r)) × ((f : Over (fanB l r) d) → partialB l r ≤ d → S .RightGated d r (gateRight d l r f))
 
   abbrev Stems : Bool → ℕ → Tree → Type 0
   Stems k d t = (n : Node t) → handle t ≤ d → S .Entered k d t (bestStem d t n)
 
-  root-at : (l r : Tree) (h : Dec (fanA l ≤ under l r)) (k : Dec (fanB r ≤ under l r)) → RimsBelow (under l r) l → RimsAbove (under l r) r
-      → let p = umbrella (under l r) l r h k (bestLeft l) (bestRight r) (λ f. gateLeft (under l r) l f) (λ f. gateRight (under l r) r f) in levels p ≡ suc (under l r) → S .Hung (node l r) p
+  root-at : (l r : Tree) (h : Dec (fanA l r ≤ under l r)) (k : Dec (fanB l r ≤ under l r)) → RimsBelow (under l r) l r → RimsAbove (under l r) l r
+      → let p = umbrella (under l r) l r h k (bestLeft l) (bestRight r) (λ f. gateLeft (under l r) l r f) (λ f. gateRight (under l r) l r f) in levels p ≡ suc (under l r) → S .Hung (node l r) p
   unfolding umbrella ud
   root-at l r (yes h) (yes k) L R e = N .bare (under l r) l r _ _ (refl, e) (L .0 h) (R .0 k)
-  root-at l r (no h) (yes k) L R e = N .stem-below (under l r) l r _ _ (refl, e) (L .1 h (omega (arith, inequalities l))) (R .0 k)
-  root-at l r (yes h) (no k) L R e = N .stem-above (under l r) l r _ _ (refl, e) (L .0 h) (R .1 k (omega (arith, inequalities r)))
+  root-at l r (no h) (yes k) L R e = N .stem-below (under l r) l r _ _ (refl, e) (L .1 h (omega (arith, inequalities l r))) (R .0 k)
+  root-at l r (yes h) (no k) L R e = N .stem-above (under l r) l r _ _ (refl, e) (L .0 h) (R .1 k (omega (arith, inequalities r l)))
   root-at l r (no h) (no k) L R e = absurd (omega arith)
 
-  left-at : (d : ℕ) (a b : Tree) (f : Over (fanA (node a b)) d) (k : Dec (ud b ≤ d)) → partA (node a b) ≤ d → RimsBelow d a → S .Hung b (best b) → Stems true d b
-      → S .LeftGated d (node a b) (leftAt d a b f k (bestLeft a) (best b) (λ e. gateLeft d a e) (λ n. bestStem d b n))
+  left-at : (d : ℕ) (a b r : Tree) (f : Over (fanA (node a b) r) d) (k : Dec (ud b ≤ d)) → partialA (node a b) r ≤ d → RimsBelow d a b → S .Hung b (best b) → Stems true d b
+      → S .LeftGated d (node a b) (leftAt d a b r f k (bestLeft a) (best b) (λ e. gateLeft d a b e) (λ n. bestStem d b n))
   unfolding leftAt ud stepAt
-  left-at d a b f (yes k) h L p s = N .left-past d a b _ _ (left-hung d (ud b) k) k (L .1 _ (omega (arith, inequalities a))) p
-  left-at d a b f (no k) h L p s = N .left-gate d a b _ _ (left-entered d (ud b) k) (L .0 (omega arith)) (s _ (omega arith))
+  left-at d a b r f (yes k) h L p s = N .left-past d a b _ _ (left-hung d (ud b) k) k (L .1 _ (omega (arith, inequalities a b))) p
+  left-at d a b r f (no k) h L p s = N .left-gate d a b _ _ (left-entered d (ud b) k) (L .0 (omega arith)) (s _ (omega arith))
 
-  right-at : (d : ℕ) (a b : Tree) (f : Over (fanB (node a b)) d) (k : Dec (ud a ≤ d)) → partB (node a b) ≤ d → S .Hung a (best a) → Stems false d a → RimsAbove d b
-      → S .RightGated d (node a b) (rightAt d a b f k (best a) (bestRight b) (λ e. gateRight d b e) (λ n. bestStem d a n))
+  right-at : (d : ℕ) (l a b : Tree) (f : Over (fanB l (node a b)) d) (k : Dec (ud a ≤ d)) → partialB l (node a b) ≤ d → S .Hung a (best a) → Stems false d a → RimsAbove d a b
+      → S .RightGated d (node a b) (rightAt d l a b f k (best a) (bestRight b) (λ e. gateRight d a b e) (λ n. bestStem d a n))
   unfolding rightAt ud stepAt
-  right-at d a b f (yes k) h p s R = N .right-past d a b _ _ (right-hung d (ud a) k) k p (R .1 _ (omega (arith, inequalities b)))
-  right-at d a b f (no k) h p s R = N .right-gate d a b _ _ (right-entered d (ud a) k) (s _ (omega arith)) (R .0 (omega arith))
+  right-at d l a b f (yes k) h p s R = N .right-past d a b _ _ (right-hung d (ud a) k) k p (R .1 _ (omega (arith, inequalities b a)))
+  right-at d l a b f (no k) h p s R = N .right-gate d a b _ _ (right-entered d (ud a) k) (s _ (omega arith)) (R .0 (omega arith))
 
   stem-at : (k : Bool) (d : ℕ) (a b : Tree) (i : Dec (ud a ≤ d)) (j : Dec (ud b ≤ d)) (h : Dec (handle a ≤ d)) → handle (node a b) ≤ d → S .Hung a (best a) → S .Hung b (best b) → Stems k d a → Stems k d b
       → S .Entered k d (node a b) (stemAt d a b i j h (best a) (best b) (λ m. bestStem d a m) (λ m. bestStem d b m))
@@ -137,23 +137,23 @@ module _ (S : Statements) (N : Steps S) where
 
     pub by-recursion : (t : Tree) → S .Hung t (best t)
     by-recursion leaf = N .empty
-    by-recursion (node l r) = root-at l r (decLe (fanA l) (under l r)) (decLe (fanB r) (under l r)) (λ h. left-is l (under l r) h, λ f h. left-gated l (under l r) f h) (λ h. right-is r (under l r) h, λ f h. right-gated r (under l r) f h) (computed-has (node l r))
+    by-recursion (node l r) = root-at l r (decLe (fanA l r) (under l r)) (decLe (fanB l r) (under l r)) (λ h. left-is l r (under l r) h, λ f h. left-gated l r (under l r) f h) (λ h. right-is l r (under l r) h, λ f h. right-gated l r (under l r) f h) (computed-has (node l r))
 
-    left-is : (t : Tree) (d : ℕ) → fanA t ≤ d → S .Left d t (bestLeft t)
-    left-is leaf d h = N .left-end d
-    left-is (node a b) d h = N .left-on d a b _ _ (left-hung d (ud b) (omega arith)) (omega arith) (left-is a d (omega arith)) (by-recursion b)
+    left-is : (l r : Tree) (d : ℕ) → fanA l r ≤ d → S .Left d l (bestLeft l)
+    left-is leaf r d h = N .left-end d
+    left-is (node a b) r d h = N .left-on d a b _ _ (left-hung d (ud b) (omega arith)) (omega arith) (left-is a b d (omega arith)) (by-recursion b)
 
-    left-gated : (t : Tree) (d : ℕ) (f : Over (fanA t) d) → partA t ≤ d → S .LeftGated d t (gateLeft d t f)
-    left-gated leaf d f h = absurd (f (omega arith))
-    left-gated (node a b) d f h = left-at d a b f (decLe (ud b) d) h (λ m. left-is a d m, λ g m. left-gated a d g m) (by-recursion b) (λ n m. stem-is b true d n m)
+    left-gated : (l r : Tree) (d : ℕ) (f : Over (fanA l r) d) → partialA l r ≤ d → S .LeftGated d l (gateLeft d l r f)
+    left-gated leaf r d f h = absurd (f (omega arith))
+    left-gated (node a b) r d f h = left-at d a b r f (decLe (ud b) d) h (λ m. left-is a b d m, λ g m. left-gated a b d g m) (by-recursion b) (λ n m. stem-is b true d n m)
 
-    right-is : (t : Tree) (d : ℕ) → fanB t ≤ d → S .Right d t (bestRight t)
-    right-is leaf d h = N .right-end d
-    right-is (node a b) d h = N .right-on d a b _ _ (right-hung d (ud a) (omega arith)) (omega arith) (by-recursion a) (right-is b d (omega arith))
+    right-is : (l r : Tree) (d : ℕ) → fanB l r ≤ d → S .Right d r (bestRight r)
+    right-is l leaf d h = N .right-end d
+    right-is l (node a b) d h = N .right-on d a b _ _ (right-hung d (ud a) (omega arith)) (omega arith) (by-recursion a) (right-is a b d (omega arith))
 
-    right-gated : (t : Tree) (d : ℕ) (f : Over (fanB t) d) → partB t ≤ d → S .RightGated d t (gateRight d t f)
-    right-gated leaf d f h = absurd (f (omega arith))
-    right-gated (node a b) d f h = right-at d a b f (decLe (ud a) d) h (by-recursion a) (λ n m. stem-is a false d n m) (λ m. right-is b d m, λ g m. right-gated b d g m)
+    right-gated : (l r : Tree) (d : ℕ) (f : Over (fanB l r) d) → partialB l r ≤ d → S .RightGated d r (gateRight d l r f)
+    right-gated l leaf d f h = absurd (f (omega arith))
+    right-gated l (node a b) d f h = right-at d l a b f (decLe (ud a) d) h (by-recursion a) (λ n m. stem-is a false d n m) (λ m. right-is a b d m, λ g m. right-gated a b d g m)
 
     stem-is : (t : Tree) (k : Bool) (d : ℕ) (n : Node t) → handle t ≤ d → S .Entered k d t (bestStem d t n)
     stem-is leaf k d n h = elim n [ ]

@@ -9,7 +9,7 @@ use Rattle.polygon.specs.Angles.{none}
 use Rattle.polygon.specs.Polygon.{_—_, Polygon}
 use Rattle.polygon.specs.Tree.{treeOf, grow, far, farther, near?}
 use Rattle.umbrella.specs.Plan.{fold, levels, umbrellas, stems}
-use Rattle.umbrella.specs.Numbers.{ud}
+use Rattle.umbrella.specs.Values.{ud}
 use Rattle.umbrella.specs.Best.{best, umbrella, leftAt, rightAt, stemAt, over-node, planOf}
 
 -- levels, umbrellas and stems of the plan drawn

@@ -1,7 +1,6 @@
 -- min, max and ≤ on numbers, for terms with more of them than omega takes apart at once.
 -- Assumes nothing.
 use Prim.Native.Nat.{ℕ, _≤_, min, max}
-use native.Mathlib.Nat.{le-trans}
 use native.Mathlib.Decide.{decLe}
 use native.Mathlib.Omega.{arith}
 
@@ -10,6 +9,10 @@ min-mono {a} {b} {c} {d} p q = omega arith
 
 pub max-mono : {a b c d : ℕ} → a ≤ c → b ≤ d → max a b ≤ max c d
 max-mono {a} {b} {c} {d} p q = omega arith
+
+-- the same, the larger side in the other order
+pub max-swap : {a b c d : ℕ} → a ≤ c → b ≤ d → max a b ≤ max d c
+max-swap {a} {b} {c} {d} p q = omega arith
 
 pub max-lub : {a b c : ℕ} → a ≤ c → b ≤ c → max a b ≤ c
 max-lub {a} {b} {c} p q = omega arith
@@ -35,16 +38,13 @@ max-fst x y d h = omega arith
 pub max-snd : (x y d : ℕ) → max x y ≤ d → y ≤ d
 max-snd x y d h = omega arith
 
--- The smaller of two maxima is within d. If the first is not, all within the second is; if the second is not, by its first part, all within the first is.
-other : (x y z w d : ℕ) → min (max x y) (max z w) ≤ d → ((x ≤ d) × (y ≤ d) → ⊥) → (z ≤ d) × (w ≤ d)
-other x y z w d h f = go (decLe (max x y) d)
+-- The smaller of two maxima is within d. If the first is not, all of the second is; if the second is not, all of the first is.
+pub by-second : (x y z w d : ℕ) → min (max x y) (max z w) ≤ d → ((x ≤ d) × (y ≤ d) → ⊥) → (z ≤ d) × (w ≤ d)
+by-second x y z w d h f = go (decLe (max x y) d)
   where
     go : Dec (max x y ≤ d) → (z ≤ d) × (w ≤ d)
     go (yes k) = absurd (f (omega arith))
     go (no k) = omega arith
 
-pub by-second : (x y z w d : ℕ) {m n : ℕ} → min (max x y) (max z w) ≤ d → ((x ≤ d) × (y ≤ d) → ⊥) → m ≤ z → (w ≤ d → n ≤ d) → max m n ≤ d
-by-second x y z w d h f p q = let (i, j) = other x y z w d h f in max-lub (le-trans p i) (q j)
-
-pub by-first : (x y z w d : ℕ) {m n : ℕ} → min (max x y) (max z w) ≤ d → (z ≤ d → ⊥) → (x ≤ d → m ≤ d) → n ≤ y → max m n ≤ d
-by-first x y z w d h f p q = let (i, j) = other z w x y d (omega arith) (λ k. f (k .0)) in max-lub (p i) (le-trans q j)
+pub by-first : (x y z w d : ℕ) → min (max x y) (max z w) ≤ d → ((z ≤ d) × (w ≤ d) → ⊥) → (x ≤ d) × (y ≤ d)
+by-first x y z w d h f = by-second z w x y d (omega arith) f

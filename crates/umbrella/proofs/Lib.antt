@@ -3,7 +3,6 @@ pub mod Theorems
 pub mod Known
 pub mod Lattice
 pub mod Inequalities
-pub mod Recurrence
 pub mod Low
 pub mod Least
 pub mod First
@@ -18,3 +17,5 @@ pub mod Cut
 pub mod Border
 pub mod Cases
 pub mod Induction
+pub mod Behind
+pub mod Depth

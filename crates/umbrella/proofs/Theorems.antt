@@ -11,12 +11,13 @@ use Rattle.polygon.specs.Polygon.{Edge, _—_, Polygon, Valid, Linked}
 use Rattle.polygon.specs.Tree.{Tree, leaf, node, span, treeOf, PieceOf}
 use Rattle.polygon.proofs.TreeTheorem.{tree-of}
 use Rattle.umbrella.specs.Plan.{Plan, levels, umbrellas, stems}
-use Rattle.umbrella.specs.Numbers.{ud}
+use Rattle.umbrella.specs.Values.{ud}
 use Rattle.umbrella.specs.Drawn.{code, Earlier, Each}
 use Rattle.umbrella.specs.Best.{best, planOf}
 use Rattle.umbrella.specs.Triangles.{Triangle, triangles, AllJoined, own, Taken}
 use Rattle.umbrella.specs.Rim.{rim, firstGate, Gate}
 use Rattle.umbrella.specs.Border.{hung, Carries, Border}
+use Rattle.umbrella.specs.Depth.{AtSide, Anywhere, Depth}
 use Rattle.umbrella.proofs.Low.{low}
 use Rattle.umbrella.proofs.Least.{best-le, best-levels, best-least}
 use Rattle.umbrella.proofs.First.{best-first}
@@ -27,8 +28,8 @@ use Rattle.umbrella.proofs.Rim.{rim-ascends, rim-joined, apex-joined}
 use Rattle.umbrella.proofs.Gates.{gate-of}
 use Rattle.umbrella.proofs.Border.{border-hung, hung-diagonal}
 use Rattle.umbrella.proofs.Bounds.{bounds}
-use Rattle.umbrella.proofs.Recurrence.{Recurrence, recurrence}
 use Rattle.umbrella.proofs.Wide.{span-bound, nine}
+use Rattle.umbrella.proofs.Depth.{depth-at}
 
 -- Every plan of a piece has at least ud levels, the number that document 004, chapter 6, computes.
 pub every-plan-has : {t : Tree} (p : Plan t) → ud t ≤ levels p
@@ -94,10 +95,6 @@ takes-each-once p u v h = taken-once p u v h
 pub umbrellas-bound : {t : Tree} (p : Plan t) → (levels p ≤ umbrellas p) × (stems p ≤ umbrellas p) × (umbrellas p < span t)
 umbrellas-bound p = let b = bounds p in (b .levels-few, b .stems-few, b .umbrellas-few)
 
--- The six numbers satisfy the equations of document 004, Lemmas 6.2, 6.4, 6.6 and 6.7.
-pub six-numbers : Recurrence
-six-numbers = recurrence
-
 -- A piece that needs D levels has at least 2 ^ (D + 1) - 1 corners.
 pub corners-of-levels : (t : Tree) → 2 ^ suc (ud t) ≤ suc (span t) + 1
 corners-of-levels t = omega (arith, span-bound t)
@@ -108,3 +105,16 @@ at-most-nine p h =
     let t = treeOf (p .n) (p .ds) in
     let T = tree-of (p .n) (p .ds) (h .triangulated) in
     le-trans (best-le t) (nine t (omega (arith, T .size, h .most)))
+
+-- Each of the six values of a diagonal or of the root edge is the least that document 004, chapter 6, defines it to be, by corners (specs/Depth.antt):
+-- under any rule for the ends of a stem that allows document 01's.
+pub depth-by : (Ends : ℕ → ℕ → ℕ → Type 0) (p : Polygon) → Valid p → ((x y z : ℕ) → AtSide (p .n) x y z → Ends x y z)
+    → (a b : ℕ) → Linked (p .n) (p .ds) a b → suc a < b → Depth Ends (p .n) (p .ds) a b
+depth-by Ends p v allows = depth-at (p .n) (p .ds) (v .triangulated) Ends allows
+
+-- So it is with document 01's stems, which end at a side, and with document 004's, which may end anywhere.
+pub depth : (p : Polygon) → Valid p → (a b : ℕ) → Linked (p .n) (p .ds) a b → suc a < b → Depth (AtSide (p .n)) (p .n) (p .ds) a b
+depth p v = depth-by (AtSide (p .n)) p v (λ x y z s. s)
+
+pub depth-of-paths : (p : Polygon) → Valid p → (a b : ℕ) → Linked (p .n) (p .ds) a b → suc a < b → Depth Anywhere (p .n) (p .ds) a b
+depth-of-paths p v = depth-by Anywhere p v (λ x y z s. tt)

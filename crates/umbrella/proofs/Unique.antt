@@ -8,7 +8,7 @@ use native.Mathlib.Decide.{decLe}
 use native.Mathlib.Omega.{arith}
 use Rattle.polygon.specs.Tree.{Tree, leaf, node}
 use Rattle.umbrella.specs.Plan.{Plan, none, plain, stemLeft, stemRight, LeftRim, leftEnd, leftOn, RightRim, rightEnd, rightOn, LeftGate, leftGate, leftPast, RightGate, rightGate, rightPast, Stem, endBoth, endLeft, endRight, goLeft, goRight}
-use Rattle.umbrella.specs.Numbers.{ud, handle, fanA, fanB}
+use Rattle.umbrella.specs.Values.{ud, handle, fanA, fanB}
 use Rattle.umbrella.specs.Drawn.{word, rimEdges, codeLeft, codeRight, code, Earlier, first, less, same, Chosen, Each, EachLeft, EachRight, EachLeftGate, EachRightGate, EachStem}
 use Rattle.umbrella.specs.Best.{Over, GateLeft, GateRight, Through, Node, umbrella, leftAt, rightAt, stemAt, under, best, bestLeft, bestRight, gateLeft, gateRight, bestStem}
 use Rattle.umbrella.proofs.Least.{best-le, best-least}
@@ -19,33 +19,33 @@ chosen : (t : Tree) → Chosen (best t)
 chosen t = ((λ q. best-least q), λ q h. best-first t q (le-trans h (best-le t)))
 
 -- each step of the choice is chosen in every piece, if the choices below it are
-abbrev EachGateLeft : (d : ℕ) (t : Tree) → GateLeft d t → Type 0
-EachGateLeft d t G = (f : Over (fanA t) d) → EachLeftGate (G f)
+abbrev EachGateLeft : (d : ℕ) (l r : Tree) → GateLeft d l r → Type 0
+EachGateLeft d l r G = (f : Over (fanA l r) d) → EachLeftGate (G f)
 
-abbrev EachGateRight : (d : ℕ) (t : Tree) → GateRight d t → Type 0
-EachGateRight d t G = (f : Over (fanB t) d) → EachRightGate (G f)
+abbrev EachGateRight : (d : ℕ) (l r : Tree) → GateRight d l r → Type 0
+EachGateRight d l r G = (f : Over (fanB l r) d) → EachRightGate (G f)
 
 abbrev EachThrough : (t : Tree) → Through t → Type 0
 EachThrough t S = (n : Node t) → EachStem (S n)
 
-each-umbrella : (d : ℕ) (l r : Tree) (h : Dec (fanA l ≤ d)) (k : Dec (fanB r ≤ d)) (A : LeftRim l) (B : RightRim r) (G : GateLeft d l) (H : GateRight d r)
-    → Chosen (umbrella d l r h k A B G H) → EachLeft A → EachRight B → EachGateLeft d l G → EachGateRight d r H → Each (umbrella d l r h k A B G H)
+each-umbrella : (d : ℕ) (l r : Tree) (h : Dec (fanA l r ≤ d)) (k : Dec (fanB l r ≤ d)) (A : LeftRim l) (B : RightRim r) (G : GateLeft d l r) (H : GateRight d l r)
+    → Chosen (umbrella d l r h k A B G H) → EachLeft A → EachRight B → EachGateLeft d l r G → EachGateRight d l r H → Each (umbrella d l r h k A B G H)
 unfolding umbrella Each
 each-umbrella d l r (yes h) (yes k) A B G H c a b g e = (c, a, b)
 each-umbrella d l r (no h) (yes k) A B G H c a b g e = (c, g h, b)
 each-umbrella d l r h (no k) A B G H c a b g e = (c, a, e k)
 
-each-leftAt : (d : ℕ) (a b : Tree) (f : Over (fanA (node a b)) d) (h : Dec (ud b ≤ d)) (A : LeftRim a) (p : Plan b) (G : GateLeft d a) (S : Through b)
-    → EachLeft A → Each p → EachGateLeft d a G → EachThrough b S → EachLeftGate (leftAt d a b f h A p G S)
+each-leftAt : (d : ℕ) (a b r : Tree) (f : Over (fanA (node a b) r) d) (h : Dec (ud b ≤ d)) (A : LeftRim a) (p : Plan b) (G : GateLeft d a b) (S : Through b)
+    → EachLeft A → Each p → EachGateLeft d a b G → EachThrough b S → EachLeftGate (leftAt d a b r f h A p G S)
 unfolding leftAt Each
-each-leftAt d a b f (yes h) A p G S x y g s = (g _, y)
-each-leftAt d a b f (no h) A p G S x y g s = (x, s _)
+each-leftAt d a b r f (yes h) A p G S x y g s = (g _, y)
+each-leftAt d a b r f (no h) A p G S x y g s = (x, s _)
 
-each-rightAt : (d : ℕ) (a b : Tree) (f : Over (fanB (node a b)) d) (h : Dec (ud a ≤ d)) (p : Plan a) (B : RightRim b) (G : GateRight d b) (S : Through a)
-    → Each p → EachRight B → EachGateRight d b G → EachThrough a S → EachRightGate (rightAt d a b f h p B G S)
+each-rightAt : (d : ℕ) (l a b : Tree) (f : Over (fanB l (node a b)) d) (h : Dec (ud a ≤ d)) (p : Plan a) (B : RightRim b) (G : GateRight d a b) (S : Through a)
+    → Each p → EachRight B → EachGateRight d a b G → EachThrough a S → EachRightGate (rightAt d l a b f h p B G S)
 unfolding rightAt Each
-each-rightAt d a b f (yes h) p B G S x y g s = (x, g _)
-each-rightAt d a b f (no h) p B G S x y g s = (s _, y)
+each-rightAt d l a b f (yes h) p B G S x y g s = (x, g _)
+each-rightAt d l a b f (no h) p B G S x y g s = (s _, y)
 
 each-stemAt : (d : ℕ) (a b : Tree) (h : Dec (ud a ≤ d)) (k : Dec (ud b ≤ d)) (j : Dec (handle a ≤ d)) (p : Plan a) (q : Plan b) (S : Through a) (R : Through b)
     → Each p → Each q → EachThrough a S → EachThrough b R → EachStem (stemAt d a b h k j p q S R)
@@ -66,8 +66,8 @@ mutual
   each-best leaf = tt
   each-best (node l r) =
       let d : ℕ = under l r in
-      each-umbrella d l r (decLe (fanA l) d) (decLe (fanB r) d) (bestLeft l) (bestRight r) (λ f. gateLeft d l f) (λ f. gateRight d r f)
-      (chosen (node l r)) (each-left l) (each-right r) (λ f. each-gateLeft d l f) (λ f. each-gateRight d r f)
+      each-umbrella d l r (decLe (fanA l r) d) (decLe (fanB l r) d) (bestLeft l) (bestRight r) (λ f. gateLeft d l r f) (λ f. gateRight d l r f)
+      (chosen (node l r)) (each-left l) (each-right r) (λ f. each-gateLeft d l r f) (λ f. each-gateRight d l r f)
 
   each-left : (t : Tree) → EachLeft (bestLeft t)
   each-left leaf = tt
@@ -77,17 +77,17 @@ mutual
   each-right leaf = tt
   each-right (node a b) = (each-best a, each-right b)
 
-  each-gateLeft : (d : ℕ) (t : Tree) (f : Over (fanA t) d) → EachLeftGate (gateLeft d t f)
-  each-gateLeft d leaf f = absurd (f (omega arith))
-  each-gateLeft d (node a b) f =
-      each-leftAt d a b f (decLe (ud b) d) (bestLeft a) (best b) (λ g. gateLeft d a g) (λ n. bestStem d b n)
-      (each-left a) (each-best b) (λ g. each-gateLeft d a g) (λ n. each-stem d b n)
+  each-gateLeft : (d : ℕ) (l r : Tree) (f : Over (fanA l r) d) → EachLeftGate (gateLeft d l r f)
+  each-gateLeft d leaf r f = absurd (f (omega arith))
+  each-gateLeft d (node a b) r f =
+      each-leftAt d a b r f (decLe (ud b) d) (bestLeft a) (best b) (λ g. gateLeft d a b g) (λ n. bestStem d b n)
+      (each-left a) (each-best b) (λ g. each-gateLeft d a b g) (λ n. each-stem d b n)
 
-  each-gateRight : (d : ℕ) (t : Tree) (f : Over (fanB t) d) → EachRightGate (gateRight d t f)
-  each-gateRight d leaf f = absurd (f (omega arith))
-  each-gateRight d (node a b) f =
-      each-rightAt d a b f (decLe (ud a) d) (best a) (bestRight b) (λ g. gateRight d b g) (λ n. bestStem d a n)
-      (each-best a) (each-right b) (λ g. each-gateRight d b g) (λ n. each-stem d a n)
+  each-gateRight : (d : ℕ) (l r : Tree) (f : Over (fanB l r) d) → EachRightGate (gateRight d l r f)
+  each-gateRight d l leaf f = absurd (f (omega arith))
+  each-gateRight d l (node a b) f =
+      each-rightAt d l a b f (decLe (ud a) d) (best a) (bestRight b) (λ g. gateRight d a b g) (λ n. bestStem d a n)
+      (each-best a) (each-right b) (λ g. each-gateRight d a b g) (λ n. each-stem d a n)
 
   each-stem : (d : ℕ) (t : Tree) (n : Node t) → EachStem (bestStem d t n)
   each-stem d leaf n = elim n [ ]

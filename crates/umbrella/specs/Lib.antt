@@ -1,10 +1,12 @@
 -- Read beside document 01.
 pub mod Plan
-pub mod Numbers
 pub mod Drawn
 pub mod Triangles
 pub mod Rim
 pub mod Border
+-- Read beside document 004, chapter 6, and request (iv).
+pub mod Values
+pub mod Depth
 -- What serves these, the contracts and the code.
 pub mod Best
 pub mod Roles

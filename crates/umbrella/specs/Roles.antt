@@ -5,7 +5,7 @@ use Prim.Native.Nat.{ℕ, zero, suc}
 use native.Mathlib.Decide.{decLe}
 use Rattle.lists.specs.Lists.{choose}
 use Rattle.polygon.specs.Tree.{Tree}
-use Rattle.umbrella.specs.Numbers.{ud, handle}
+use Rattle.umbrella.specs.Values.{ud, handle}
 use Rattle.umbrella.specs.declared.roles.Role.{Role}
 use Rattle.umbrella.specs.declared.roles.Role.the-variants.{Hung, LeftRim, RightRim, FromLeft, FromRight}
 use Rattle.umbrella.specs.declared.roles.Step.{Step}

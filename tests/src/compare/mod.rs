@@ -2,6 +2,8 @@
 
 #[cfg(feature = "read_chart")]
 mod chart_faults;
+#[cfg(feature = "plan")]
+mod depth;
 #[cfg(feature = "draw")]
 mod draw;
 #[cfg(feature = "edits")]
@@ -64,6 +66,8 @@ pub fn run(tests: &mut Tests) {
     list_faults::run(tests);
     #[cfg(feature = "plan")]
     plan::run(tests);
+    #[cfg(feature = "plan")]
+    depth::run(tests);
     #[cfg(feature = "draw")]
     draw::run(tests);
     #[cfg(feature = "read_chart")]

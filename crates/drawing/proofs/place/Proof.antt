@@ -34,16 +34,16 @@ draw-piece-requires c κs =
       ),
     )
 
-numbers-requires : tie.Need-numbers-requires
-numbers-requires c κs = omega (arith, inside (c .before .before .before .before .pre .0 .1 .whole .shows))
+values-requires : tie.Need-values-requires
+values-requires c κs = omega (arith, inside (c .before .before .before .before .pre .0 .1 .whole .shows))
 
 returns : tie.Need-returns
 returns c t F =
     let start = c .before .before .before .before .before .before in
     let W = c .before .before .before .draw-piece .ensures _ (record { shows = F .whole .shows; deep = F .deep }) in
-    part-placed F (start .args .columns .now) (start .args .rows .now) (start .pre .1 .0) (start .pre .1 .1) W (ap (λ (x : Six). x .ud) (c .before .numbers .ensures ∙ deep-root (F .deep)))
+    part-placed F (start .args .columns .now) (start .args .rows .now) (start .pre .1 .0) (start .pre .1 .1) W (ap (λ (x : Six). x .ud) (c .before .values .ensures ∙ deep-root (F .deep)))
 
 pub place-spec : {M : Type 1} → statement M
 place-spec =
-    tie.close (tie.spec (λ c. search needs) sub-rows (λ c. search needs) element-write-rows-2 draw-piece-requires (λ c. search needs) numbers-requires (λ c. search needs) (λ c. search needs)
+    tie.close (tie.spec (λ c. search needs) sub-rows (λ c. search needs) element-write-rows-2 draw-piece-requires (λ c. search needs) values-requires (λ c. search needs) (λ c. search needs)
     (λ c. search needs) returns)

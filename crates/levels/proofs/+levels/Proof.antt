@@ -1,12 +1,14 @@
 -- The loop's invariant is `Descending`; the span falls at each call.
+use mathlib.Core.Path.{refl}
 use mathlib.Core.Logic.{⊎-elim}
 use Prim.Native.Nat.{ℕ, _-_, _<_}
 use native.Mathlib.Omega.{arith}
 use lib.ListN.{length-set}
 use Rattle.tree.proofs.Pieces.{corners, opened, one-piece}
-use Rattle.levels.specs.Numbered.{Rising}
+use Rattle.levels.specs.Kept.{Rising}
 use Rattle.levels.proofs.Storing.{grows-on}
-use Rattle.levels.proofs.Descending.{Descending, descending-begins, side-deep, dealt-side, Halves, halves}
+use Rattle.levels.proofs.Joining.{side-deep}
+use Rattle.levels.proofs.Descending.{Descending, descending-begins, Halves, halves}
 use borrow.Fn.Kinds.{In}
 use borrow.Fn.PlainCycle.{Measures, is, falls, and}
 use Rattle.levels.proofs.levels.Reads as levels
@@ -14,6 +16,7 @@ use Rattle.levels.proofs.levels.Kinds as levels-kinds
 use Rattle.levels.proofs.+levels.Lts-levels as levels-lts
 use Rattle.levels.proofs.ascend.Reads as ascend-reads
 use Rattle.levels.proofs.by_size.Reads as by-size-reads
+use Rattle.levels.proofs.ear.Reads as ear-reads
 use Rattle.tree.proofs.open.Reads as open-reads
 use Rattle.levels.proofs.+levels.{statement}
 use Rattle.levels.proofs.+levels.Tie.{close}
@@ -28,7 +31,7 @@ abbrev levels-below : ℕ → In 3 levels-kinds.ps
 levels-below t = and 3 levels-kinds.ps (falls 3 levels-kinds.ps _<_ μ-levels t) levels.Pre
 
 abbrev levels-Cs : ℕ → levels-lts.Claims
-levels-Cs t = (open-reads.Asked, open-reads.Learnt, by-size-reads.Asked, by-size-reads.Learnt, levels-below t, levels.Post, ascend-reads.Asked, ascend-reads.Learnt)
+levels-Cs t = (open-reads.Asked, open-reads.Learnt, by-size-reads.Asked, by-size-reads.Learnt, levels-below t, levels.Post, ear-reads.Asked, ear-reads.Learnt, ascend-reads.Asked, ascend-reads.Learnt)
 
 abbrev levels-Inv-loop : levels-lts.InvT-loop
 levels-Inv-loop tree depths₀ path₀ from x₀ k₀ depths path x k = Descending tree depths₀ path₀ from x₀ depths path x k
@@ -75,6 +78,12 @@ levels-levels-requires t c κs =
     let start = at-loop .before in
     (omega (arith, H, D, start .pre .0), (record { tree = H .small; shows = H .shows-small }, ((omega (arith, H, D, start .pre .1 .1 .0), D .room, simp length-set (D .path-room)), D .leaves)))
 
+levels-ear-requires : (t : ℕ) → levels-lts.Need-ear-requires (levels-Cs t) (levels-at t) levels.Post levels-Inv-loop levels-μ-loop
+levels-ear-requires t c κs =
+    let H = split t (c .before .before .before .before .before) in
+    let D = c .before .before .before .before .before .before .before .before .before .before .loop .inv in
+    (record { tree = H .small; shows = H .shows-small }, (c .before .if2 .left, (D .room, D .leaves)))
+
 levels-loop-less : (t : ℕ) → levels-lts.Need-loop-less (levels-Cs t) (levels-at t) levels.Post levels-Inv-loop levels-μ-loop
 levels-loop-less t c = let H = split t (c .before .before .before .before .before) in omega (arith, H)
 
@@ -85,7 +94,7 @@ levels-loop-again t c =
     let D = at-loop .loop .inv in
     H .on (c .before .if2 .depths) (c .before .if2 .path) (⊎-elim
     (λ w. let m = w .3 .ensures in rw (w .4, w .5) (record { grows = m .1 .0; deep = m .1 .1 .0 (H .small) (H .shows-small); kept = m .1 .1 .1; room = m .0 .0; path-room = m .0 .1 }))
-    (λ w. rw (w .1, w .2) (dealt-side _ _ (H .shows-small) (w .0 .left) (D .leaves) (D .room) (simp length-set (D .path-room))))
+    (λ w. let m = w .2 .ensures in rw (w .3, w .4) (record { grows = m .1 .0; deep = m .1 .1 (H .small) (H .shows-small); kept = λ j q. refl; room = m .0; path-room = simp length-set (D .path-room) }))
     (c .before .if2 .came))
 
 -- the piece at the end of the way down is a side
@@ -107,4 +116,4 @@ pub +levels-spec : {M : Type 1} → statement M
 +levels-spec =
     close μ-levels λ t. levels-lts.spec (levels-Cs t) (levels-at t) levels.Post levels-Inv-loop levels-μ-loop (levels-loop-holds t) (levels-add-if1 t)
     (levels-mul-path t) (levels-element-write-path t) (levels-add-k t) (levels-open-requires t) (levels-by-size-requires t) (levels-add-if2 t)
-    (levels-levels-requires t) (levels-loop-less t) (levels-loop-again t) (levels-ascend-requires t) (levels-returns t)
+    (levels-levels-requires t) (levels-ear-requires t) (levels-loop-less t) (levels-loop-again t) (levels-ascend-requires t) (levels-returns t)

@@ -1,4 +1,4 @@
--- The table of numbers begins with that of every side, 0.
+-- The table of values begins with those of every side, 0.
 use mathlib.Core.Path.{refl, _∙_}
 use borrow.Author.Needs.{needs}
 use native.Mathlib.Omega.{arith}

@@ -5,12 +5,12 @@ use borrow.Author.Needs.{needs}
 use native.Mathlib.Omega.{arith}
 use lib.ListN.{set, length-set}
 use Rattle.polygon.specs.Tree.{Tree}
-use Rattle.umbrella.specs.Numbers.{ud}
+use Rattle.umbrella.specs.Values.{ud}
 use Rattle.umbrella.proofs.Wide.{nine}
 use Rattle.umbrella.proofs.Induction.{only-hung}
 use Rattle.tree.proofs.Pieces.{opened, corners, ends, inside, one-piece}
 use Rattle.levels.specs.declared.Six.{Six}
-use Rattle.levels.specs.Numbered.{Tabled}
+use Rattle.levels.specs.Kept.{Tabled}
 use Rattle.levels.proofs.Storing.{deep-root}
 use Rattle.levels.proofs.Knowing.{tabled-parts}
 use Rattle.drawing.specs.Walk.{differ}
@@ -34,7 +34,7 @@ use Rattle.drawing.proofs.lines.go_on.Reads as go-on-reads
 use Rattle.drawing.proofs.lines.near_line.Reads as near-line-reads
 use Rattle.drawing.proofs.lines.rims_of.Reads as rims-of-reads
 use Rattle.drawing.proofs.walk.turn.Reads as turn-reads
-use Rattle.levels.proofs.numbers.Reads as numbers-reads
+use Rattle.levels.proofs.values.Reads as values-reads
 use Rattle.tree.proofs.open.Reads as open-reads
 use Rattle.umbrella.proofs.roles.from_right.Reads as from-right-reads
 use Rattle.umbrella.proofs.roles.is_hung.Reads as is-hung-reads
@@ -73,7 +73,7 @@ abbrev draw-beside-Cs : ℕ → draw-beside-lts.Claims
 draw-beside-Cs t = (is-hung-reads.Asked, is-hung-reads.Learnt, draw-piece-below t, draw-piece.Post, draw-stem-below t, draw-stem.Post)
 
 abbrev draw-piece-Cs : ℕ → draw-piece-lts.Claims
-draw-piece-Cs t = (open-reads.Asked, open-reads.Learnt, numbers-reads.Asked, numbers-reads.Learnt, far-line-reads.Asked, far-line-reads.Learnt, near-line-reads.Asked, near-line-reads.Learnt, rims-of-reads.Asked, rims-of-reads.Learnt, draw-stem-below t, draw-stem.Post)
+draw-piece-Cs t = (open-reads.Asked, open-reads.Learnt, values-reads.Asked, values-reads.Learnt, far-line-reads.Asked, far-line-reads.Learnt, near-line-reads.Asked, near-line-reads.Learnt, rims-of-reads.Asked, rims-of-reads.Learnt, draw-stem-below t, draw-stem.Post)
 
 abbrev draw-stem-Cs : ℕ → draw-stem-lts.Claims
 draw-stem-Cs t = (
@@ -81,8 +81,8 @@ draw-stem-Cs t = (
   from-right-reads.Learnt,
   open-reads.Asked,
   open-reads.Learnt,
-  numbers-reads.Asked,
-  numbers-reads.Learnt,
+  values-reads.Asked,
+  values-reads.Learnt,
   step-at-reads.Asked,
   step-at-reads.Learnt,
   go-on-reads.Asked,
@@ -114,8 +114,8 @@ draw-beside-returns-2 : (t : ℕ) → draw-beside-lts.Need-returns-2 (draw-besid
 draw-beside-returns-2 t c = λ x k. c .draw-stem .ensures x k
 
 -- the levels of a piece as they are read, and the third corner of its triangle
-tall : (t : ℕ) (c : draw-piece-lts.After-numbers (draw-piece-Cs t) (draw-piece-at t) draw-piece.Post) → c .numbers .result .ud ≡ ud (c .before .before .before .before .before .before .pre .1 .0 .0)
-tall t c = ap (λ (x : Six). x .ud) (c .numbers .ensures ∙ deep-root (c .before .before .before .before .before .before .pre .1 .0 .1 .deep))
+tall : (t : ℕ) (c : draw-piece-lts.After-values (draw-piece-Cs t) (draw-piece-at t) draw-piece.Post) → c .values .result .ud ≡ ud (c .before .before .before .before .before .before .pre .1 .0 .0)
+tall t c = ap (λ (x : Six). x .ud) (c .values .ensures ∙ deep-root (c .before .before .before .before .before .before .pre .1 .0 .1 .deep))
 
 high : (t : ℕ) (c : draw-piece-lts.Else1 (draw-piece-Cs t) (draw-piece-at t) draw-piece.Post) → 1 ≤ ud (c .before .before .before .pre .1 .0 .0)
 high t c = let K = tabled-parts (c .before .before .before .pre .1 .0 .1) (c .if1 .left) in rw (K .parts .is) (K .tall)
@@ -133,12 +133,12 @@ lines t c = c .before .before .before
 pair : (t : ℕ) (c : draw-piece-lts.After-rims-of (draw-piece-Cs t) (draw-piece-at t) draw-piece.Post) (x : Tree) → let args = opens t c .before .before .before .before .args in let far = lines t c .before .far-line .result in
     Tabled (args .tree .now) (args .depths .now) (args .p .e) (args .p .u) (args .p .v) x
     → RimPair (args .tree .now) (args .depths .now) (args .p) (args .w) x (args .at) (args .columns .now) (args .rows .now) (set (args .rows .now) (opens t c .«open» .result .left .v) (far .base))
-    (lines t c .before .before .before .numbers .result .ud) far (lines t c .near-line .result) (c .rims-of .result)
+    (lines t c .before .before .before .values .result .ud) far (lines t c .near-line .result) (c .rims-of .result)
 pair t c x k =
     let at-open = opens t c in
     let room = at-open .before .before .before .before .pre .1 .1 in
     let near = lines t c in
-    let levels = ap (λ (y : Six). y .ud) (near .before .before .before .numbers .ensures ∙ deep-root (k .deep)) in
+    let levels = ap (λ (y : Six). y .ud) (near .before .before .before .values .ensures ∙ deep-root (k .deep)) in
     rim-pair k (at-open .before .if1 .left) (room .0) (room .1) levels (at-open .«open» .result) (c .rims-of .result) _ _ (at-open .«open» .ensures) (c .rims-of .ensures) (near .before .far-line .ensures) (near .near-line .ensures)
 
 draw-piece-add-if1 : (t : ℕ) → draw-piece-lts.Need-add-if1 (draw-piece-Cs t) (draw-piece-at t) draw-piece.Post
@@ -150,8 +150,8 @@ draw-piece-returns t c = λ x k. hung-empty (c .before .before .before .args .at
 draw-piece-open-requires : (t : ℕ) → draw-piece-lts.Need-open-requires (draw-piece-Cs t) (draw-piece-at t) draw-piece.Post
 draw-piece-open-requires t c κs = (record { tree = _; shows = c .before .before .before .pre .1 .0 .1 .shows }, c .if1 .left)
 
-draw-piece-numbers-requires : (t : ℕ) → draw-piece-lts.Need-numbers-requires (draw-piece-Cs t) (draw-piece-at t) draw-piece.Post
-draw-piece-numbers-requires t c κs = omega (arith, inside (c .before .before .before .before .before .pre .1 .0 .1 .shows))
+draw-piece-values-requires : (t : ℕ) → draw-piece-lts.Need-values-requires (draw-piece-Cs t) (draw-piece-at t) draw-piece.Post
+draw-piece-values-requires t c κs = omega (arith, inside (c .before .before .before .before .before .pre .1 .0 .1 .shows))
 
 draw-piece-far-line-requires : (t : ℕ) → draw-piece-lts.Need-far-line-requires (draw-piece-Cs t) (draw-piece-at t) draw-piece.Post
 draw-piece-far-line-requires t c κs =
@@ -220,11 +220,11 @@ draw-stem-open-requires t c κs = (record { tree = _; shows = c .before .before 
 sides : (t : ℕ) (c : draw-stem-lts.After-open (draw-stem-Cs t) (draw-stem-at t) draw-stem.Post draw-stem-Inv-loop draw-stem-μ-loop) → (c .«open» .result .left .e < 2045) × (c .«open» .result .right .e < 2045) × (c .«open» .result .left .v < 1024)
 sides t c = let d = opened (c .before .before .before .before .loop .inv .known .shows) (c .before .if1 .taken) in rw (c .«open» .ensures) (omega (arith, d), omega (arith, d), omega (arith, d))
 
-draw-stem-numbers-requires : (t : ℕ) → draw-stem-lts.Need-numbers-requires (draw-stem-Cs t) (draw-stem-at t) draw-stem.Post draw-stem-Inv-loop draw-stem-μ-loop
-draw-stem-numbers-requires t c κs = omega (arith, sides t (c .before .before .before))
+draw-stem-values-requires : (t : ℕ) → draw-stem-lts.Need-values-requires (draw-stem-Cs t) (draw-stem-at t) draw-stem.Post draw-stem-Inv-loop draw-stem-μ-loop
+draw-stem-values-requires t c κs = omega (arith, sides t (c .before .before .before))
 
-draw-stem-numbers-requires-2 : (t : ℕ) → draw-stem-lts.Need-numbers-requires-2 (draw-stem-Cs t) (draw-stem-at t) draw-stem.Post draw-stem-Inv-loop draw-stem-μ-loop
-draw-stem-numbers-requires-2 t c κs = omega (arith, sides t (c .before .before .before .before .before))
+draw-stem-values-requires-2 : (t : ℕ) → draw-stem-lts.Need-values-requires-2 (draw-stem-Cs t) (draw-stem-at t) draw-stem.Post draw-stem-Inv-loop draw-stem-μ-loop
+draw-stem-values-requires-2 t c κs = omega (arith, sides t (c .before .before .before .before .before))
 
 draw-stem-mul-rows : (t : ℕ) → draw-stem-lts.Need-mul-rows (draw-stem-Cs t) (draw-stem-at t) draw-stem.Post draw-stem-Inv-loop draw-stem-μ-loop
 draw-stem-mul-rows t c = omega (arith, sides t (c .before .before .before .before .before .before .before .before .before .before))
@@ -244,8 +244,8 @@ ahead t c =
     let at-loop = at-open .before .before .before .before in
     let at-step = c .before .before in
     let right = at-loop .before .from-right in
-    let l = at-step .before .before .before .numbers in
-    let r = at-step .before .numbers2 in
+    let l = at-step .before .before .before .values in
+    let r = at-step .before .values2 in
     onward-is (at-loop .loop .inv) (at-open .before .if1 .taken) (at-loop .before .before .pre .1 .1 .0) (at-open .«open» .result) (l .result) (r .result) (at-step .step-at .result) (right .result) (c .before .go-on .result) (c .beside-line .result)
     (at-open .«open» .ensures) (l .ensures) (r .ensures) (at-step .step-at .ensures) (right .ensures) (c .before .go-on .ensures) (c .beside-line .ensures)
 
@@ -303,10 +303,10 @@ pub +draw-beside+draw-piece+draw-stem-spec : {M : Type 1} → statement M
     (λ t. draw-beside-lts.spec (draw-beside-Cs t) (draw-beside-at t) draw-beside.Post (λ c κs. search needs) (draw-beside-draw-piece-requires t) (draw-beside-returns t)
     (draw-beside-draw-stem-requires t) (draw-beside-returns-2 t))
     (λ t. draw-piece-lts.spec (draw-piece-Cs t) (draw-piece-at t) draw-piece.Post (draw-piece-add-if1 t) (draw-piece-returns t) (draw-piece-open-requires t) (λ c. search needs)
-    (draw-piece-numbers-requires t) (draw-piece-far-line-requires t) (draw-piece-near-line-requires t) (λ c. search needs) (draw-piece-mul-rows t) (draw-piece-element-write-rows t)
+    (draw-piece-values-requires t) (draw-piece-far-line-requires t) (draw-piece-near-line-requires t) (λ c. search needs) (draw-piece-mul-rows t) (draw-piece-element-write-rows t)
     (λ c κs. search needs) (draw-piece-sub-t22 t) (draw-piece-sub-t22-2 t) (draw-piece-draw-stem-requires t) (draw-piece-draw-stem-requires-2 t) (draw-piece-returns-2 t))
     (λ t. draw-stem-lts.spec (draw-stem-Cs t) (draw-stem-at t) draw-stem.Post draw-stem-Inv-loop draw-stem-μ-loop (λ c κs. search needs) (draw-stem-loop-holds t) (draw-stem-add-if1 t)
-    (draw-stem-mul-columns t) (draw-stem-element-write-columns t) (draw-stem-add-k t) (draw-stem-open-requires t) (λ c. search needs) (draw-stem-numbers-requires t) (λ c. search needs)
-    (draw-stem-numbers-requires-2 t) (λ c κs. search needs) (λ c κs. search needs) (λ c κs. search needs) (λ c. search needs) (draw-stem-mul-rows t) (draw-stem-element-write-rows t)
+    (draw-stem-mul-columns t) (draw-stem-element-write-columns t) (draw-stem-add-k t) (draw-stem-open-requires t) (λ c. search needs) (draw-stem-values-requires t) (λ c. search needs)
+    (draw-stem-values-requires-2 t) (λ c κs. search needs) (λ c κs. search needs) (λ c κs. search needs) (λ c. search needs) (draw-stem-mul-rows t) (draw-stem-element-write-rows t)
     (draw-stem-draw-beside-requires t) (draw-stem-loop-less t) (draw-stem-loop-again t) (draw-stem-mul-columns-2 t) (draw-stem-element-write-columns-2 t) (draw-stem-add-k-2 t) (λ c κs. search needs)
     (draw-stem-turn-requires t) (draw-stem-returns t) (draw-stem-returns-2 t))

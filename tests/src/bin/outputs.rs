@@ -1,0 +1,133 @@
+//! Writes what the library answers to the sheets of the folder that the argument
+//! names, and to the sheets of parts that the comparison plans and draws: a line for
+//! each call of Plan, Set in order, Draw, and Read a chart on the chart drawn. (Draw
+//! with the bar list and the log line are no exports for C.)
+//!
+//! A line has the sheet's digest, the operation, the number and the values of the
+//! answer and, if the operation writes, a digest of the lent bytes and of those round
+//! them. Every run writes the same lines, so that two libraries can be compared.
+
+// The comparison's own sheets; `Tests` below stands for its tests.
+#[allow(dead_code)]
+#[path = "../compare/checks.rs"]
+mod checks;
+#[allow(dead_code)]
+#[path = "../compare/groups.rs"]
+mod groups;
+#[allow(dead_code)]
+#[path = "../library.rs"]
+mod library;
+#[allow(dead_code)]
+#[path = "../compare/sheets.rs"]
+mod sheets;
+
+use bend_tests::part::Part;
+use bend_tests::random::Random;
+use bend_tests::shapes::{part, Shape, HUNG};
+use bend_tests::sheet::{normal, LONGEST};
+use checks::{guarded, inside, Outcome};
+use sheets::any_sheet;
+use std::path::Path;
+use std::{env, fs, io};
+
+/// More bytes than any chart has.
+const CHART: usize = 20_500;
+
+pub struct Tests;
+
+impl Tests {
+    /// Writes the name, then the lines of the sheets.
+    pub fn test(&mut self, name: &str, run: impl FnOnce() -> Outcome) {
+        println!("{name}");
+        assert!(run().is_ok(), "nothing is compared");
+    }
+}
+
+/// FNV-1a of 64 bits.
+fn digest(bytes: &[u8]) -> u64 {
+    bytes.iter().fold(0xcbf2_9ce4_8422_2325, |hash, &byte| {
+        (hash ^ u64::from(byte)).wrapping_mul(0x0100_0000_01b3)
+    })
+}
+
+/// Writes the line of an operation that writes, and gives what it wrote. `sheet` is
+/// the sheet's digest.
+fn written(
+    sheet: u64,
+    operation: &str,
+    lent: usize,
+    call: impl FnOnce(&mut [u8]) -> u64,
+) -> Vec<u8> {
+    let mut bytes = guarded(lent);
+    let answer = call(inside(&mut bytes));
+    let (number, length) = (answer & 0xffff, answer >> 16);
+    let output = digest(&bytes);
+    println!("{sheet:016x} {operation} {number} {length} {output:016x}");
+    let result = inside(&mut bytes).iter().copied();
+    result.take(length as usize).collect()
+}
+
+/// The lines of a sheet.
+fn answers(sheet: &[u8]) -> Outcome {
+    let name = digest(sheet);
+    let plan = library::plan(sheet);
+    let [number, levels, umbrellas, stems] = [0, 16, 32, 48].map(|from| plan >> from & 0xffff);
+    println!("{name:016x} plan {number} {levels} {umbrellas} {stems}");
+    written(name, "normalize", LONGEST, |out| {
+        library::normalize(sheet, out)
+    });
+    let chart = written(name, "draw", CHART, |out| library::draw(sheet, out));
+    written(name, "read_chart", LONGEST, |out| {
+        library::read_chart(&chart, out)
+    });
+    Ok(())
+}
+
+/// The sheets of the folder, by their names.
+fn samples(tests: &mut Tests, folder: &Path) -> io::Result<()> {
+    let files = fs::read_dir(folder)?.map(|file| file.map(|file| file.path()));
+    let mut files = files.collect::<io::Result<Vec<_>>>()?;
+    files.retain(|file| file.extension().is_some_and(|end| end == "sheet"));
+    files.sort();
+    for file in files {
+        let sheet = fs::read(&file)?;
+        let name = file.file_name().unwrap_or_default().to_string_lossy();
+        tests.test(&name, || answers(&sheet));
+    }
+    Ok(())
+}
+
+/// The sheets on which the operation is compared; `seed` is the first of its seeds.
+fn compared(tests: &mut Tests, operation: &str, seed: u64) {
+    let of_a_part = |_: &Part, sheet: &[u8]| answers(sheet);
+    groups::small_parts(tests, operation, "as compared", seed, of_a_part);
+    groups::shaped_parts(tests, operation, "as compared", seed + 1, of_a_part);
+    groups::large_parts(tests, operation, [seed + 2, seed + 5], answers);
+    groups::bit_2_angles_and_order(tests, operation, seed + 4, of_a_part);
+}
+
+/// Parts with as many corners as a number of levels needs, and with one less.
+fn deep_parts(tests: &mut Tests) {
+    tests.test("2^(levels+1) - 1 corners and one less", || {
+        let mut random = Random::new(104);
+        let sizes = (3..=10).flat_map(|power| [(1 << power) - 2, (1 << power) - 1]);
+        for n in sizes.flat_map(|n| [n; 20]) {
+            let part = part(Shape::Deep, n, &mut random);
+            answers(&any_sheet(&part, &mut random))?;
+        }
+        Ok(())
+    });
+}
+
+fn main() -> io::Result<()> {
+    let folder = env::args().nth(1).expect("a folder of sheets");
+    let tests = &mut Tests;
+    samples(tests, Path::new(&folder))?;
+    tests.test("pieces hung on row 1 and on row 2D", || {
+        answers(&normal(&Part::new(11, &HUNG)))
+    });
+    compared(tests, "plan", 101);
+    compared(tests, "draw", 201);
+    deep_parts(tests);
+    Ok(())
+}
