@@ -48,26 +48,21 @@ pub record Joined (l r : Tree) (ac cb dc ce : Six) : Type 0 where
   pub beyond-left : dc ≡ six (rightOf l)
   pub beyond-right : ce ≡ six (leftOf r)
 
+-- a side has zeros, and zeros beyond it
+side-zero : {own beyond : Six} (t : Tree) (f : Tree → Tree) → f leaf ≡ leaf → own ≡ six t → beyond ≡ six (f t) → SideZero own beyond
+unfolding ud
+side-zero leaf f e p q h = (p, q ∙ ap six e)
+side-zero (node l r) f e p q h = absurd (omega (arith, ap (λ (z : Six). z .ud) p))
+
 module _ {l r : Tree} {ac cb dc ce : Six} (J : Joined l r ac cb dc ce) where
   pub joined : join ac cb dc ce ≡ six (node l r)
   joined = (λ i. join (J .left i) (J .right i) (J .beyond-left i) (J .beyond-right i)) ∙ sym (six-node l r)
 
-  -- a side has zeros, and zeros beyond it
   pub left-zero : SideZero ac dc
-  unfolding ud
-  left-zero = go l (J .left) (J .beyond-left)
-    where
-      go : (l : Tree) → ac ≡ six l → dc ≡ six (rightOf l) → SideZero ac dc
-      go leaf p q h = (p, q)
-      go (node x y) p q h = absurd (omega (arith, ap (λ (z : Six). z .ud) p))
+  left-zero = side-zero l rightOf refl (J .left) (J .beyond-left)
 
   pub right-zero : SideZero cb ce
-  unfolding ud
-  right-zero = go r (J .right) (J .beyond-right)
-    where
-      go : (r : Tree) → cb ≡ six r → ce ≡ six (leftOf r) → SideZero cb ce
-      go leaf p q h = (p, q)
-      go (node x y) p q h = absurd (omega (arith, ap (λ (z : Six). z .ud) p))
+  right-zero = side-zero r leftOf refl (J .right) (J .beyond-right)
 
   pub join-fits : span (node l r) ≤ 1023 → join ac cb dc ce .ud ≤ 9
   join-fits h = rw (ap (λ (z : Six). z .ud) (sym joined)) at (small l r h .ud-small)
