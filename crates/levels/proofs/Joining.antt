@@ -14,8 +14,17 @@ use lib.ListN.{length}
 use Rattle.tree.specs.Table.{rightEdge, TreeAt, side, triangle}
 use Rattle.tree.proofs.Pieces.{ends, inside, closed}
 use Rattle.levels.specs.declared.Six.{Six}
-use Rattle.levels.specs.Kept.{six, rightOf, leftOf, join, SideZero, sixAt, withSix, Small, Deep, flat, deep, PartsHeld, Grows, Leaves}
+use Rattle.levels.specs.Kept.{six, join, SideZero, sixAt, withSix, Small, Deep, flat, deep, PartsHeld, Grows, Leaves}
 use Rattle.levels.proofs.Storing.{six-same, deep-root, deep-grows, store-grows}
+
+-- the pieces on (d,c) and (c,e), beyond a piece on (a,c) and one on (c,b); a side has a side beyond it
+abbrev rightOf : Tree → Tree
+rightOf leaf = leaf
+rightOf (node ad dc) = dc
+
+abbrev leftOf : Tree → Tree
+leftOf leaf = leaf
+leftOf (node ce eb) = ce
 
 pub six-node : (l r : Tree) → six (node l r) ≡ join (six l) (six r) (six (rightOf l)) (six (leftOf r))
 unfolding ud

@@ -16,16 +16,7 @@ use Rattle.levels.specs.declared.Six.{Six}
 abbrev pub six : Tree → Six
 six t = record { handle = handle t; «fan_a» = fanOfA t; «fan_b» = fanOfB t; «partial_a» = partialOfA t; «partial_b» = partialOfB t; ud = ud t }
 
--- the pieces on (d,c) and (c,e), beyond a piece on (a,c) and one on (c,b); a side has a side beyond it
-abbrev pub rightOf : Tree → Tree
-rightOf leaf = leaf
-rightOf (node ad dc) = dc
-
-abbrev pub leftOf : Tree → Tree
-leftOf leaf = leaf
-leftOf (node ce eb) = ce
-
--- the values of (a,b) from those of (a,c), (c,b), (d,c) and (c,e) (`six-node` in proofs/Storing.antt: these are those of the piece)
+-- the values of (a,b) from those of (a,c), (c,b), (d,c) and (c,e) (`six-node` in proofs/Joining.antt: these are those of the piece)
 abbrev pub join : Six → Six → Six → Six → Six
 join ac cb dc ce =
     let fa = max (ac .«fan_a») (dc .ud) in

@@ -3,7 +3,7 @@
 -- Rests on Cases.antt, on the inequalities between the six values, and on the levels of the plan computed.
 use mathlib.Core.Path.{_≡_, refl}
 use mathlib.Core.Bool.{Bool, true, false, not, false≢true}
-use Prim.Native.Nat.{ℕ, suc, _≤_, min, max}
+use Prim.Native.Nat.{ℕ, suc, _≤_}
 use native.Mathlib.Decide.{decLe}
 use native.Mathlib.Omega.{arith}
 use Rattle.polygon.specs.Tree.{Tree, leaf, node}
@@ -13,6 +13,7 @@ use Rattle.umbrella.specs.Best.{Over, Node, two, umbrella, leftAt, right
 use Rattle.umbrella.specs.declared.roles.Role.{Role}
 use Rattle.umbrella.specs.declared.roles.Role.the-variants as role
 use Rattle.umbrella.specs.Roles.{isHung, goesLeft, stemStep, stepAt, stepOf}
+use Rattle.umbrella.proofs.Lattice.{by-first, by-second}
 use Rattle.umbrella.proofs.Inequalities.{inequalities}
 use Rattle.umbrella.proofs.Theorems.{computed-has}
 use Rattle.umbrella.proofs.Cases.{left-hung, left-entered, right-hung, right-entered, end-both, end-left, only-right, end-right, only-left, both-left, both-right}
@@ -73,18 +74,6 @@ unfolding stepAt
 goes true d a b e = rw e
 goes false d a b e = rw e
 
--- a stem through a piece does with d levels: so do the piece beside it and the stem through the piece ahead
-through-left : (x y z w d : ℕ) → (w ≤ d → ⊥) → min (max x y) (max z w) ≤ d → x ≤ d
-through-left x y z w d i h = omega arith
-
-through-right : (x y z w d : ℕ) → (y ≤ d → x ≤ d → ⊥) → min (max x y) (max z w) ≤ d → (w ≤ d) × (z ≤ d)
-through-right x y z w d i h = go (decLe y d) (decLe x d)
-  where
-    go : Dec (y ≤ d) → Dec (x ≤ d) → (w ≤ d) × (z ≤ d)
-    go (yes a) (yes b) = absurd (i a b)
-    go (yes a) (no b) = (omega arith, omega arith)
-    go (no a) b = (omega arith, omega arith)
-
 module _ (S : Statements) (N : Steps S) where
   -- what is known of the pieces beyond a triangle
   abbrev RimsBelow : ℕ → Tree → Tree → Type 0
@@ -121,16 +110,16 @@ module _ (S : Statements) (N : Steps S) where
   unfolding stemAt ud
   stem-at k d leaf leaf i j h m p q s r = N .ends k d (goes k d leaf leaf (end-both k d _ 0 0 refl refl))
   stem-at k d leaf (node x y) i (yes j) h m p q s r = N .ends-left k d x y _ (goes k d leaf (node x y) (end-left k d _ 0 (ud (node x y)) refl (omega arith) j)) j q
-  stem-at k d leaf (node x y) i (no j) h m p q s r = N .goes-right k d leaf (node x y) _ _ (goes k d leaf (node x y) (only-right k d _ 0 _ refl j)) (omega arith) p (r two (through-right _ _ _ _ d (λ v w. j v) m .1))
+  stem-at k d leaf (node x y) i (no j) h m p q s r = N .goes-right k d leaf (node x y) _ _ (goes k d leaf (node x y) (only-right k d _ 0 _ refl j)) (omega arith) p (r two (by-second _ _ _ _ d m (λ o. j (o .1)) .0))
   stem-at k d (node x y) leaf (yes i) j h m p q s r = N .ends-right k d x y _ (goes k d (node x y) leaf (end-right k d _ (ud (node x y)) 0 (omega arith) refl i)) i p
-  stem-at k d (node x y) leaf (no i) j h m p q s r = N .goes-left k d (node x y) leaf _ _ (goes k d (node x y) leaf (only-left k d _ _ 0 i refl)) (omega arith) (s two (through-left _ _ _ _ d i m)) q
+  stem-at k d (node x y) leaf (no i) j h m p q s r = N .goes-left k d (node x y) leaf _ _ (goes k d (node x y) leaf (only-left k d _ _ 0 i refl)) (omega arith) (s two (by-first _ _ _ _ d m (λ o. i (o .1)) .0)) q
   stem-at k d (node x y) (node z w) i (yes j) (yes h) m p q s r = N .goes-left k d (node x y) (node z w) _ _ (goes k d (node x y) (node z w) (both-left k d _ (ud (node x y)) (ud (node z w)) (omega arith) (omega arith) j h)) j (s two h) q
   stem-at k d (node x y) (node z w) i (yes j) (no h) m p q s r =
-      let o = through-right _ _ _ _ d (λ v w. h w) m in
-      N .goes-right k d (node x y) (node z w) _ _ (goes k d (node x y) (node z w) (both-right k d _ (ud (node x y)) (ud (node z w)) (omega arith) (omega arith) (λ v w. h w))) (o .0) p (r two (o .1))
+      let o = by-second _ _ _ _ d m (λ o. h (o .0)) in
+      N .goes-right k d (node x y) (node z w) _ _ (goes k d (node x y) (node z w) (both-right k d _ (ud (node x y)) (ud (node z w)) (omega arith) (omega arith) (λ v w. h w))) (o .1) p (r two (o .0))
   stem-at k d (node x y) (node z w) i (no j) h m p q s r =
-      let o = through-right _ _ _ _ d (λ v w. j v) m in
-      N .goes-right k d (node x y) (node z w) _ _ (goes k d (node x y) (node z w) (both-right k d _ (ud (node x y)) (ud (node z w)) (omega arith) (omega arith) (λ v w. j v))) (o .0) p (r two (o .1))
+      let o = by-second _ _ _ _ d m (λ o. j (o .1)) in
+      N .goes-right k d (node x y) (node z w) _ _ (goes k d (node x y) (node z w) (both-right k d _ (ud (node x y)) (ud (node z w)) (omega arith) (omega arith) (λ v w. j v))) (o .1) p (r two (o .0))
 
   mutual
     unfolding best ud stepAt
