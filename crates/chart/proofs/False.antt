@@ -1,5 +1,5 @@
 -- Known false charts: one for each part of each clause of "A chart is true when ..", breaking that part and no other. None of them is true: each stands beside the reason, which is that clause.
--- This is what the file is for: the rest of the crate only produces `True`, so a clause that asked for less would still be proved there; it is refused here.
+-- This is what the file is for: the rest of the crate produces `True`, for our charts or, closing up, from `True` itself, so a clause that asked for less could still be proved there; it is refused here.
 use mathlib.Core.Path.{refl}
 use mathlib.Core.Logic.{inl, inr}
 use mathlib.Core.List.{List, [], _∷_}

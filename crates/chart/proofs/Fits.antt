@@ -7,9 +7,10 @@ use Rattle.lists.proofs.Lists.{all-of}
 use Rattle.polygon.specs.Tree.{Tree, span}
 use Rattle.umbrella.specs.Plan.{Plan}
 use Rattle.umbrella.proofs.Bounds.{bounds}
-use Rattle.chart.specs.Chart.{Stroke, level, upright, Chart, chart, True}
+use Rattle.chart.specs.Chart.{Stroke, level, upright, Chart, chart, closed, True}
 use Rattle.chart.specs.Bytes.{Fits, StrokeFits}
 use Rattle.chart.proofs.Charts.{chart-true, chart-size}
+use Rattle.chart.proofs.Closing.{closed-true, closed-rows-most}
 
 -- a true chart that is not too large
 true-fits : (c : Chart) → True c → c .rows < 65536 → c .columns < 65536 → c .n < 65536 → Fits c
@@ -29,8 +30,9 @@ true-fits c T hr hc hn = record {
         let (l, r, k) = T .bars (e .0) a in
         (omega arith, omega arith, omega arith)
 
-pub chart-fits : {t : Tree} (p : Plan t) → 2 ≤ span t → span t ≤ 1023 → Fits (chart p)
+pub chart-fits : {t : Tree} (p : Plan t) → 2 ≤ span t → span t ≤ 1023 → Fits (closed (chart p))
+unfolding closed
 chart-fits {t} p h k =
     let b = bounds p in
     let (n, r, c) = chart-size p in
-    true-fits (chart p) (chart-true p h) (omega arith) (omega arith) (omega arith)
+    true-fits (closed (chart p)) (closed-true (chart p) (chart-true p h)) (omega (arith, closed-rows-most (chart p))) (omega arith) (omega arith)

@@ -13,6 +13,8 @@ pub mod Place
 pub mod Block
 pub mod Umbrella
 pub mod Rows
+pub mod Rungs
+pub mod NoStem
 pub mod Rim
 pub mod Flats
 pub mod Draw
@@ -22,6 +24,8 @@ pub mod Truth
 pub mod Charts
 pub mod Fits
 pub mod Sizes
+pub mod Closing
+pub mod ClosedPlan
 pub mod Decoded
 pub mod Segments
 pub mod Hung

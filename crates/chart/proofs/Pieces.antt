@@ -1,4 +1,4 @@
--- In the chart of every plan, the root corners' bars of every piece reach the piece's first and last column and meet side by side.
+-- In the chart of every plan, closed up or not, the root corners' bars of every piece reach the piece's first and last column and meet side by side.
 -- A hung piece stands between two columns with uprights to its root corners (Hung.antt) and has uprights to both inside (Draw.antt); its root edge is level (Charts.antt).
 use mathlib.Core.Path.{_≡_, refl, sym, subst}
 use mathlib.Core.Logic.{inl, inr}
@@ -16,12 +16,13 @@ use Rattle.polygon.proofs.Chords.{span-pos}
 use Rattle.umbrella.specs.Plan.{Plan}
 use Rattle.umbrella.specs.Best.{Node, two}
 use Rattle.chart.specs.Places.{cols}
-use Rattle.chart.specs.Chart.{Meets, first, last, layout, chart, Covers, Touching}
+use Rattle.chart.specs.Chart.{Meets, first, last, Chart, layout, chart, closed, Covers, Touching}
 use Rattle.chart.specs.Pieces.{Rooted, RootBars, EveryPiece}
 use Rattle.chart.proofs.Hull.{Served, served-reverse, left-le, right-ge}
 use Rattle.chart.proofs.Flats.{flats}
 use Rattle.chart.proofs.Draw.{draws}
 use Rattle.chart.proofs.Charts.{chart-true, chart-touching, chart-size, upright-stroke, level-stroke}
+use Rattle.chart.proofs.Closing.{closed-rooted}
 use Rattle.chart.proofs.Segments.{Stretch, Segment, turned}
 use Rattle.chart.proofs.Hung.{every-piece}
 
@@ -108,5 +109,20 @@ module _ {t : Tree} (p : Plan t) (big : 2 ≤ span t) where
         meet = elim (chart-touching p big (0 — span t) (level-stroke p (0 — span t) here)) [ inl h ↦ h | inr h ↦ absurd (omega arith) ];
       }
 
+  -- every piece, in any chart in which all that is rooted in this one is rooted
+  every-bars : (c : Chart) → ((xs : List Edge) (a b : ℕ) → Rooted (chart p) xs a b → Rooted c xs a b) → EveryPiece (λ s q u v. RootBars c (cols q u v) u v) p 0 (span t)
+  every-bars c f =
+      every-piece (λ s q u v. RootBars c (cols q u v) u v) us fs (λ s q a b d e n h i j w r. both (cols q a b) a b (hung-bars s q a b d e n h i j w r)) p 0 (span t) (omega arith)
+      (λ n. inl (f us 0 (span t) root-bars)) (inl (record { pre = []; post = []; is = sym (append-nil us) })) (λ x m. m)
+    where
+      both : (xs : List Edge) (a b : ℕ) → RootBars (chart p) xs a b → RootBars c xs a b
+      both xs a b (inl r) = inl (f xs a b r)
+      both xs a b (inr r) = inr (f (reverse xs) b a r)
+
+  -- so in this one
   pub piece-bars : EveryPiece (λ s q u v. RootBars (chart p) (cols q u v) u v) p 0 (span t)
-  piece-bars = every-piece (λ s q u v. RootBars (chart p) (cols q u v) u v) us fs hung-bars p 0 (span t) (omega arith) (λ n. inl root-bars) (inl (record { pre = []; post = []; is = sym (append-nil us) })) (λ x m. m)
+  piece-bars = every-bars (chart p) (λ xs a b r. r)
+
+  -- and in this one closed up
+  pub closed-piece-bars : EveryPiece (λ s q u v. RootBars (closed (chart p)) (cols q u v) u v) p 0 (span t)
+  closed-piece-bars = every-bars (closed (chart p)) (closed-rooted (chart p))

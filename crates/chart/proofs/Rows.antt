@@ -10,6 +10,7 @@ use Rattle.lists.specs.Lists.{Mem, head, tail}
 use Rattle.lists.proofs.Lists.{here, mem-left, mem-right, not-empty, mem-map}
 use Rattle.polygon.specs.Tree.{Tree, span}
 use Rattle.umbrella.specs.Plan.{Plan, none, plain, stemLeft, stemRight, LeftRim, leftEnd, leftOn, RightRim, rightEnd, rightOn, LeftGate, leftGate, leftPast, RightGate, rightGate, rightPast, Stem, endBoth, endLeft, endRight, goLeft, goRight}
+use Rattle.chart.specs.Chart.{cornerRows}
 use Rattle.chart.specs.Places.{rows, leftRows, rightRows, leftGateRows, rightGateRows, stemRows}
 use Rattle.chart.proofs.Cells.{Cell, rowBy}
 
@@ -52,7 +53,7 @@ knows-map {R} {a} f rs K = record { all = λ z m. K .all (rowBy f z) (subst (Mem
 
 -- the row of each corner of the piece (0,v), and a cell on its corner's row
 abbrev pub rowOf : List ℕ → ℕ → ℕ
-rowOf rs x = getD (0 ∷ (rs ++ (0 ∷ []))) x 0
+rowOf rs x = getD (cornerRows rs) x 0
 
 abbrev pub OnRow : ℕ → List ℕ → Cell → Type 0
 OnRow v rs z = (z .0 ≤ v) × (z .1 ≡ rowOf rs (z .0))

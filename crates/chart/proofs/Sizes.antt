@@ -27,6 +27,9 @@ strokes-size (upright e j ∷ ss) = omega (arith, strokes-size ss)
 strokes-size (level e ∷ ss) = omega (arith, strokes-size ss)
 
 -- the whole chart, behind its rows, columns and corners
-pub bytes-size : (c : Chart) → (6 + 6 * c .n ≤ length (bytesOf c)) × (length (bytesOf c) ≤ 6 + 6 * c .n + 7 * length (c .strokes))
+pub bytes-length : (c : Chart) → length (bytesOf c) ≡ 6 + 6 * c .n + length (flatMap strokeBytes (c .strokes))
 unfolding bytesOf
-bytes-size c = omega (arith, length-append (flatMap barBytes (barsOf c)) (flatMap strokeBytes (c .strokes)), bars-size (barsOf c), bars-count c, strokes-size (c .strokes))
+bytes-length c = omega (arith, length-append (flatMap barBytes (barsOf c)) (flatMap strokeBytes (c .strokes)), bars-size (barsOf c), bars-count c)
+
+pub bytes-size : (c : Chart) → (6 + 6 * c .n ≤ length (bytesOf c)) × (length (bytesOf c) ≤ 6 + 6 * c .n + 7 * length (c .strokes))
+bytes-size c = omega (arith, bytes-length c, strokes-size (c .strokes))

@@ -189,7 +189,7 @@ module _ (v D : ℕ) (rs : List ℕ) (us fs es : List Edge) (sides : ℕ) (big :
           record { in0 = q .0; in1 = p .0; same = sym (q .1) ∙ p .1; touch = inr (side-by-side (e .1) (e .0) (r .0) i b c n m (r .1) (r .2) (λ h. apart (sym h))) }
 
   -- bars in touching columns leave no gap
-  no-gap : (e : Edge) (j : ℕ) → Level e → Gap (layout v D rs us es) e j → ⊥
+  no-gap : (e : Edge) (j : ℕ) → Level e → Gap (layout v (2 * D + 1) rs us es) e j → ⊥
   unfolding layout
   no-gap e j t g = pick (t .touch) g
     where
@@ -205,7 +205,7 @@ module _ (v D : ℕ) (rs : List ℕ) (us fs es : List Edge) (sides : ℕ) (big :
       let (k, l) = cell-row (e .1) (E .s) j c q (E .high) in
       E .free x t i (subst (λ (r : ℕ). Between r (E .s) t) (sym h) (subst (λ (s : ℕ). Between (row (e .0)) s t) (sym l) b))
 
-  pub truth : True (layout v D rs us es)
+  pub truth : True (layout v (2 * D + 1) rs us es)
   unfolding layout
   truth = record {
     bars = λ x h. (omega (arith, not-empty x (omega arith)), omega (arith, in-width x (omega arith)), omega (arith, low x (omega arith)));
@@ -243,6 +243,6 @@ module _ (v D : ℕ) (rs : List ℕ) (us fs es : List Edge) (sides : ℕ) (big :
           absurd (ne (one-cell x y (row x) j c n (over-cell x j hx (omega arith) (omega (arith, not-empty x hx)) c n)
           (subst (λ (r : ℕ). CellOn y r (c .0)) (sym e) (over-cell y j hy (omega arith) (omega (arith, not-empty y hy)) c n))))
 
-  pub touching : (e : Edge) → Mem (level e) (layout v D rs us es .strokes) → Touching (layout v D rs us es) e
+  pub touching : (e : Edge) → Mem (level e) (layout v (2 * D + 1) rs us es .strokes) → Touching (layout v (2 * D + 1) rs us es) e
   unfolding layout
   touching e i = level-of e i .touch

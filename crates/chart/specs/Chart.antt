@@ -5,7 +5,7 @@ use mathlib.Core.List.{List, [], _∷_, _++_, map, reverse}
 use Prim.Native.Nat.{ℕ, suc, _+_, _-_, _*_, _≤_, _<_}
 use native.Mathlib.Decide.{ℕ-discrete}
 use lib.ListN.{length, getD}
-use Rattle.lists.specs.Lists.{Mem, below, choose, either?}
+use Rattle.lists.specs.Lists.{Mem, keep, below, choose, either?, mem?}
 use Rattle.polygon.specs.Polygon.{Edge, Ascending, Linked, Polygon}
 use Rattle.polygon.specs.Order.{same?}
 use Rattle.polygon.specs.Tree.{Tree, span}
@@ -61,23 +61,51 @@ unfoldable pub stroke : ℕ → List Edge → Edge → Stroke
 stroke j [] e = level e
 stroke j (f ∷ us) e = choose (same? e f) (upright e j) (stroke (suc j) us e)
 
--- The chart of a piece (0,v) of D levels, by the rows of its inner corners, its columns and its edges. "A bar runs over all columns of its uprights, through its hung pieces and any space up to its next upright."
+-- "u and v lie on row 0": the rows of all corners of a piece, by those of its inner ones
+abbrev pub cornerRows : List ℕ → List ℕ
+cornerRows rs = 0 ∷ (rs ++ (0 ∷ []))
+
+-- The chart of a piece (0,v) with h rows, by the rows of its inner corners, its columns and its edges. "A bar runs over all columns of its uprights, through its hung pieces and any space up to its next upright."
 -- "In every piece, before any reversal, u's bar starts in the piece's first column and v's ends in its last." (`plan-piece-bars` in proofs/Theorems.antt: so in every piece.)
 unfoldable pub layout : ℕ → ℕ → List ℕ → List Edge → List Edge → Chart
-layout v D rs us es = record {
-  rows = 2 * D + 1;
+layout v h rs us es = record {
+  rows = h;
   columns = length us;
   n = suc v;
-  bar = λ x. record { row = getD (0 ∷ (rs ++ (0 ∷ []))) x 0; left = choose (ℕ-discrete x 0) 0 (first x us); right = choose (ℕ-discrete x v) (length us - 1) (last x us) };
+  bar = λ x. record { row = getD (cornerRows rs) x 0; left = choose (ℕ-discrete x 0) 0 (first x us); right = choose (ℕ-discrete x v) (length us - 1) (last x us) };
   strokes = map (stroke 0 us) es;
 }
 
+-- the chart of a plan by document 01's places: "rows 0 to 2D"
 unfoldable pub chart : {t : Tree} → Plan t → Chart
-chart {t} p = layout (span t) (levels p) (rows p) (cols p 0 (span t)) (edges 0 t)
+chart {t} p = layout (span t) (2 * levels p + 1) (rows p) (cols p 0 (span t)) (edges 0 t)
 
--- the chart of a part: that of its plan drawn
+-- Request (v), "Rows without bars": "A chart leaves out each row without one and closes up." It is one step, done to a whole chart after everything in it has its place.
+-- the rows on which the bars of a chart lie
+unfoldable pub barRows : Chart → List ℕ
+barRows c = map (λ b. b .row) (barsOf c)
+
+-- if the bars lie on the rows rs: how many rows of a smaller number than r carry a bar. Row r becomes the row of that number.
+unfoldable pub closedRow : List ℕ → ℕ → ℕ
+closedRow rs r = length (keep (λ s. mem? ℕ-discrete s rs) (below r))
+
+-- the chart closed up: as many rows as carry a bar; columns and strokes stay
+unfoldable pub closed : Chart → Chart
+closed c = record {
+  rows = closedRow (barRows c) (c .rows);
+  columns = c .columns;
+  n = c .n;
+  bar = λ x. record { row = closedRow (barRows c) (c .bar x .row); left = c .bar x .left; right = c .bar x .right };
+  strokes = c .strokes;
+}
+
+-- "never has an empty row": a bar lies on each row
+abbrev pub NoEmptyRow : Chart → Type 0
+NoEmptyRow c = (r : ℕ) → r < c .rows → (x : ℕ) × (x < c .n) × (c .bar x .row ≡ r)
+
+-- the chart of a part: that of its plan drawn, closed up
 unfoldable pub chartOf : Polygon → Chart
-chartOf p = chart (planOf p)
+chartOf p = closed (chart (planOf p))
 
 module _ (c : Chart) where
   -- the bar of x has a cell in column j

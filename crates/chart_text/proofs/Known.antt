@@ -1,4 +1,4 @@
--- Known texts, by computation: those of the charts of the triangle and of n = 4, (0,2), as they are drawn.
+-- Known texts, by computation: those of the charts of the triangle and of n = 4, (0,2), by document 01's places, handed in with their empty row.
 use mathlib.Core.Path.{_≡_, refl}
 use mathlib.Core.Logic.{Dec·and}
 use mathlib.Core.List.{List, [], _∷_, flatMap}

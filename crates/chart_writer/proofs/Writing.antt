@@ -20,9 +20,9 @@ use Rattle.chart.proofs.Sizes.{bars-count, bars-size}
 use Rattle.chart_writer.specs.Tables.{Uprights, Sizes, Edges, Among, Laid, Columns, Spans, RowsAre, tableBar, tableStroke, barRun, strokeRun}
 use Rattle.chart_writer.proofs.Placing.{edge-listed, edges-count, stroke-is}
 
-module _ (n D : ℕ) (rs : List ℕ) (us es : List Edge) (pos : 1 ≤ n) where
+module _ (n h : ℕ) (rs : List ℕ) (us es : List Edge) (pos : 1 ≤ n) where
   abbrev C : Chart
-  C = layout (n - 1) D rs us es
+  C = layout (n - 1) h rs us es
 
   -- the bars
   bars-are : (rows left right : List ℕ) → RowsAre n rs rows → Spans n us left right → barRun rows left right n ≡ flatMap barBytes (barsOf C)
@@ -38,13 +38,13 @@ module _ (n D : ℕ) (rs : List ℕ) (us es : List Edge) (pos : 1 ≤ n) where
 
   module _ (strokes out : List ℕ) (s : strokes ≡ flatMap strokeBytes (C .strokes)) where
     abbrev fields : List ℕ → List ℕ
-    fields bars = bytes16 (2 * D + 1) ++ (bytes16 (length us) ++ (bytes16 n ++ (bars ++ strokes)))
+    fields bars = bytes16 h ++ (bytes16 (length us) ++ (bytes16 n ++ (bars ++ strokes)))
 
     fields-are : bytesOf C ≡ fields (flatMap barBytes (barsOf C))
     unfolding bytesOf layout
     fields-are =
         let e : suc (n - 1) ≡ n = omega arith in
-        rw s (ap (λ (m : ℕ). bytes16 (2 * D + 1) ++ (bytes16 (length us) ++ (bytes16 m ++ (flatMap barBytes (barsOf C) ++ flatMap strokeBytes (C .strokes))))) e)
+        rw s (ap (λ (m : ℕ). bytes16 h ++ (bytes16 (length us) ++ (bytes16 m ++ (flatMap barBytes (barsOf C) ++ flatMap strokeBytes (C .strokes))))) e)
 
     fields-size : length (bytesOf C) ≡ 6 + 6 * n + length strokes
     fields-size = ap length fields-are ∙ omega (arith, bars-length, length-append (flatMap barBytes (barsOf C)) strokes)
@@ -53,13 +53,13 @@ module _ (n D : ℕ) (rs : List ℕ) (us es : List Edge) (pos : 1 ≤ n) where
     too-short k = sym (written-short (bytesOf C) out (omega (arith, fields-size)))
 
     finished : (bars o : List ℕ) → bars ≡ flatMap barBytes (barsOf C) → 6 + 6 * n + length strokes ≤ length out
-        → o ≡ sets (sets (sets (sets (sets out 0 (bytes16 (2 * D + 1))) 2 (bytes16 (length us))) 4 (bytes16 n)) 6 bars) (6 + 6 * n) strokes
+        → o ≡ sets (sets (sets (sets (sets out 0 (bytes16 h)) 2 (bytes16 (length us))) 4 (bytes16 n)) 6 bars) (6 + 6 * n) strokes
         → _≡_ {A = Answer} (record { number = 0; size = 6 + 6 * n + length strokes; bytes = o }) (written (write (bytesOf C)) out)
     finished bars o b fits e =
         let k : length (bytesOf C) ≤ length out = omega (arith, fields-size) in
         let p : 6 + 6 * n ≡ 6 + length bars = omega (arith, bars-length, ap length b) in
-        let h : List ℕ = sets (sets (sets out 0 (bytes16 (2 * D + 1))) 2 (bytes16 (length us))) 4 (bytes16 n) in
-        let q : o ≡ sets out 0 (fields bars) = e ∙ (ap (λ (x : ℕ). sets (sets h 6 bars) x strokes) p ∙ sym (sets-append bars strokes h 6)) in
+        let o₁ : List ℕ = sets (sets (sets out 0 (bytes16 h)) 2 (bytes16 (length us))) 4 (bytes16 n) in
+        let q : o ≡ sets out 0 (fields bars) = e ∙ (ap (λ (x : ℕ). sets (sets o₁ 6 bars) x strokes) p ∙ sym (sets-append bars strokes o₁ 6)) in
         rw (written-fits (bytesOf C) out k, ← fields-size, q, b, ← fields-are, sets-front (bytesOf C) out k)
 
 -- the same by the tables that the code holds
@@ -82,19 +82,19 @@ module _ (n height : ℕ) (tr columns rows : List ℕ) (Z : Sizes n height tr co
       ∙ map-places (stroke 0 (map (edgeAt tr) columns)) (tableStroke tr stands) (edgeOf 0) (edgesOf (take m tr)) 0
       (λ i k. let h : i < m = omega arith in let q : 0 + i ≡ i = omega arith in rw (q, edge-listed m tr columns (Z .edges) E A i h, K i (omega (arith, Z .most))) (stroke-is m tr columns (Z .edges) E A (omega (arith, Z .few)) i h)))
 
-  module _ (stands out : List ℕ) (K : Columns columns stands) (z : ℕ) (size : z ≡ length (run stands)) {D : ℕ} {rs : List ℕ} {us es : List Edge} (L : Laid n height tr columns rows D rs us es) where
-    strokes-of : run stands ≡ flatMap strokeBytes (layout (n - 1) D rs us es .strokes)
+  module _ (stands out : List ℕ) (K : Columns columns stands) (z : ℕ) (size : z ≡ length (run stands)) {rs : List ℕ} {us es : List Edge} (L : Laid n tr columns rows rs us es) where
+    strokes-of : run stands ≡ flatMap strokeBytes (layout (n - 1) height rs us es .strokes)
     unfolding layout
     strokes-of = rw (L .uprights, L .edges) (strokes-are stands K)
 
-    pub chart-short : length out < 6 + 6 * n + z → refusal 8 out ≡ written (write (bytesOf (layout (n - 1) D rs us es))) out
-    chart-short k = too-short n D rs us es (omega (arith, Z .least)) (run stands) out strokes-of (omega arith)
+    pub chart-short : length out < 6 + 6 * n + z → refusal 8 out ≡ written (write (bytesOf (layout (n - 1) height rs us es))) out
+    chart-short k = too-short n height rs us es (omega (arith, Z .least)) (run stands) out strokes-of (omega arith)
 
     pub chart-written : (left right o : List ℕ) → Spans n (map (edgeAt tr) columns) left right → 6 + 6 * n + z ≤ length out
         → o ≡ sets (sets (sets (sets (sets out 0 (bytes16 height)) 2 (bytes16 (length columns))) 4 (bytes16 n)) 6 (barRun rows left right n)) (6 + 6 * n) (run stands)
-        → _≡_ {A = Answer} (record { number = 0; size = 6 + 6 * n + z; bytes = o }) (written (write (bytesOf (layout (n - 1) D rs us es))) out)
+        → _≡_ {A = Answer} (record { number = 0; size = 6 + 6 * n + z; bytes = o }) (written (write (bytesOf (layout (n - 1) height rs us es))) out)
     chart-written left right o S fits e =
         let w : length us ≡ length columns = ap length (L .uprights) ∙ length-map columns (edgeAt tr) in
         rw size
-        (finished n D rs us es (omega (arith, Z .least)) (run stands) out strokes-of (barRun rows left right n) o (bars-are n D rs us es (omega (arith, Z .least)) rows left right (L .corners) (rw (L .uprights) S)) (omega arith)
-        (rw (w, ← L .levels) e))
+        (finished n height rs us es (omega (arith, Z .least)) (run stands) out strokes-of (barRun rows left right n) o (bars-are n height rs us es (omega (arith, Z .least)) rows left right (L .corners) (rw (L .uprights) S)) (omega arith)
+        (rw w e))

@@ -9,7 +9,7 @@ use Rattle.polygon.specs.Polygon.{Edge, Ascending}
 use Rattle.codec.specs.Numbers.{bytes16}
 use Rattle.keys.specs.Keys.{edgeOf, edgesOf}
 use Rattle.tree.specs.Table.{edgeAt}
-use Rattle.chart.specs.Chart.{Bar, Stroke, upright, level, first, last}
+use Rattle.chart.specs.Chart.{Bar, Stroke, upright, level, first, last, cornerRows}
 use Rattle.chart.specs.Bytes.{barBytes, strokeBytes}
 use Rattle.chart.specs.Decode.{barOn}
 
@@ -90,11 +90,10 @@ pub record Spans (n : ℕ) (us : List Edge) (left right : List ℕ) : Type 0 whe
 
 -- rows has the row of each of n corners: 0, then rs, then 0
 abbrev pub RowsAre : ℕ → List ℕ → List ℕ → Type 0
-RowsAre n rs rows = (x : ℕ) → x < n → getD rows x 0 ≡ getD (0 ∷ (rs ++ (0 ∷ []))) x 0
+RowsAre n rs rows = (x : ℕ) → x < n → getD rows x 0 ≡ getD (cornerRows rs) x 0
 
--- the tables are those of a chart of D levels with the rows rs of its inner corners, the columns us and the edges es
-pub record Laid (n height : ℕ) (tr columns rows : List ℕ) (D : ℕ) (rs : List ℕ) (us es : List Edge) : Type 0 where
-  pub levels : height ≡ 2 * D + 1
+-- the tables are those of a chart with the rows rs of its inner corners, the columns us and the edges es
+pub record Laid (n : ℕ) (tr columns rows rs : List ℕ) (us es : List Edge) : Type 0 where
   pub corners : RowsAre n rs rows
   pub uprights : us ≡ map (edgeAt tr) columns
   pub edges : es ≡ edgesOf (take (2 * n - 3) tr)

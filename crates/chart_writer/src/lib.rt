@@ -35,9 +35,9 @@ pub fn write_chart(
     requires sizes { ⌜ Sizes n height (now tree) (now columns) (now rows) ⌝ }
     requires edges { ⌜ Edges (2 * n - 3) (now tree) ⌝ }
     requires places { ⌜ Among (2 * n - 3) (now columns) ⌝ }
-    ensures { λ r. ⌜ ((D : ℕ) (rs : List ℕ) (us es : List Edge)
-        → Laid n height (now (tree .entry)) (now (columns .entry)) (now (rows .entry)) D rs us es
-        → answered r (now (out .exit)) ≡ written (write (bytesOf (layout (n - 1) D rs us es))) (now (out .entry))) ⌝ }
+    ensures { λ r. ⌜ ((rs : List ℕ) (us es : List Edge)
+        → Laid n (now (tree .entry)) (now (columns .entry)) (now (rows .entry)) rs us es
+        → answered r (now (out .exit)) ≡ written (write (bytesOf (layout (n - 1) height rs us es))) (now (out .entry))) ⌝ }
 {
     let w = columns.len();
     let mut left = [w as u16; CORNERS];

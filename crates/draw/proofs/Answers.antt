@@ -15,7 +15,7 @@ use Rattle.codec.specs.declared.BothWritten.the-variants.{Lengths, Refused}
 use Rattle.sheet.specs.Sheet.{Reading, refused, held, readSheet}
 use Rattle.sheet.proofs.Valid.{read-valid}
 use Rattle.chart.specs.Chart as chart
-use Rattle.chart.specs.Chart.{layout, chartOf}
+use Rattle.chart.specs.Chart.{layout, closed, chartOf}
 use Rattle.chart.specs.Bytes.{bytesOf}
 use Rattle.draw.specs.Answer.{charted, drawn, chartedBoth, drawnWithBars}
 use Rattle.draw.specs.WithBars.{filledBy, RecordsFit}
@@ -29,7 +29,7 @@ For q out room r after = (bars : List Bar) → length bars ≡ room → answered
 
 -- the chart has the part's corners
 corners : (p : Polygon) → Triangulated (p .n) (p .ds) → chartOf p .n ≡ p .n
-unfolding chartOf chart.chart layout
+unfolding chartOf closed chart.chart layout
 corners p T = omega (arith, tree-of (p .n) (p .ds) T .size, T .full)
 
 -- a part that was read

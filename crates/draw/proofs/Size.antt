@@ -12,14 +12,14 @@ use Rattle.sheet.specs.Sheet.{Reading, refused, held, readSheet}
 use Rattle.sheet.proofs.Size.{written-size}
 use Rattle.sheet.proofs.Valid.{read-valid}
 use Rattle.umbrella.specs.Best.{planOf}
-use Rattle.chart.specs.Chart.{chartOf}
+use Rattle.chart.specs.Chart.{closed, chartOf}
 use Rattle.chart.specs.Bytes.{bytesOf}
 use Rattle.chart.proofs.Charts.{chart-size, chart-strokes}
 use Rattle.chart.proofs.Sizes.{bytes-size}
 use Rattle.draw.specs.Answer.{charted, drawn}
 
 pub chart-bytes : (p : Polygon) → Triangulated (p .n) (p .ds) → p .n ≤ 1024 → length (bytesOf (chartOf p)) ≤ 20465
-unfolding chartOf
+unfolding chartOf closed
 chart-bytes p T most = omega (arith, bytes-size (chartOf p) .1, chart-size (planOf p) .0, chart-strokes (planOf p), most, tree-of (p .n) (p .ds) T .size)
 
 pub drawn-size : (s out : List ℕ) → written (drawn s) out .size ≤ 20465

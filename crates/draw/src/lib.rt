@@ -10,7 +10,7 @@ ghost use Rattle.codec.specs.TwoOutputs.{answeredBoth};
 ghost use Rattle.sheet.specs.Held.{polygonOf, InHand};
 ghost use Rattle.umbrella.specs.Best.{best};
 ghost use Rattle.levels.specs.Kept.{Filled};
-ghost use Rattle.chart.specs.Chart.{chart, chartOf};
+ghost use Rattle.chart.specs.Chart.{chart, closed, chartOf};
 ghost use Rattle.chart.specs.Bytes.{bytesOf};
 ghost use Rattle.chart.specs.declared.Bar.{Bar};
 ghost use Rattle.chart.specs.Decode.{barOf};
@@ -23,6 +23,7 @@ use chart_writer::write_chart;
 use codec::BothWritten;
 use codec::Written;
 use drawing::Size;
+use drawing::closing::close;
 use drawing::place;
 use drawing::walk::COLUMNS;
 use keys::CORNERS;
@@ -44,7 +45,7 @@ struct Charted {
     size: Size,
 }
 
-// Writes the chart of the part p of n corners, whose tables are filled, if the output is long enough.
+// Writes the chart of the part p of n corners, whose tables are filled, if the output is long enough. Rows without bars are left out once everything has its place.
 fn write_part(
     n: usize,
     tree: &[u32; PLACES],
@@ -55,15 +56,19 @@ fn write_part(
     requires least { ⌜ 3 ≤ n ⌝ }
     requires filled { ⌜ ((t : Tree) × Filled n t (now tree) (now depths) p) ⌝ }
     ensures { λ r. ⌜ ((t : Tree) → Filled n t (now (tree .entry)) (now (depths .entry)) p
-        → Wrote (chart (best t)) (now (out .entry)) (now (out .exit)) r) ⌝ }
+        → Wrote (closed (chart (best t))) (now (out .entry)) (now (out .exit)) r) ⌝ }
 {
     let mut columns = [0u16; COLUMNS];
     let mut rows = [0u16; CORNERS];
     let size = place(n, tree, depths, p, &mut columns, &mut rows);
     let w = size.columns;
+    let height = close(&mut rows[..n], size.rows);
     Charted {
-        written: write_chart(n, size.rows, tree, &columns[..w], &rows, out),
-        size,
+        written: write_chart(n, height, tree, &columns[..w], &rows, out),
+        size: Size {
+            columns: w,
+            rows: height,
+        },
     }
 }
 

@@ -7,4 +7,5 @@ pub mod Turning
 pub mod Walking
 pub mod Following
 pub mod Rims
+pub mod Marks
 pub mod Whole

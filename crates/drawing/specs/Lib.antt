@@ -2,4 +2,5 @@
 pub mod Columns
 pub mod Lines
 pub mod Walk
+pub mod Marks
 pub mod Located

@@ -1,6 +1,6 @@
 -- The columns and rows of a part's drawing as the code holds them.
 use mathlib.Core.Path.{_≡_}
-use mathlib.Core.List.{List, [], _∷_, _++_, map}
+use mathlib.Core.List.{List, map}
 use Prim.Native.Nat.{ℕ, suc, _-_, _*_, _<_}
 use lib.ListN.{length, take, getD}
 use Rattle.polygon.specs.Edges.{edges}
@@ -10,6 +10,7 @@ use Rattle.umbrella.specs.Best.{best}
 use Rattle.keys.specs.Keys.{edgesOf}
 use Rattle.tree.specs.Table.{edgeAt}
 use Rattle.chart.specs.Places.{cols, rows}
+use Rattle.chart.specs.Chart.{cornerRows}
 use Rattle.drawing.specs.declared.Size.{Size}
 
 -- of the part with n corners and the tree t: all its edges, the place of each column's upright among them, the row of each corner, how many columns and rows
@@ -19,7 +20,7 @@ pub record Located (n : ℕ) (t : Tree) (tr columns ranks : List ℕ) (s : Size)
   pub uprights : map (edgeAt tr) (take (s .columns) columns) ≡ cols (best t) 0 (n - 1)
   pub few : s .columns < 2 * n
   pub width : s .columns ≡ length (cols (best t) 0 (n - 1))
-  pub corners : take n ranks ≡ 0 ∷ (rows (best t) ++ (0 ∷ []))
+  pub corners : take n ranks ≡ cornerRows (rows (best t))
   pub height : s .rows ≡ suc (2 * levels (best t))
   pub tree-kept : length tr ≡ 3072
   pub columns-kept : length columns ≡ 2048

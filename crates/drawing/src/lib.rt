@@ -1,5 +1,5 @@
 // The drawing of a part: the place of each column's upright among the edges, the row of each corner, and how many columns and rows there are.
-// lines.rt says how the drawing goes on from a triangle, walk.rt writes the columns and rows.
+// lines.rt says how the drawing goes on from a triangle, walk.rt writes the columns and rows; closing.rt leaves out the rows without bars afterwards.
 // The definitions that the contracts cite are in specs/; Located.antt says what is drawn of a part.
 ghost use mathlib.Core.Path.{_≡_};
 ghost use lib.ListN.{length};
@@ -17,6 +17,7 @@ use tree::PLACES;
 use tree::Root;
 use umbrella::roles::Role;
 
+pub mod closing;
 pub mod lines;
 pub mod walk;
 

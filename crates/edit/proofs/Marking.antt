@@ -7,8 +7,8 @@ use native.Mathlib.Decide.{ℕ-discrete}
 use native.Mathlib.Omega.{arith}
 use lib.ListN.{length, set, getD, length-set, length-map, List·getD-map}
 use lib.Seq.{getD-set-same, getD-set-other}
-use Rattle.lists.specs.Lists.{Mem, head, tail, All}
-use Rattle.lists.proofs.Lists.{mem-left, mem-right, not-empty, choose-yes, choose-no}
+use Rattle.lists.specs.Lists.{head, All}
+use Rattle.lists.proofs.Lists.{mem-left, mem-right, not-empty, snoc-cases, choose-yes, choose-no}
 use Rattle.lists.proofs.Places.{all-at, at-all}
 use Rattle.polygon.specs.Polygon.{Edge, _—_, Side, Joined}
 use Rattle.polygon.proofs.Order.{edge, low-of, high-of}
@@ -79,12 +79,6 @@ near-begin n c near h k i size blank = record { joined = joined; apart = apart }
         go (inr p) (no q) = q p
 
 -- one more edge
-snoc-cases : {A : Type 0} {z : A} (xs : List A) (y : A) → Mem z (xs ++ (y ∷ [])) → Mem z xs ⊎ (z ≡ y)
-snoc-cases [] y (head e) = inr e
-snoc-cases [] y (tail m) = absurd (not-empty m)
-snoc-cases (x ∷ xs) y (head e) = inl (head e)
-snoc-cases (x ∷ xs) y (tail m) = elim (snoc-cases xs y m) [ inl k ↦ inl (tail k) | inr e ↦ inr e ]
-
 module _ (n c : ℕ) (ds : List Edge) (e : Edge) (near : List ℕ) (N : Near n ds c near) (small : n ≤ 1024) (size : length near ≡ 1025) (p : ℕ) (O : OtherEnd e c p) where
   grown : (x : ℕ) → Joined n ds x c → Joined n (ds ++ (e ∷ [])) x c
   grown x (inl (inl s)) = inl (inl s)

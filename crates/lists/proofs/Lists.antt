@@ -27,6 +27,12 @@ module _ {A : Type 0} where
   mem-right [] m = m
   mem-right (x ∷ xs) m = tail (mem-right xs m)
 
+  pub snoc-cases : {z : A} (xs : List A) (y : A) → Mem z (xs ++ (y ∷ [])) → Mem z xs ⊎ (z ≡ y)
+  snoc-cases [] y (head e) = inr e
+  snoc-cases [] y (tail m) = absurd (not-empty m)
+  snoc-cases (x ∷ xs) y (head e) = inl (head e)
+  snoc-cases (x ∷ xs) y (tail m) = elim (snoc-cases xs y m) [ inl k ↦ inl (tail k) | inr e ↦ inr e ]
+
   -- all of them
   pub all-append : {Q : A → Type 0} {xs ys : List A} → All Q xs → All Q ys → All Q (xs ++ ys)
   all-append all-nil b = b

@@ -10,6 +10,14 @@ unfolding times
 times-yes (yes p) h = refl
 times-yes (no f) h = absurd (f h)
 
+-- two decisions of statements that say the same
+pub times-same : {P Q : Type 0} (k : Dec P) (m : Dec Q) → (P → Q) → (Q → P) → times k ≡ times m
+unfolding times
+times-same (yes p) (yes q) f g = refl
+times-same (yes p) (no q) f g = absurd (q (f p))
+times-same (no p) (yes q) f g = absurd (p (g q))
+times-same (no p) (no q) f g = refl
+
 module _ {A : Type 0} (d : (x y : A) → Dec (x ≡ y)) (x : A) where
   pub occurs-append : (s t : List A) → occurs d x (s ++ t) ≡ occurs d x s + occurs d x t
   unfolding occurs

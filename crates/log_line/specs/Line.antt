@@ -1,5 +1,5 @@
 -- The line that the program prints (document 01, "Known parts"), in bytes:
--- `part - corners 3 levels 1 umbrellas 1 stems 0 rows 3 columns 2`, the numbers "as named, in decimal"; request (xii): "the log prints `-` always". "A refusal prints `refused` and its number, as `refused 3`".
+-- `part - corners 3 levels 1 umbrellas 1 stems 0 rows 3 columns 2`, the numbers "as named, in decimal"; request (xii): "the log prints `-` always"; by request (v) the rows of this one are 2. "A refusal prints `refused` and its number, as `refused 3`".
 use mathlib.Core.List.{List, [], _∷_, _++_}
 use Prim.Native.Nat.{ℕ, zero, suc, _+_, _/_, _%_}
 use native.Mathlib.Decide.{decLt}

@@ -17,10 +17,10 @@ use Rattle.edit.proofs.List.{list-of-edits}
 use Rattle.umbrella.specs.Best.{best}
 use Rattle.umbrella.proofs.Theorems.{none-has-fewer, is-drawn, only-drawn}
 use Rattle.plan.specs.Answer.{answer, planned}
-use Rattle.chart.specs.Chart.{Bar, Chart, barsOf, chart, chartOf}
+use Rattle.chart.specs.Chart.{Bar, Chart, barsOf, chart, closed, chartOf}
 use Rattle.chart.specs.Bytes.{bytesOf}
 use Rattle.chart.proofs.Sizes.{bars-count}
-use Rattle.chart.proofs.Theorems.{chart-is-true, chart-shows, chart-rows, chart-columns, chart-column-named, chart-number-fits}
+use Rattle.chart.proofs.Theorems.{chart-is-true, chart-shows, chart-rows-most, chart-rows-least, chart-no-empty-row, chart-columns, chart-column-named, chart-number-fits}
 use Rattle.draw.specs.Answer.{charted, drawn, chartedBoth, drawnWithBars}
 use Rattle.draw.proofs.Refusals.{only-short-bars}
 use Rattle.promises.specs.DemandThree.{DemandThree, SamePart, SameBytes, SameChart, partLeft}
@@ -47,7 +47,9 @@ demand-three s p reads cs =
       true = chart-is-true q (F .valid);
       shows = S;
       fits = chart-number-fits q (F .valid);
-      rows = chart-rows q (F .valid);
+      rows = chart-rows-most q (F .valid);
+      rows-least = chart-rows-least q (F .valid);
+      no-empty-row = chart-no-empty-row q (F .valid);
       columns = chart-columns q (F .valid);
       named = chart-column-named q (F .valid);
     }
@@ -64,7 +66,7 @@ whole-bars c n out bars d h e = rw e (take-at (barsOf c) _ n (bars-count c ∙ h
 -- the chart depends on the corners and the set of diagonals alone
 chart-of-same : (x y : Polygon) → x .n ≡ y .n → x .ds ≡ y .ds → chartOf x ≡ chartOf y
 unfolding chartOf
-chart-of-same x y n e = λ i. chart (best (treeOf (n i) (e i)))
+chart-of-same x y n e = λ i. closed (chart (best (treeOf (n i) (e i))))
 
 pub same-chart : (s t : List ℕ) (p q : Polygon) → readSheet s ≡ held p → readSheet t ≡ held q → (cs ds : List Call) → SameChart s t p q cs ds
 same-chart s t p q rs rt cs ds =

@@ -14,7 +14,7 @@ use Rattle.sheet.proofs.Valid.{read-valid}
 use Rattle.plan.specs.Answer.{answer, planned}
 use Rattle.chart.specs.Chart.{chartOf}
 use Rattle.chart.specs.Bytes.{bytesOf}
-use Rattle.chart.proofs.Theorems.{chart-is-true, chart-shows}
+use Rattle.chart.proofs.Theorems.{chart-is-true, chart-shows, chart-rows-most, chart-no-empty-row}
 use Rattle.chart_reader.specs.Reader.{chartRead}
 use Rattle.chart_reader.proofs.Theorems.{accepts, writes, reads-back}
 use Rattle.draw.specs.Answer.{charted, drawn, chartedBoth, drawnWithBars}
@@ -51,6 +51,8 @@ our-chart s p v reads = record {
   drawing = ap charted reads;
   true = chart-is-true p v;
   shows = chart-shows p v;
+  rows = chart-rows-most p v;
+  no-empty-row = chart-no-empty-row p v;
   back = ap outcome (reads-back p v);
 }
 

@@ -19,19 +19,25 @@ use Rattle.umbrella.specs.Best.{best, umbrella, leftAt, rightAt, stemAt, over-n
 use Rattle.plan.specs.Answer.{answer, planned}
 use Rattle.chart.specs.Places.{cols, rows}
 use Rattle.polygon.specs.Edges.{edges, edgesAt, edgesPast}
-use Rattle.chart.specs.Chart.{barsOf, meets?, first, last, stroke, layout, chart, chartOf}
+use Rattle.chart.specs.Chart.{strokeEdge, barsOf, meets?, first, last, stroke, layout, chart, barRows, closedRow, closed, chartOf}
 use Rattle.chart.specs.Bytes.{barBytes, strokeBytes, bytesOf}
+use Rattle.chart.specs.Decode.{shaped, places, behind}
+use Rattle.chart_reader.specs.Areas.{common?, common-of, between, stands?, shares?, crosses?}
+use Rattle.chart_reader.specs.Formed.{formed?}
+use Rattle.chart_reader.specs.Rules.{partSides}
+use Rattle.chart_reader.specs.Reader.{bars?, free?, joins?, strokes?, passes?, gaps?, part?, readChart, chartRead}
 use Rattle.log_line.specs.Line.{digits, decimal, line, refusedLine}
 use Rattle.draw.specs.Answer as draw
 use Rattle.draw.specs.Printed.{printedOf, printed}
-use Rattle.promises.specs.Known.{sheet, barsIn, columnsIn, valuesIn, Holds, cases}
+use Rattle.promises.specs.Known.{sheet, barsIn, rowsIn, columnsIn, valuesIn, Holds, cases}
 
 pub known : All Holds cases
 unfolding sheet barsIn columnsIn valuesIn piece readSheet ask pairs angles carried angleOf allowed? in-range? three? recast? count? more pairBytes run16 mapByte normalSheet outcome ordered written fit Dec·and choose put keep
     numbers below all? diagonal? distinct? sorted? not? mem? same? none-cross? cross? sort insert place before? either? lower-first remove decLe ℕ-discrete decLt
     side? linked? joined? common enter flipped result up down both entering earAdded neighbours earRemoved away? rule onHeld edited planned answer draw.drawn draw.charted printed printedOf digits decimal line
     refusedLine chartOf chart layout treeOf grow far farther near? span chordsAt best umbrella leftAt rightAt stemAt over-node ud fold cols rows edges edgesAt
-    edgesPast barsOf meets? first last stroke barBytes strokeBytes bytesOf flatMap
+    edgesPast barsOf barRows closedRow closed meets? first last stroke barBytes strokeBytes bytesOf flatMap rowsIn
+    chartRead readChart formed? places behind shaped bars? free? joins? strokes? passes? gaps? part? partSides common? common-of between stands? shares? crosses? strokeEdge
 known =
     all-cons refl (all-cons refl (all-cons refl (all-cons refl (all-cons refl (all-cons refl (all-cons refl
     (all-cons refl (all-cons refl (all-cons refl (all-cons refl (all-cons refl (all-cons refl (all-cons refl
@@ -40,4 +46,6 @@ known =
     (all-cons refl (all-cons refl (all-cons refl (all-cons refl (all-cons refl (all-cons refl (all-cons refl
     (all-cons refl (all-cons refl (all-cons refl (all-cons refl (all-cons refl (all-cons refl (all-cons refl
     (all-cons refl (all-cons refl (all-cons refl (all-cons refl (all-cons refl (all-cons refl (all-cons refl
-    (all-cons refl (all-cons refl (all-cons refl (all-cons refl all-nil))))))))))))))))))))))))))))))))))))))))))))))))))))
+    (all-cons refl (all-cons refl (all-cons refl (all-cons refl (all-cons refl (all-cons refl (all-cons refl
+    (all-cons refl (all-cons refl (all-cons refl (all-cons refl (all-cons refl (all-cons refl (all-cons refl
+    (all-cons refl (all-cons refl (all-cons refl all-nil)))))))))))))))))))))))))))))))))))))))))))))))))))))))))))))))))

@@ -7,3 +7,4 @@ pub mod SameDrawing
 pub mod PartNumbers
 pub mod BendAngles
 pub mod DepthInOrder
+pub mod RowsWithoutBars

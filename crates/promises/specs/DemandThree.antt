@@ -17,11 +17,11 @@ use Rattle.umbrella.specs.Plan.{Plan, levels, umbrellas, stems}
 use Rattle.umbrella.specs.Best.{planOf}
 use Rattle.umbrella.specs.Drawn.{Each}
 use Rattle.plan.specs.Answer.{planned, countsOf}
-use Rattle.chart.specs.Chart.{Bar, upright, Chart, chartOf, True, Shows}
+use Rattle.chart.specs.Chart.{Bar, upright, Chart, NoEmptyRow, chartOf, True, Shows}
 use Rattle.chart.specs.Bytes.{bytesOf, Fits}
 use Rattle.draw.specs.Answer.{drawn, intoBoth, drawnWithBars}
 
--- the part that the plain part holds after the list, its tree, the plan drawn of it, and the chart of that plan
+-- the part that the plain part holds after the list, its tree, the plan drawn of it, and the chart of that plan, closed up
 abbrev pub partLeft : Polygon → List Call → Polygon
 partLeft p cs = left p (map lent cs)
 
@@ -62,8 +62,10 @@ pub record DemandThree (s : List ℕ) (p : Polygon) (cs : List Call) : Type 0 wh
   pub true : True (chartLeft p cs)
   pub shows : Shows (chartLeft p cs) (partLeft p cs)
   pub fits : Fits (chartLeft p cs)
-  -- "The chart has two rows a level and one more, and as many columns as the sum above gives;"
-  pub rows : chartLeft p cs .rows ≡ 2 * levels (planLeft p cs) + 1
+  -- "The chart has two rows a level and one more, and as many columns as the sum above gives;": request (v) makes the rows a ceiling, and there is a floor; "and a drawn chart never has an empty row."
+  pub rows : chartLeft p cs .rows ≤ 2 * levels (planLeft p cs) + 1
+  pub rows-least : levels (planLeft p cs) + 1 ≤ chartLeft p cs .rows
+  pub no-empty-row : NoEmptyRow (chartLeft p cs)
   pub columns : chartLeft p cs .columns + 2 ≡ partLeft p cs .n + umbrellas (planLeft p cs) + stems (planLeft p cs)
   -- "each column from 0 to columns - 1 is named by exactly one upright stroke."
   pub named : (j : ℕ) → j < chartLeft p cs .columns → (e : Edge) × Mem (upright e j) (chartLeft p cs .strokes) × ((f : Edge) → Mem (upright f j) (chartLeft p cs .strokes) → f ≡ e)

@@ -1,11 +1,11 @@
--- Demand 2: which sheets are accepted, and what can then still stop an operation; the chart drawn of a part is a true drawing of it and reads back as that part, without angles; and a chart handed in, ours or
+-- Demand 2: which sheets are accepted, and what can then still stop an operation; the chart drawn of a part is a true drawing of it without an empty row and reads back as that part, without angles; and a chart handed in, ours or
 -- another's, is accepted exactly if it is a true drawing of a part. One claim about any bytes, read as a sheet or as a chart.
 -- `Lists s p`: the sheet s lists the part p in the published form, in any order, either corner first, each diagonal with its angle if p has angles (crate sheet, specs/Listing.antt). `True` and `Shows` are document 01's sentences (crate chart,
 -- specs/Chart.antt). `Charts c p`: the bytes c are those of a true chart that shows the part p (crate chart_reader, specs/Charts.antt).
 use mathlib.Core.Path.{_≡_}
 use mathlib.Core.Logic.{_⊎_, _↔_}
 use mathlib.Core.List.{List}
-use Prim.Native.Nat.{ℕ, _<_}
+use Prim.Native.Nat.{ℕ, _+_, _*_, _≤_, _<_}
 use lib.ListN.{length}
 use Rattle.lists.specs.Lists.{Mem}
 use Rattle.polygon.specs.Polygon.{Polygon, bare, Valid}
@@ -13,9 +13,10 @@ use Rattle.codec.specs.Answer.{write, written, OnlyShort}
 use Rattle.sheet.specs.Sheet.{refused, held, readSheet, normalSheet, ordered}
 use Rattle.sheet.specs.Listing.{Lists}
 use Rattle.sheet.specs.Refusals.{sheetTests}
+use Rattle.umbrella.specs.Plan.{levels}
 use Rattle.umbrella.specs.Best.{planOf}
 use Rattle.plan.specs.Answer.{planned, countsOf}
-use Rattle.chart.specs.Chart.{Bar, chartOf, True, Shows}
+use Rattle.chart.specs.Chart.{Bar, NoEmptyRow, chartOf, True, Shows}
 use Rattle.chart.specs.Bytes.{bytesOf}
 use Rattle.chart_reader.specs.Reader.{readChart, chartRead}
 use Rattle.chart_reader.specs.Charts.{Charts}
@@ -50,6 +51,9 @@ pub record OurChart (s : List ℕ) (p : Polygon) : Type 0 where
   pub drawing : drawn s ≡ write (bytesOf (chartOf p))
   pub true : True (chartOf p)
   pub shows : Shows (chartOf p) p
+  -- "The two rows a level and one more .. become a ceiling, .., and a drawn chart never has an empty row." (request (v))
+  pub rows : chartOf p .rows ≤ 2 * levels (planOf p) + 1
+  pub no-empty-row : NoEmptyRow (chartOf p)
   -- "The chart doesn't depend on angles" (request (xi)): it reads back as the part without them
   pub back : chartRead (bytesOf (chartOf p)) ≡ write (normalSheet (bare p))
 
@@ -66,7 +70,7 @@ pub record DemandTwo (bs : List ℕ) : Type 0 where
   pub which-sheets : WhichSheets bs
   -- if they are, only a short output can still stop the operation on the sheet or the chart;
   pub only-room : (p : Polygon) → readSheet bs ≡ held p → OnlyRoom bs p
-  -- the chart drawn is a true drawing of the part and reads back as that part, without angles;
+  -- the chart drawn is a true drawing of the part, without an empty row, and reads back as that part, without angles;
   pub our-chart : (p : Polygon) → readSheet bs ≡ held p → OurChart bs p
   -- as a chart they are accepted exactly if they are a true drawing of a part, and read as that part.
   pub any-chart : AnyChart bs

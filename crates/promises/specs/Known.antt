@@ -1,4 +1,5 @@
--- The known parts of document 01 that are marked M, one part more, and the known sheets of requests (iv), (xi) and (xii), as one list of cases, each on a sheet's bytes. proofs/Known.antt proves them all.
+-- The known parts of document 01 that are marked M, with the closed rows of request (v), one part more, and the known sheets of requests (iv), (v), (xi) and (xii), as one list of cases, each on a sheet's bytes.
+-- proofs/Known.antt proves them all. (Document 01's own rows, before closing up, are in crate chart, proofs/Known.antt.)
 use mathlib.Core.Path.{_≡_}
 use mathlib.Core.List.{List, [], _∷_, _++_}
 use Prim.Native.Nat.{ℕ}
@@ -12,6 +13,7 @@ use Rattle.edit.specs.Calls.{edited}
 use Rattle.umbrella.specs.Values.{values}
 use Rattle.plan.specs.Answer.{planned}
 use Rattle.chart.specs.Chart.{Bar, barsOf, chartOf}
+use Rattle.chart_reader.specs.Reader.{chartRead}
 use Rattle.draw.specs.Answer.{drawn}
 use Rattle.draw.specs.Printed.{printed}
 
@@ -35,13 +37,17 @@ bentSquare high low = 11 ∷ 0 ∷ 4 ∷ 0 ∷ 2 ∷ 0 ∷ 0 ∷ high ∷ low �
 abbrev pub triangleLine : List ℕ
 triangleLine =
     112 ∷ 97 ∷ 114 ∷ 116 ∷ 32 ∷ 45 ∷ 32 ∷ 99 ∷ 111 ∷ 114 ∷ 110 ∷ 101 ∷ 114 ∷ 115 ∷ 32 ∷ 51 ∷ 32 ∷ 108 ∷ 101 ∷ 118 ∷ 101 ∷ 108 ∷ 115 ∷ 32 ∷ 49 ∷ 32 ∷
-    117 ∷ 109 ∷ 98 ∷ 114 ∷ 101 ∷ 108 ∷ 108 ∷ 97 ∷ 115 ∷ 32 ∷ 49 ∷ 32 ∷ 115 ∷ 116 ∷ 101 ∷ 109 ∷ 115 ∷ 32 ∷ 48 ∷ 32 ∷ 114 ∷ 111 ∷ 119 ∷ 115 ∷ 32 ∷ 51 ∷ 32 ∷
+    117 ∷ 109 ∷ 98 ∷ 114 ∷ 101 ∷ 108 ∷ 108 ∷ 97 ∷ 115 ∷ 32 ∷ 49 ∷ 32 ∷ 115 ∷ 116 ∷ 101 ∷ 109 ∷ 115 ∷ 32 ∷ 48 ∷ 32 ∷ 114 ∷ 111 ∷ 119 ∷ 115 ∷ 32 ∷ 50 ∷ 32 ∷
     99 ∷ 111 ∷ 108 ∷ 117 ∷ 109 ∷ 110 ∷ 115 ∷ 32 ∷ 50 ∷ 10 ∷ []
 
--- the bars and the columns of what a sheet holds
+-- the bars, the rows and the columns of what a sheet holds
 unfoldable pub barsIn : Reading → List Bar
 barsIn (refused k) = []
 barsIn (held p) = barsOf (chartOf p)
+
+unfoldable pub rowsIn : Reading → ℕ
+rowsIn (refused k) = 0
+rowsIn (held p) = chartOf p .rows
 
 unfoldable pub columnsIn : Reading → ℕ
 columnsIn (refused k) = 0
@@ -55,33 +61,50 @@ valuesIn (held p) a b = values (piece (p .ds) a b)
 abbrev pub bar : ℕ → ℕ → ℕ → Bar
 bar r l s = record { row = r; left = l; right = s }
 
--- a case: a sheet refused by a number; one with these levels, umbrellas and stems; with these chart bytes; with these bars; with so many columns; a sheet whose diagonal is turned; one that is edited; one with this line;
--- a sheet and an output, and the answer of setting in order; a sheet with these six values at the edge (a,b)
+-- a case: a sheet refused by a number; one with these levels, umbrellas and stems; with these chart bytes; with these bars; with so many rows; with so many columns; a sheet whose diagonal is turned; one that is edited; one with this line;
+-- a sheet and an output, and the answer of setting in order; a sheet with these six values at the edge (a,b); a chart that is read as a sheet
 pub data Case : Type 0 where
   refusedBy : List ℕ → ℕ → Case
   counted : List ℕ → ℕ → ℕ → ℕ → Case
   charted : List ℕ → List ℕ → Case
   barred : List ℕ → List Bar → Case
+  tall : List ℕ → ℕ → Case
   wide : List ℕ → ℕ → Case
   turned : List ℕ → ℕ → ℕ → List ℕ → Case
   changed : List ℕ → Edit → List ℕ → Case
   lined : List ℕ → List ℕ → Case
   inOrder : List ℕ → List ℕ → Answer → Case
   valued : List ℕ → ℕ → ℕ → List ℕ → Case
+  readAs : List ℕ → List ℕ → Case
 
 abbrev pub Holds : Case → Type 0
 Holds (refusedBy s k) = readSheet s ≡ refused k
 Holds (counted s l u t) = planned s ≡ record { number = 0; levels = l; umbrellas = u; stems = t }
 Holds (charted s bs) = drawn s ≡ write bs
 Holds (barred s bs) = barsIn (readSheet s) ≡ bs
+Holds (tall s k) = rowsIn (readSheet s) ≡ k
 Holds (wide s k) = columnsIn (readSheet s) ≡ k
 Holds (turned s a b t) = edited (flip a b) s ≡ write t
 Holds (changed s e t) = edited e s ≡ write t
 Holds (lined s bs) = printed s ≡ bs
 Holds (inOrder s out a) = written (ordered s) out ≡ a
 Holds (valued s a b xs) = valuesIn (readSheet s) a b ≡ xs
+Holds (readAs c s) = chartRead c ≡ write s
 
--- the part of the last two cases
+-- the triangle's chart with h rows and corner 1 on row r
+abbrev pub triangleChart : ℕ → ℕ → List ℕ
+triangleChart h r =
+    0 ∷ h ∷ 0 ∷ 2 ∷ 0 ∷ 3 ∷
+    0 ∷ 0 ∷ 0 ∷ 0 ∷ 0 ∷ 0 ∷ 0 ∷ r ∷ 0 ∷ 0 ∷ 0 ∷ 1 ∷ 0 ∷ 0 ∷ 0 ∷ 1 ∷ 0 ∷ 1 ∷
+    1 ∷ 0 ∷ 0 ∷ 0 ∷ 1 ∷ 0 ∷ 0 ∷ 0 ∷ 0 ∷ 0 ∷ 0 ∷ 2 ∷ 1 ∷ 0 ∷ 1 ∷ 0 ∷ 2 ∷ 0 ∷ 1 ∷ []
+
+-- a part with one hung piece, one with two beside each other, of which the first alone has a stem, and one with several
+abbrev pub oneHung : List ℕ
+oneHung = sheet 7 ((0 — 5) ∷ (1 — 5) ∷ (1 — 3) ∷ (3 — 5) ∷ [])
+
+abbrev pub sideBySide : List ℕ
+sideBySide = sheet 12 ((0 — 6) ∷ (0 — 10) ∷ (1 — 3) ∷ (1 — 5) ∷ (1 — 6) ∷ (3 — 5) ∷ (6 — 8) ∷ (6 — 10) ∷ (8 — 10) ∷ [])
+
 abbrev pub manyHung : List ℕ
 manyHung = sheet 11 ((0 — 3) ∷ (0 — 9) ∷ (1 — 3) ∷ (3 — 6) ∷ (3 — 9) ∷ (4 — 6) ∷ (6 — 8) ∷ (6 — 9) ∷ [])
 
@@ -89,17 +112,14 @@ abbrev pub cases : List Case
 cases =
     -- "n = 3: 1 level." "levels 1 umbrellas 1 stems 0"
     counted (sheet 3 []) 1 1 0
-    -- "Chart in hexadecimal: 0003 0002 0003; 0000 0000 0000, 0002 0000 0001, 0000 0001 0001; 01 0000 0001 0000, 00 0000 0002, 01 0001 0002 0001."
-    ∷ charted (sheet 3 [])
-    (0 ∷ 3 ∷ 0 ∷ 2 ∷ 0 ∷ 3 ∷
-    0 ∷ 0 ∷ 0 ∷ 0 ∷ 0 ∷ 0 ∷ 0 ∷ 2 ∷ 0 ∷ 0 ∷ 0 ∷ 1 ∷ 0 ∷ 0 ∷ 0 ∷ 1 ∷ 0 ∷ 1 ∷
-    1 ∷ 0 ∷ 0 ∷ 0 ∷ 1 ∷ 0 ∷ 0 ∷ 0 ∷ 0 ∷ 0 ∷ 0 ∷ 2 ∷ 1 ∷ 0 ∷ 1 ∷ 0 ∷ 2 ∷ 0 ∷ 1 ∷ [])
-    -- "Line for sheet 01 00 03: `part - corners 3 levels 1 umbrellas 1 stems 0 rows 3 columns 2`"
+    -- "Chart in hexadecimal: 0003 0002 0003; 0000 0000 0000, 0002 0000 0001, 0000 0001 0001; 01 0000 0001 0000, 00 0000 0002, 01 0001 0002 0001." Closed up: 2 rows, and corner 1 on row 1
+    ∷ charted (sheet 3 []) (triangleChart 2 1)
+    -- "Line for sheet 01 00 03: `part - corners 3 levels 1 umbrellas 1 stems 0 rows 3 columns 2`". Closed up: rows 2
     ∷ lined (sheet 3 []) triangleLine
     -- "A refusal prints `refused` and its number, as `refused 3`"
     ∷ lined (sheet 2 []) (114 ∷ 101 ∷ 102 ∷ 117 ∷ 115 ∷ 101 ∷ 100 ∷ 32 ∷ 51 ∷ 10 ∷ [])
-    -- "n = 4, (0,2): bars, row and columns: 0: 0, 0-1; 1: 2, 0-0; 2: 2, 1-2; 3: 0, 2-2."
-    ∷ barred (sheet 4 ((0 — 2) ∷ [])) (bar 0 0 1 ∷ bar 2 0 0 ∷ bar 2 1 2 ∷ bar 0 2 2 ∷ [])
+    -- "n = 4, (0,2): bars, row and columns: 0: 0, 0-1; 1: 2, 0-0; 2: 2, 1-2; 3: 0, 2-2." Closed up: row 1 for row 2
+    ∷ barred (sheet 4 ((0 — 2) ∷ [])) (bar 0 0 1 ∷ bar 1 0 0 ∷ bar 1 1 2 ∷ bar 0 2 2 ∷ [])
     -- "n = 5, (0,3) (1,3): stem; 0: 0, 0-3; 1: 1, 1-2; 2: 1, 0-0; 3: 2, 0-4; 4: 0, 4-4."
     ∷ counted (sheet 5 ((0 — 3) ∷ (1 — 3) ∷ [])) 1 1 1
     ∷ barred (sheet 5 ((0 — 3) ∷ (1 — 3) ∷ [])) (bar 0 0 3 ∷ bar 1 1 2 ∷ bar 1 0 0 ∷ bar 2 0 4 ∷ bar 0 4 4 ∷ [])
@@ -109,8 +129,8 @@ cases =
     ∷ counted (sheet 6 ((0 — 2) ∷ (2 — 4) ∷ (0 — 4) ∷ [])) 1 1 1
     ∷ wide (sheet 6 ((0 — 2) ∷ (2 — 4) ∷ (0 — 4) ∷ [])) 6
     -- "n = 7, (0,5) (1,5) (1,3) (3,5): 2 levels, 2 umbrellas, no stem, 7 columns."
-    ∷ counted (sheet 7 ((0 — 5) ∷ (1 — 5) ∷ (1 — 3) ∷ (3 — 5) ∷ [])) 2 2 0
-    ∷ wide (sheet 7 ((0 — 5) ∷ (1 — 5) ∷ (1 — 3) ∷ (3 — 5) ∷ [])) 7
+    ∷ counted oneHung 2 2 0
+    ∷ wide oneHung 7
     -- "n = 5, (0,2) (1,3): 7. (0,2) (2,0): 6. (0,4) (1,3): 5."
     ∷ refusedBy (sheet 5 ((0 — 2) ∷ (1 — 3) ∷ [])) 7
     ∷ refusedBy (sheet 5 ((0 — 2) ∷ (2 — 0) ∷ [])) 6
@@ -159,7 +179,7 @@ cases =
     ∷ changed (sheet 3 []) (addEar 0) (sheet 4 ((0 — 2) ∷ []))
     -- "The chart doesn't depend on angles."
     ∷ counted (bentSquare 1 194) 1 1 0
-    ∷ barred (bentSquare 1 194) (bar 0 0 1 ∷ bar 2 0 0 ∷ bar 2 1 2 ∷ bar 0 2 2 ∷ [])
+    ∷ barred (bentSquare 1 194) (bar 0 0 1 ∷ bar 1 0 0 ∷ bar 1 1 2 ∷ bar 0 2 2 ∷ [])
     -- Request (iv), "handle, fans, partial umbrellas, then the whole": the triangle, "(0 if none)", and one of its sides
     ∷ valued (sheet 3 []) 0 2 (0 ∷ 0 ∷ 0 ∷ 0 ∷ 0 ∷ 1 ∷ [])
     ∷ valued (sheet 3 []) 1 2 (0 ∷ 0 ∷ 0 ∷ 0 ∷ 0 ∷ 0 ∷ [])
@@ -167,7 +187,24 @@ cases =
     ∷ valued (sheet 6 ((0 — 2) ∷ (2 — 4) ∷ (0 — 4) ∷ [])) 0 5 (1 ∷ 1 ∷ 0 ∷ 0 ∷ 0 ∷ 1 ∷ [])
     ∷ valued (sheet 6 ((0 — 2) ∷ (2 — 4) ∷ (0 — 4) ∷ [])) 0 4 (1 ∷ 0 ∷ 0 ∷ 0 ∷ 0 ∷ 1 ∷ [])
     -- n = 7, (0,5) (1,5) (1,3) (3,5): the root, and (3,5), which is on no rim
-    ∷ valued (sheet 7 ((0 — 5) ∷ (1 — 5) ∷ (1 — 3) ∷ (3 — 5) ∷ [])) 0 6 (1 ∷ 1 ∷ 0 ∷ 1 ∷ 0 ∷ 2 ∷ [])
-    ∷ valued (sheet 7 ((0 — 5) ∷ (1 — 5) ∷ (1 — 3) ∷ (3 — 5) ∷ [])) 0 5 (1 ∷ 0 ∷ 1 ∷ 0 ∷ 0 ∷ 1 ∷ [])
-    ∷ valued (sheet 7 ((0 — 5) ∷ (1 — 5) ∷ (1 — 3) ∷ (3 — 5) ∷ [])) 3 5 (0 ∷ 0 ∷ 0 ∷ 0 ∷ 0 ∷ 1 ∷ [])
+    ∷ valued oneHung 0 6 (1 ∷ 1 ∷ 0 ∷ 1 ∷ 0 ∷ 2 ∷ [])
+    ∷ valued oneHung 0 5 (1 ∷ 0 ∷ 1 ∷ 0 ∷ 0 ∷ 1 ∷ [])
+    ∷ valued oneHung 3 5 (0 ∷ 0 ∷ 0 ∷ 0 ∷ 0 ∷ 1 ∷ [])
+    -- Request (v), "The triangle now has 2 rows, and so has every part whose umbrella has no stem and nothing hung.": the square, and a fan of six corners
+    ∷ tall (sheet 3 []) 2
+    ∷ tall (sheet 4 ((0 — 2) ∷ [])) 2
+    ∷ tall (sheet 6 ((0 — 2) ∷ (0 — 3) ∷ (0 — 4) ∷ [])) 2
+    -- "become a ceiling": it is reached with a stem, by one level and by two; with one hung piece and no stem there is a row a level and one more, rows 0, 2 and 4 of document 01's
+    ∷ tall (sheet 6 ((0 — 2) ∷ (2 — 4) ∷ (0 — 4) ∷ [])) 3
+    ∷ tall manyHung 5
+    ∷ tall oneHung 3
+    ∷ barred oneHung (bar 0 0 5 ∷ bar 2 0 2 ∷ bar 1 1 1 ∷ bar 1 2 3 ∷ bar 1 4 4 ∷ bar 2 3 6 ∷ bar 0 6 6 ∷ [])
+    -- of the whole chart, not of a piece by itself: row 3 of document 01's carries bars of the first hung piece alone and stays, as row 2, beside the second; row 1 goes
+    ∷ tall sideBySide 4
+    ∷ barred sideBySide (bar 0 0 12 ∷ bar 3 0 5 ∷ bar 2 4 4 ∷ bar 2 2 3 ∷ bar 2 1 1 ∷ bar 1 1 6 ∷ bar 3 6 9 ∷ bar 1 8 8 ∷ bar 1 9 10 ∷ bar 1 11 11 ∷ bar 3 10 13 ∷ bar 0 13 13 ∷ [])
+    -- "Charts handed in may still have them.": the triangle's chart by document 01, with an empty row between, with two, with one below, and as it is drawn now
+    ∷ readAs (triangleChart 3 2) (sheet 3 [])
+    ∷ readAs (triangleChart 4 3) (sheet 3 [])
+    ∷ readAs (triangleChart 3 1) (sheet 3 [])
+    ∷ readAs (triangleChart 2 1) (sheet 3 [])
     ∷ []

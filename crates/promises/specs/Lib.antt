@@ -1,4 +1,4 @@
--- Read beside document 01, and beside requests (iv), (xi) and (xii).
+-- Read beside document 01, and beside requests (iv), (v), (xi) and (xii).
 pub mod DemandOne
 pub mod DemandTwo
 pub mod DemandThree
@@ -6,4 +6,5 @@ pub mod SameDrawing
 pub mod PartNumbers
 pub mod BendAngles
 pub mod DepthInOrder
+pub mod RowsWithoutBars
 pub mod Known

@@ -28,7 +28,7 @@ returns c =
     let at-size = c .before in
     let at-spans = at-size .before .before .before .before .before in
     let start = at-spans .before .before .before .before .before .before .before .before in
-    λ D rs us es L. chart-short (start .args .n) (start .args .height) (start .args .tree .now) (start .args .columns .now) (start .args .rows .now) (start .pre .0) (start .pre .1 .0) (start .pre .1 .1)
+    λ rs us es L. chart-short (start .args .n) (start .args .height) (start .args .tree .now) (start .args .columns .now) (start .args .rows .now) (start .pre .0) (start .pre .1 .0) (start .pre .1 .1)
     (at-spans .spans .last .1 .1 .1 .1 .1 .0) (start .args .out .now) (at-spans .spans .ensures .1) (at-size .strokes-size .result) (at-size .strokes-size .ensures .0 (start .args .tree .now)) L (c .if1 .taken)
 
 put-strokes-requires : tie.Need-put-strokes-requires
@@ -58,7 +58,7 @@ returns-2 c =
     let at-size = at-if1 .before in
     let at-spans = at-size .before .before .before .before .before in
     let start = at-spans .before .before .before .before .before .before .before .before in
-    λ D rs us es L. chart-written (start .args .n) (start .args .height) (start .args .tree .now) (start .args .columns .now) (start .args .rows .now) (start .pre .0) (start .pre .1 .0) (start .pre .1 .1)
+    λ rs us es L. chart-written (start .args .n) (start .args .height) (start .args .tree .now) (start .args .columns .now) (start .args .rows .now) (start .pre .0) (start .pre .1 .0) (start .pre .1 .1)
     (at-spans .spans .last .1 .1 .1 .1 .1 .0) (start .args .out .now) (at-spans .spans .ensures .1) (at-size .strokes-size .result) (at-size .strokes-size .ensures .0 (start .args .tree .now)) L
     (at-spans .spans .last .1 .1 .1 .0) (at-spans .spans .last .1 .1 .1 .1 .0) _ (at-spans .spans .ensures .0) (at-if1 .if1 .left)
     (c .before .before .put-strokes .ensures ∙ rw (at-put-bars .put-bars .ensures, at-put163 .put163 .ensures, at-put162 .put162 .ensures, at-put16 .put16 .ensures))
