@@ -1,6 +1,6 @@
 //! Drawing a part: the places of bars and uprights, sentence by sentence.
 //! Follows "The chart's places" of document 01, and "Draw" under "Operations
-//! and their refusals".
+//! and their refusals". By request (v) the chart drawn is the placed one, closed up.
 
 use crate::answer::{Refusal, Written};
 use crate::chart::{Bar, Chart, Stroke};
@@ -193,8 +193,9 @@ impl Drawing {
     }
 }
 
-/// The chart of the plan, which is one of the whole part.
-pub fn chart(part: &Part, plan: &Plan) -> Chart {
+/// The chart of the plan, which is one of the whole part, by document 01's places:
+/// rows 0 to 2D, those without a bar among them.
+pub fn placed(part: &Part, plan: &Plan) -> Chart {
     let neighbours = Neighbours::of(part);
     let mut drawing = Drawing {
         bars: vec![None; usize::from(part.n)],
@@ -223,6 +224,16 @@ pub fn chart(part: &Part, plan: &Plan) -> Chart {
         bars: drawing.bars.into_iter().flatten().collect(),
         strokes,
     }
+}
+
+/// The chart of the plan drawn, by document 01's places.
+pub fn placed_of(part: &Part) -> Chart {
+    placed(part, &Pieces::of(part).plan())
+}
+
+/// The chart of the plan: after everything is placed it is closed up.
+pub fn chart(part: &Part, plan: &Plan) -> Chart {
+    placed(part, plan).closed()
 }
 
 /// The chart of the part, by the plan drawn.

@@ -2,7 +2,8 @@
 //! Follows "Read a chart" under "Operations and their refusals" of document 01,
 //! with the rules of "A chart is true". Each rule is tested on the whole chart
 //! before the next; sorted bars and a sweep over the columns make it quick. A part
-//! read from a chart has no angles (request (xi)).
+//! read from a chart has no angles (request (xi)). "Empty rows and columns are
+//! allowed", and request (v) leaves that: "Charts handed in may still have them."
 
 use crate::answer::{Refusal, Written};
 use crate::chart::{Bar, Chart, Stroke};
@@ -174,7 +175,7 @@ pub fn read_chart(bytes: &[u8], out: &mut [u8]) -> Written {
 mod tests {
     use super::*;
     use crate::changes::*;
-    use crate::draw::chart_of;
+    use crate::draw::{chart_of, placed_of};
     use crate::random::Random;
     use crate::shapes::{all_parts, part, SHAPES};
     use crate::truth::part_shown;
@@ -184,8 +185,9 @@ mod tests {
         let mut random = Random::new(5);
         for part in (3..=8).flat_map(all_parts) {
             let chart = chart_of(&part);
+            let placed = placed_of(&part);
             let stretched = stretched(&mirrored(&chart), 3, &mut random);
-            for chart in [&chart, &mirrored(&chart), &upside_down(&stretched)] {
+            for chart in [&chart, &placed, &mirrored(&chart), &upside_down(&stretched)] {
                 assert_eq!(read(&chart.bytes()), Ok(part.clone()));
             }
             for turn in 0..usize::from(part.n) {

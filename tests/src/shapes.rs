@@ -49,6 +49,21 @@ pub const HUNG: [Pair; 8] = [
     (6, 9),
 ];
 
+/// The diagonals of a part of 12 corners with two pieces hung beside each other, of
+/// which the first alone has a stem: 2 levels, 3 umbrellas, 1 stem. By document 01's
+/// places no bar lies on row 1, and on row 3 bars of the first piece only.
+pub const SIDE_BY_SIDE: [Pair; 9] = [
+    (0, 6),
+    (0, 10),
+    (1, 3),
+    (1, 5),
+    (1, 6),
+    (3, 5),
+    (6, 8),
+    (6, 10),
+    (8, 10),
+];
+
 /// A part of the shape with `n` corners, half of them turned round the outline.
 pub fn part(shape: Shape, n: Corner, random: &mut Random) -> Part {
     let mut pairs = Vec::new();
@@ -97,6 +112,48 @@ fn apex(shape: Shape, u: Corner, v: Corner, step: usize, random: &mut Random) ->
         Shape::Deep if step % 3 == 2 || span < 4 => u + (v - u) / 2,
         Shape::Deep => ends(step.is_multiple_of(3)),
     }
+}
+
+/// The part of 2^(levels+1) - 1 corners that has the levels and no stem: a triangle,
+/// or two at one corner and behind them two such parts, of one level less, side by
+/// side.
+pub fn tight(levels: u16) -> Part {
+    let mut pairs = Vec::new();
+    let root = tight_piece(0, levels, true, &mut pairs);
+    pairs.retain(|&pair| pair != (0, root));
+    Part::new(root + 1, &pairs)
+}
+
+/// Adds the edges of the piece (u,v) that `tight` speaks of, its triangles at u or
+/// else at v, and gives v.
+fn tight_piece(u: Corner, levels: u16, low: bool, pairs: &mut Vec<Pair>) -> Corner {
+    let mut v = u + 2;
+    if levels > 1 {
+        v = tight_pieces(u + 1, levels - 1, pairs) + 1;
+        pairs.push(if low { (u, v - 1) } else { (u + 1, v) });
+    }
+    pairs.push((u, v));
+    v
+}
+
+/// Adds the edges of the piece (u,v) with two tight ones side by side, which has no
+/// more levels than each of them, and gives v.
+fn tight_pieces(u: Corner, levels: u16, pairs: &mut Vec<Pair>) -> Corner {
+    let between = tight_piece(u, levels, true, pairs);
+    let v = tight_piece(between, levels, false, pairs);
+    pairs.push((u, v));
+    v
+}
+
+/// A part of 2 or more levels whose stem passes between two pieces of one level less,
+/// hung on row 1 and on row 2D: bars of the one lie on every odd row, by document
+/// 01's places, and of the other on every even row but 0.
+pub fn tall(levels: u16) -> Part {
+    let mut pairs = Vec::new();
+    let end = tight_pieces(1, levels - 1, &mut pairs);
+    let last = tight_pieces(end + 1, levels - 1, &mut pairs);
+    pairs.extend([(1, end + 1), (1, last), (0, last)]);
+    Part::new(last + 2, &pairs)
 }
 
 /// The part with every corner's number raised by `turn`, round the outline.
@@ -149,6 +206,17 @@ mod tests {
             parts.dedup();
             assert_eq!(parts.len(), count);
         }
+    }
+
+    #[test]
+    fn tight_and_tall_parts_are_valid() {
+        for levels in 1..=9 {
+            let tight = tight(levels);
+            assert!(tight.is_valid() && tight.n == (2 << levels) - 1);
+        }
+        assert!((2..=8).map(tall).all(|part| part.is_valid()));
+        assert!(Part::new(11, &HUNG).is_valid());
+        assert!(Part::new(12, &SIDE_BY_SIDE).is_valid());
     }
 
     #[test]

@@ -56,10 +56,14 @@ fn gap(chart: &Chart, stroke: &Stroke) -> (u16, u16) {
 #[cfg(test)]
 mod tests {
     use super::*;
+    use crate::draw::chart_of;
+    use crate::part::Part;
 
+    /// Document 01's chart of the triangle, with the empty row 1: handed in, it tells
+    /// its own rows. The triangle is drawn with 2.
     #[test]
     fn the_triangle() {
-        let bytes = [
+        let placed = [
             0, 3, 0, 2, 0, 3, 0, 0, 0, 0, 0, 0, 0, 2, 0, 0, 0, 1, 0, 0, 0, 1, 0, 1, 1, 0, 0, 0, 1,
             0, 0, 0, 0, 0, 0, 2, 1, 0, 1, 0, 2, 0, 1,
         ];
@@ -70,7 +74,9 @@ mod tests {
             line 0 corners 0 1 side\n\
             level 0 to 1 corners 0 2 side\n\
             line 1 corners 1 2 side\n";
-        assert_eq!(text(&bytes), words);
-        assert_eq!(text(&bytes[1..]), "refused 14\n");
+        assert_eq!(text(&placed), words);
+        assert_eq!(text(&placed[1..]), "refused 14\n");
+        let closed = words.replace("rows 3", "rows 2").replace("row 2", "row 1");
+        assert_eq!(text(&chart_of(&Part::new(3, &[])).bytes()), closed);
     }
 }

@@ -142,26 +142,28 @@ pub fn fills_columns(chart: &Chart) -> bool {
 #[cfg(test)]
 mod tests {
     use super::*;
-    use crate::draw::{chart, chart_of};
+    use crate::draw::{chart_of, placed, placed_of};
     use crate::plan::Pieces;
     use crate::random::Random;
     use crate::search::plans;
-    use crate::shapes::{all_parts, part, HUNG, SHAPES};
+    use crate::shapes::{all_parts, part, HUNG, SHAPES, SIDE_BY_SIDE};
 
     /// The bars of the chart, each as row, left and right column.
-    fn bars(n: u16, pairs: &[Pair]) -> Vec<(u16, u16, u16)> {
-        let chart = chart_of(&Part::new(n, pairs));
+    fn bars(chart: &Chart) -> Vec<(u16, u16, u16)> {
         let bars = chart.bars.iter();
         bars.map(|bar| (bar.row, bar.left, bar.right)).collect()
     }
 
+    /// The triangle's chart as document 01 has it, with the empty row 1.
+    const TRIANGLE: [u8; 43] = [
+        0, 3, 0, 2, 0, 3, 0, 0, 0, 0, 0, 0, 0, 2, 0, 0, 0, 1, 0, 0, 0, 1, 0, 1, 1, 0, 0, 0, 1, 0,
+        0, 0, 0, 0, 0, 2, 1, 0, 1, 0, 2, 0, 1,
+    ];
+
     #[test]
-    fn known_parts() {
-        let triangle = [
-            0, 3, 0, 2, 0, 3, 0, 0, 0, 0, 0, 0, 0, 2, 0, 0, 0, 1, 0, 0, 0, 1, 0, 1, 1, 0, 0, 0, 1,
-            0, 0, 0, 0, 0, 0, 2, 1, 0, 1, 0, 2, 0, 1,
-        ];
-        assert_eq!(chart_of(&Part::new(3, &[])).bytes(), triangle);
+    fn known_parts_by_document_01s_places() {
+        let bars = |n, pairs: &[Pair]| bars(&placed_of(&Part::new(n, pairs)));
+        assert_eq!(placed_of(&Part::new(3, &[])).bytes(), TRIANGLE);
         assert_eq!(
             bars(4, &[(0, 2)]),
             [(0, 0, 1), (2, 0, 0), (2, 1, 2), (0, 2, 2)]
@@ -190,10 +192,70 @@ mod tests {
                 (0, 13, 13)
             ]
         );
-        let six = chart_of(&Part::new(6, &[(0, 2), (2, 4), (0, 4)]));
+        let six = placed_of(&Part::new(6, &[(0, 2), (2, 4), (0, 4)]));
         assert_eq!((six.rows, six.columns), (3, 6));
-        let seven = chart_of(&Part::new(7, &[(0, 5), (1, 5), (1, 3), (3, 5)]));
+        let seven = placed_of(&Part::new(7, &[(0, 5), (1, 5), (1, 3), (3, 5)]));
         assert_eq!((seven.rows, seven.columns), (5, 7));
+    }
+
+    /// Request (v): "the known parts' rows .. follow".
+    #[test]
+    fn known_parts_as_drawn() {
+        let chart = |n, pairs: &[Pair]| chart_of(&Part::new(n, pairs));
+        let bars = |n, pairs: &[Pair]| bars(&chart(n, pairs));
+        let mut triangle = TRIANGLE;
+        (triangle[1], triangle[13]) = (2, 1);
+        assert_eq!(chart(3, &[]).bytes(), triangle);
+        // no stem and nothing hung: rows 0 and 2 are left
+        assert_eq!(chart(4, &[(0, 2)]).rows, 2);
+        assert_eq!(
+            bars(4, &[(0, 2)]),
+            [(0, 0, 1), (1, 0, 0), (1, 1, 2), (0, 2, 2)]
+        );
+        // bars on every row: a stem, and pieces hung on row 1 and on row 2D
+        let full: [(Corner, &[Pair]); 4] = [
+            (5, &[(0, 3), (1, 3)]),
+            (5, &[(1, 4), (1, 3)]),
+            (6, &[(0, 2), (2, 4), (0, 4)]),
+            (11, &HUNG),
+        ];
+        for (n, pairs) in full {
+            assert_eq!(chart(n, pairs), placed_of(&Part::new(n, pairs)));
+        }
+        // a piece hung on row 4, and no stem: rows 0, 2 and 4 are left
+        let seven = [(0, 5), (1, 5), (1, 3), (3, 5)];
+        assert_eq!(chart(7, &seven).rows, 3);
+        assert_eq!(
+            bars(7, &seven),
+            [
+                (0, 0, 5),
+                (2, 0, 2),
+                (1, 1, 1),
+                (1, 2, 3),
+                (1, 4, 4),
+                (2, 3, 6),
+                (0, 6, 6)
+            ]
+        );
+        // row 1 goes; row 3 stays, as row 2, beside the piece that has no bar on it
+        assert_eq!(chart(12, &SIDE_BY_SIDE).rows, 4);
+        assert_eq!(
+            bars(12, &SIDE_BY_SIDE),
+            [
+                (0, 0, 12),
+                (3, 0, 5),
+                (2, 4, 4),
+                (2, 2, 3),
+                (2, 1, 1),
+                (1, 1, 6),
+                (3, 6, 9),
+                (1, 8, 8),
+                (1, 9, 10),
+                (1, 11, 11),
+                (3, 10, 13),
+                (0, 13, 13)
+            ]
+        );
     }
 
     #[test]
@@ -205,16 +267,19 @@ mod tests {
             parts.push(part(SHAPES[round % SHAPES.len()], n as u16, &mut random));
         }
         for part in parts {
-            let chart = chart_of(&part);
-            assert!(is_true(&chart) && fills_columns(&chart), "{part:?}");
-            let touching = |stroke: &Stroke| {
-                let bar = |corner| chart.bars[usize::from(corner)];
-                stroke.column.is_some() || gap(bar(stroke.a), bar(stroke.b)).1.is_empty()
-            };
-            assert!(chart.strokes.iter().all(touching));
             let counts = Pieces::of(&part).counts();
-            assert_eq!(chart.rows, 2 * counts.levels + 1);
-            assert_eq!(chart.columns, part.n - 2 + counts.umbrellas + counts.stems);
+            let (placed, drawn) = (placed_of(&part), chart_of(&part));
+            assert_eq!(placed.rows, 2 * counts.levels + 1);
+            assert!(drawn.rows <= 2 * counts.levels + 1 && !drawn.has_empty_row());
+            for chart in [placed, drawn] {
+                assert!(is_true(&chart) && fills_columns(&chart), "{part:?}");
+                let touching = |stroke: &Stroke| {
+                    let (one, other) = bars_of(&chart, stroke);
+                    stroke.column.is_some() || gap(one, other).1.is_empty()
+                };
+                assert!(chart.strokes.iter().all(touching));
+                assert_eq!(chart.columns, part.n - 2 + counts.umbrellas + counts.stems);
+            }
         }
     }
 
@@ -222,8 +287,10 @@ mod tests {
     fn the_chart_of_any_plan_is_true() {
         for part in (3..=8).flat_map(all_parts) {
             for plan in plans(&part, (0, part.n - 1)) {
-                let chart = chart(&part, &plan);
-                assert!(is_true(&chart) && fills_columns(&chart), "{plan:?}");
+                let placed = placed(&part, &plan);
+                for chart in [placed.closed(), placed] {
+                    assert!(is_true(&chart) && fills_columns(&chart), "{plan:?}");
+                }
             }
         }
     }
