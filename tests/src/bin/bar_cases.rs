@@ -11,7 +11,7 @@ use bend_tests::draw::{chart_of, draw_with_bars};
 use bend_tests::fields::Fields;
 use bend_tests::part::{Corner, Part};
 use bend_tests::random::Random;
-use bend_tests::shapes::{all_parts, part, Shape, SHAPES};
+use bend_tests::shapes::{all_parts, part, tall, tight, Shape, SHAPES, SIDE_BY_SIDE};
 use bend_tests::sheet::{read, Skipped};
 use std::{env, fs};
 
@@ -113,39 +113,52 @@ fn sheet(part: &Part, skipped: Option<Skipped>, angled: bool) -> Vec<u8> {
     with.bytes()
 }
 
-/// All parts of up to 6 corners, and one of each shape.
+/// All parts of up to 6 corners.
 fn small() -> Cases {
     let mut cases = Cases::default();
-    let mut random = Random::new(301);
     (3..=6)
         .flat_map(all_parts)
         .for_each(|part| cases.add_part(&part));
+    cases
+}
+
+/// A part of each shape, and parts of which all, some and none of the rows that may be
+/// empty are.
+fn shapes() -> Cases {
+    let mut cases = Cases::default();
+    let mut random = Random::new(301);
     for shape in SHAPES {
         let n = random.between(7, 40) as Corner;
         cases.add_part(&part(shape, n, &mut random));
     }
+    for part in [tight(3), Part::new(12, &SIDE_BY_SIDE), tall(2)] {
+        cases.add_part(&part);
+    }
     cases
 }
 
-/// A part of 1,024 corners, whose sheet has bit 2 and angles: the longest there is.
+/// A part of 1,024 corners, whose sheet has bit 2 and angles: the longest there is. And
+/// one of 1,023 in 10 rows, where document 01 places 19.
 fn large() -> Cases {
     let mut cases = Cases::default();
-    let part = part(Shape::Mixed, 1024, &mut Random::new(302));
-    let length = chart_of(&part).length();
-    cases.add(&sheet(&part, Some(SKIPPED), true), length, 1024);
+    for part in [part(Shape::Mixed, 1024, &mut Random::new(302)), tight(9)] {
+        let (length, n) = (chart_of(&part).length(), usize::from(part.n));
+        cases.add(&sheet(&part, Some(SKIPPED), true), length, n);
+    }
     cases
 }
 
 fn main() {
     let words: Vec<String> = env::args().skip(1).collect();
     let [which, calls, answers] = words.as_slice() else {
-        panic!("usage: bar_cases small|large CALLS ANSWERS");
+        panic!("usage: bar_cases small|shapes|large CALLS ANSWERS");
     };
     // each few enough for the interpreter's ten million steps
     let cases = match which.as_str() {
         "small" => small(),
+        "shapes" => shapes(),
         "large" => large(),
-        _ => panic!("neither small nor large: {which}"),
+        _ => panic!("neither small nor shapes nor large: {which}"),
     };
     fs::write(calls, cases.calls).expect("the file of the calls");
     fs::write(answers, cases.answers).expect("the file of the answers");

@@ -1,12 +1,16 @@
-//! Writes 200 sheets, one to a file, into the folder that the argument names:
-//! parts of 3 to 1,024 corners in eight shapes, their pairs in any order, with
-//! and without bit 2, with and without angles, and some with a byte replaced. Every
-//! run writes the same sheets.
+//! Writes 200 sheets, NAME.sheet, into the folder that the argument names: parts of
+//! 3 to 1,024 corners in eight shapes, their pairs in any order, with and without
+//! bit 2, with and without angles, and some with a byte replaced. Beside each lie the
+//! line and, unless it is refused, the chart that are due, NAME.line and NAME.chart.
+//! Every run writes the same sheets.
 
+use bend_tests::draw::chart_of;
 use bend_tests::fields::Fields;
+use bend_tests::line::line;
 use bend_tests::part::{Angle, Corner};
 use bend_tests::random::Random;
 use bend_tests::shapes::{part, SHAPES};
+use bend_tests::sheet;
 use std::path::Path;
 
 /// The sizes of each shape's parts; the last of them gets a byte replaced.
@@ -28,13 +32,17 @@ fn main() -> std::io::Result<()> {
                 let angle = |_| random.between(0, 3600) as Angle - 1800;
                 fields.angles = Some(fields.pairs.iter().map(angle).collect());
             }
-            let mut sheet = fields.bytes();
+            let mut bytes = fields.bytes();
             if place >= SIZES.len() - DAMAGED {
-                let at = random.below(sheet.len());
-                sheet[at] = random.byte();
+                let at = random.below(bytes.len());
+                bytes[at] = random.byte();
             }
-            let name = format!("{shape:?}_{place:02}_{n}.sheet");
-            std::fs::write(Path::new(&folder).join(name), sheet)?;
+            let file = Path::new(&folder).join(format!("{shape:?}_{place:02}_{n}"));
+            std::fs::write(file.with_extension("line"), line(&bytes) + "\n")?;
+            if let Ok(part) = sheet::read(&bytes) {
+                std::fs::write(file.with_extension("chart"), chart_of(&part).bytes())?;
+            }
+            std::fs::write(file.with_extension("sheet"), bytes)?;
         }
     }
     Ok(())

@@ -1,10 +1,10 @@
 //! Writes charts and their texts, NAME.chart and NAME.text, into the folder that
-//! the argument names: parts of 3 to 1,024 corners as drawn, mirrored, upside
-//! down, stretched, cut back and renumbered, and some with a byte replaced. Every
-//! run writes the same charts.
+//! the argument names: parts of 3 to 1,024 corners as drawn, as placed with their
+//! empty rows, mirrored, upside down, stretched, cut back and renumbered, and some
+//! with a byte replaced. Every run writes the same charts.
 
 use bend_tests::changes::{cut_back, mirrored, rotated, stretched, upside_down};
-use bend_tests::draw::chart_of;
+use bend_tests::draw::{chart_of, placed_of};
 use bend_tests::part::Corner;
 use bend_tests::random::Random;
 use bend_tests::shapes::{part, SHAPES};
@@ -18,15 +18,17 @@ fn main() -> std::io::Result<()> {
     let mut random = Random::new(9);
     for shape in SHAPES {
         for n in SIZES {
-            let drawn = chart_of(&part(shape, n, &mut random));
+            let part = part(shape, n, &mut random);
+            let drawn = chart_of(&part);
             let turn = random.below(usize::from(n));
             let wide = stretched(&drawn, if n < 400 { 9 } else { 1 }, &mut random);
-            let chart = match random.below(6) {
+            let chart = match random.below(7) {
                 0 => drawn,
                 1 => mirrored(&wide),
                 2 => upside_down(&drawn),
                 3 => wide,
                 4 => cut_back(&wide),
+                5 => placed_of(&part),
                 _ => rotated(&drawn, turn, random.coin()),
             };
             let mut bytes = chart.bytes();

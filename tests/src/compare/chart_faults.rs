@@ -8,7 +8,7 @@ use super::Tests;
 use crate::library;
 use bend_tests::changes::{exchanged, mirrored, rotated, stretched, upside_down};
 use bend_tests::chart::{Bar, Chart, Stroke};
-use bend_tests::draw::chart_of;
+use bend_tests::draw::{chart_of, placed_of};
 use bend_tests::part::Part;
 use bend_tests::random::Random;
 
@@ -22,6 +22,11 @@ pub fn run(tests: &mut Tests) {
 /// of columns, level (0,3) and (1,2).
 fn square() -> Chart {
     chart_of(&Part::new(4, &[(0, 2)]))
+}
+
+/// The same by document 01's places: row 1 is empty.
+fn square_with_empty_row() -> Chart {
+    placed_of(&Part::new(4, &[(0, 2)]))
 }
 
 /// A chart of the same part, true but that the upright (0,1) passes through the
@@ -114,24 +119,26 @@ fn heads_and_map_bytes(tests: &mut Tests) {
 fn faults(tests: &mut Tests) {
     for (number, name, spoil) in FAULTS {
         tests.test(&format!("read_chart: {number} {name}"), || {
-            let mut chart = square();
-            spoil(&mut chart);
-            gives(number, &chart)?;
-            let bytes = chart.bytes();
-            for lent in 0..10 {
-                let answer = library::read_chart(&bytes, &mut vec![0; lent]);
-                must_be(number, answer, &bytes)?;
-                same(&bytes, lent)?;
+            for mut chart in [square(), square_with_empty_row()] {
+                spoil(&mut chart);
+                gives(number, &chart)?;
+                let bytes = chart.bytes();
+                for lent in 0..10 {
+                    let answer = library::read_chart(&bytes, &mut vec![0; lent]);
+                    must_be(number, answer, &bytes)?;
+                    same(&bytes, lent)?;
+                }
             }
             Ok(())
         });
         for (later, also, spoil_too) in FAULTS.iter().filter(|(later, ..)| *later > number) {
             let name = format!("read_chart: {number} {name} before {later} {also}");
             tests.test(&name, || {
-                let mut chart = square();
-                spoil_too(&mut chart);
-                spoil(&mut chart);
-                gives(number, &chart)?;
+                for mut chart in [square(), square_with_empty_row()] {
+                    spoil_too(&mut chart);
+                    spoil(&mut chart);
+                    gives(number, &chart)?;
+                }
                 let mut with_gap = square_with_gap();
                 spoil_too(&mut with_gap);
                 spoil(&mut with_gap);

@@ -16,7 +16,7 @@ use bend_tests::edit_list::Lending;
 use bend_tests::part::{Corner, Pair, Part};
 use bend_tests::random::Random;
 use bend_tests::search::plan_drawn;
-use bend_tests::shapes::{part, HUNG, SHAPES};
+use bend_tests::shapes::{part, HUNG, SHAPES, SIDE_BY_SIDE};
 use bend_tests::sheet;
 use bend_tests::truth::{fills_columns, is_true};
 
@@ -72,30 +72,66 @@ pub fn drawn(sheet: &[u8]) -> Vec<u8> {
 }
 
 fn known_parts(tests: &mut Tests) {
+    // document 01's known parts, with the rows of request (v)
     tests.test("draw: known part n = 3", || {
         let chart = [
-            0, 3, 0, 2, 0, 3, 0, 0, 0, 0, 0, 0, 0, 2, 0, 0, 0, 1, 0, 0, 0, 1, 0, 1, 1, 0, 0, 0, 1,
+            0, 2, 0, 2, 0, 3, 0, 0, 0, 0, 0, 0, 0, 1, 0, 0, 0, 1, 0, 0, 0, 1, 0, 1, 1, 0, 0, 0, 1,
             0, 0, 0, 0, 0, 0, 2, 1, 0, 1, 0, 2, 0, 1,
         ];
         same_bytes(&[1, 0, 3], &drawn(&[1, 0, 3]), &chart)
     });
     type Bars = &'static [[u8; 3]];
-    let known: [(Corner, &[Pair], Bars); 4] = [
-        (4, &[(0, 2)], &[[0, 0, 1], [2, 0, 0], [2, 1, 2], [0, 2, 2]]),
+    let known: [(Corner, &[Pair], [u8; 2], Bars); 7] = [
+        (
+            4,
+            &[(0, 2)],
+            [2, 3],
+            &[[0, 0, 1], [1, 0, 0], [1, 1, 2], [0, 2, 2]],
+        ),
         (
             5,
             &[(0, 3), (1, 3)],
+            [3, 5],
             &[[0, 0, 3], [1, 1, 2], [1, 0, 0], [2, 0, 4], [0, 4, 4]],
         ),
         (
             5,
             &[(1, 4), (1, 3)],
+            [3, 5],
             &[[0, 0, 0], [2, 0, 4], [1, 4, 4], [1, 2, 3], [0, 1, 4]],
+        ),
+        (
+            6,
+            &[(0, 2), (2, 4), (0, 4)],
+            [3, 6],
+            &[
+                [0, 0, 4],
+                [1, 3, 3],
+                [1, 1, 2],
+                [1, 0, 0],
+                [2, 0, 5],
+                [0, 5, 5],
+            ],
+        ),
+        (
+            7,
+            &[(0, 5), (1, 5), (1, 3), (3, 5)],
+            [3, 7],
+            &[
+                [0, 0, 5],
+                [2, 0, 2],
+                [1, 1, 1],
+                [1, 2, 3],
+                [1, 4, 4],
+                [2, 3, 6],
+                [0, 6, 6],
+            ],
         ),
         // not document 01's: pieces hung on row 1 and on row 2D
         (
             11,
             &HUNG,
+            [5, 14],
             &[
                 [0, 0, 12],
                 [1, 10, 11],
@@ -110,27 +146,37 @@ fn known_parts(tests: &mut Tests) {
                 [0, 13, 13],
             ],
         ),
+        // nor this: a row goes for the whole chart, not for a piece
+        (
+            12,
+            &SIDE_BY_SIDE,
+            [4, 14],
+            &[
+                [0, 0, 12],
+                [3, 0, 5],
+                [2, 4, 4],
+                [2, 2, 3],
+                [2, 1, 1],
+                [1, 1, 6],
+                [3, 6, 9],
+                [1, 8, 8],
+                [1, 9, 10],
+                [1, 11, 11],
+                [3, 10, 13],
+                [0, 13, 13],
+            ],
+        ),
     ];
-    for (n, pairs, bars) in known {
+    for (n, pairs, [rows, columns], bars) in known {
         tests.test(&format!("draw: known part n = {n}, {pairs:?}"), || {
             let sheet = sheet::with_pairs(n, pairs, None);
-            let expected: Vec<u8> = bars.iter().flatten().flat_map(|&b| [0, b]).collect();
+            let head = [rows, columns, n as u8];
+            let numbers = head.iter().chain(bars.iter().flatten());
+            let expected: Vec<u8> = numbers.flat_map(|&number| [0, number]).collect();
             let bytes = drawn(&sheet);
-            let end = bytes.len().min(6 + expected.len());
-            same_bytes(&sheet, &bytes[end.min(6)..end], &expected)?;
-            same(&sheet, 200)
-        });
-    }
-    let known: [(Corner, &[Pair], [u8; 6]); 2] = [
-        (6, &[(0, 2), (2, 4), (0, 4)], [0, 3, 0, 6, 0, 6]),
-        (7, &[(0, 5), (1, 5), (1, 3), (3, 5)], [0, 5, 0, 7, 0, 7]),
-    ];
-    for (n, pairs, head) in known {
-        tests.test(&format!("draw: known part n = {n}, {pairs:?}"), || {
-            let sheet = sheet::with_pairs(n, pairs, None);
-            let bytes = drawn(&sheet);
-            same_bytes(&sheet, &bytes[..bytes.len().min(6)], &head)?;
-            same(&sheet, 200)
+            let end = bytes.len().min(expected.len());
+            same_bytes(&sheet, &bytes[..end], &expected)?;
+            same(&sheet, 300)
         });
     }
 }

@@ -2,6 +2,8 @@
 
 #[cfg(feature = "read_chart")]
 mod chart_faults;
+#[cfg(all(feature = "draw", feature = "read_chart"))]
+mod closing;
 #[cfg(feature = "plan")]
 mod depth;
 #[cfg(feature = "draw")]
@@ -74,6 +76,8 @@ pub fn run(tests: &mut Tests) {
     read_chart::run(tests);
     #[cfg(feature = "read_chart")]
     chart_faults::run(tests);
+    #[cfg(all(feature = "draw", feature = "read_chart"))]
+    closing::run(tests);
 }
 
 /// Runs tests by name and counts them.

@@ -13,10 +13,8 @@ use bend_tests::changes::{
     upside_down,
 };
 use bend_tests::chart::Chart;
-use bend_tests::draw::chart_of;
-use bend_tests::part::Corner;
-#[cfg(all(feature = "normalize", feature = "draw"))]
-use bend_tests::part::Part;
+use bend_tests::draw::{chart_of, placed_of};
+use bend_tests::part::{Corner, Part};
 use bend_tests::random::Random;
 use bend_tests::reader::read_chart;
 use bend_tests::shapes::all_parts;
@@ -47,16 +45,22 @@ pub fn gives(number: u16, chart: &Chart) -> Outcome {
     same(&bytes, 5000)
 }
 
-/// The chart of a random part of up to `most` corners.
-fn any_chart(most: usize, random: &mut Random) -> Chart {
-    let n = random.between(3, most);
-    chart_of(&any_part(n as Corner, random))
+/// The part's chart as drawn, and by document 01's places, with its empty rows.
+fn both_charts(part: &Part) -> [Chart; 2] {
+    [chart_of(part), placed_of(part)]
 }
 
-/// Charts of all small parts, and of some random ones of every size.
+/// One of the two charts of a random part of up to `most` corners.
+fn any_chart(most: usize, random: &mut Random) -> Chart {
+    let n = random.between(3, most);
+    let charts = both_charts(&any_part(n as Corner, random));
+    random.pick(&charts).clone()
+}
+
+/// Both charts of all small parts, and one of some random ones of every size.
 fn many_charts(random: &mut Random) -> Vec<Chart> {
     let small = (3..=8).flat_map(all_parts);
-    let mut charts: Vec<Chart> = small.map(|part| chart_of(&part)).collect();
+    let mut charts: Vec<Chart> = small.flat_map(|part| both_charts(&part)).collect();
     for most in [40, 200, 1024] {
         charts.extend((0..30).map(|_| any_chart(most, random)));
     }
@@ -163,8 +167,9 @@ fn damaged_charts(tests: &mut Tests) {
         });
     }
     tests.test("read_chart: every bit of small charts flipped", || {
-        for part in (3..=6).flat_map(all_parts) {
-            let bytes = chart_of(&part).bytes();
+        let parts = (3..=6).flat_map(all_parts);
+        for chart in parts.flat_map(|part| both_charts(&part)) {
+            let bytes = chart.bytes();
             for bit in 0..8 * bytes.len() {
                 let mut damaged = bytes.clone();
                 damaged[bit / 8] ^= 1 << (bit % 8);
@@ -201,10 +206,10 @@ fn damaged_charts(tests: &mut Tests) {
 
 fn output_lengths(tests: &mut Tests) {
     tests.test("read_chart: every length of output, small charts", || {
-        for part in (3..=7).flat_map(all_parts) {
-            let bytes = chart_of(&part).bytes();
-            let length = 4 * usize::from(part.n) - 9;
-            (0..=length + 2).try_for_each(|lent| same(&bytes, lent))?;
+        let parts = (3..=7).flat_map(all_parts);
+        for chart in parts.flat_map(|part| both_charts(&part)) {
+            let length = 4 * chart.bars.len() - 9;
+            (0..=length + 2).try_for_each(|lent| same(&chart.bytes(), lent))?;
         }
         Ok(())
     });
