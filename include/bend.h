@@ -135,7 +135,8 @@ uint64_t bend_run_edits(const uint8_t *first, size_t first_len,
 uint64_t bend_plan(const uint8_t *sheet, size_t sheet_len);
 
 /*
- * Draw: writes the part's chart and gives its length.
+ * Draw: writes the part's chart and gives its length. A bar lies on each of its
+ * rows: of a part with L levels there are L + 1 to 2 L + 1.
  * Refusals: 1 to 7 and 23 as for bend_normalize; 8.
  */
 uint64_t bend_draw(const uint8_t *sheet, size_t sheet_len,
@@ -143,7 +144,7 @@ uint64_t bend_draw(const uint8_t *sheet, size_t sheet_len,
 
 /*
  * Read a chart: writes the sheet, in normal order and without angles, of the part
- * that the chart shows, and gives its length.
+ * that the chart shows, and gives its length. The chart may have rows without bars.
  * Refusals: 14; 15; 16; 17; 18; 8.
  */
 uint64_t bend_read_chart(const uint8_t *chart, size_t chart_len,

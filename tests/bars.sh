@@ -61,12 +61,12 @@ fn main() {
 }
 END
 passed=0
-for which in small large; do
+for which in small shapes large; do
     cargo run --quiet --release --manifest-path "$root/tests/Cargo.toml" --bin bar_cases -- \
         "$which" "$work/crates/bars_run/stdin" "$work/crates/bars_run/stdout" || exit 1
     (cd "$work" && rt try bars_run) >"$work/log" 2>&1
     cat "$work/log"
     passed=$((passed + $(grep -c '^ok: ' "$work/log")))
 done
-echo "$passed passed, $((8 - passed)) failed"
-[ "$passed" -eq 8 ]
+echo "$passed passed, $((12 - passed)) failed"
+[ "$passed" -eq 12 ]

@@ -1,6 +1,6 @@
 #!/usr/bin/env bash
-# Runs the programs bend and unbend from end to end: the line, the file, the status and the way back; sheets with bit 2 and with angles; refusals; the
-# longest inputs; what the system refuses; many runs at once. The last line is 'N passed, M failed'.
+# Runs the programs bend and unbend from end to end: the line, the file, the status and the way back; sheets with bit 2 and with angles; rows without
+# bars; refusals; the longest inputs; what the system refuses; many runs at once. The last line is 'N passed, M failed'.
 set -u
 root=$(cd "$(dirname "$0")/.." && pwd)
 bend="$root/bend"
@@ -40,16 +40,23 @@ line() {
     rm text
 }
 
-line triangle 'part - corners 3 levels 1 umbrellas 1 stems 0 rows 3 columns 2'
+line triangle 'part - corners 3 levels 1 umbrellas 1 stems 0 rows 2 columns 2'
 is 'triangle, every byte' "$(hex bend.chart)" \
-    00030002000300000000000000020000000100000001000101000000010000000000000201000100020001
+    00020002000300000000000000010000000100000001000101000000010000000000000201000100020001
+is 'triangle, every word' "$("$unbend" <bend.chart)" 'part - corners 3 levels 1 umbrellas 1 stems 0 rows 2 columns 2
+corner 0 row 0 columns 0 to 0
+corner 1 row 1 columns 0 to 1
+corner 2 row 0 columns 1 to 1
+line 0 corners 0 1 side
+level 0 to 1 corners 0 2 side
+line 1 corners 1 2 side'
 triangle=$(hex bend.chart)
-line square 'part - corners 4 levels 1 umbrellas 1 stems 0 rows 3 columns 3'
+line square 'part - corners 4 levels 1 umbrellas 1 stems 0 rows 2 columns 3'
 square=$(hex bend.chart)
-is 'square, every word' "$("$unbend" <bend.chart)" 'part - corners 4 levels 1 umbrellas 1 stems 0 rows 3 columns 3
+is 'square, every word' "$("$unbend" <bend.chart)" 'part - corners 4 levels 1 umbrellas 1 stems 0 rows 2 columns 3
 corner 0 row 0 columns 0 to 1
-corner 1 row 2 columns 0 to 0
-corner 2 row 2 columns 1 to 2
+corner 1 row 1 columns 0 to 0
+corner 2 row 1 columns 1 to 2
 corner 3 row 0 columns 2 to 2
 line 0 corners 0 1 side
 level 0 to 1 corners 1 2 side
@@ -75,16 +82,17 @@ line 3 corners 0 1 side
 line 4 corners 0 4 bend
 level 4 to 5 corners 0 5 side
 line 5 corners 4 5 side'
-line two_levels 'part - corners 7 levels 2 umbrellas 2 stems 0 rows 5 columns 7'
+line two_levels 'part - corners 7 levels 2 umbrellas 2 stems 0 rows 3 columns 7'
+is 'two_levels, rows of the bars' "$("$unbend" <bend.chart | sed -n 's/^corner . row \(.\) .*/\1/p' | tr -d '\n')" 0211120
 line boot 'part - corners 12 levels 1 umbrellas 1 stems 1 rows 3 columns 12'
 boot=$(hex bend.chart)
 
 # a sheet that still has bit 2 (request (xii)): its four bytes are skipped, whatever they are, and line and chart are those of the sheet without it
-line square_numbered 'part - corners 4 levels 1 umbrellas 1 stems 0 rows 3 columns 3'
+line square_numbered 'part - corners 4 levels 1 umbrellas 1 stems 0 rows 2 columns 3'
 is 'square_numbered, every byte' "$(hex bend.chart)" "$square"
 for four in 00000000 00000001 00000009 00010003 7fffffff 80000000 ffffffff; do
     rm bend.chart
-    is "bit 2 with $four" "$(bytes "050003$four" | "$bend")" 'part - corners 3 levels 1 umbrellas 1 stems 0 rows 3 columns 2'
+    is "bit 2 with $four" "$(bytes "050003$four" | "$bend")" 'part - corners 3 levels 1 umbrellas 1 stems 0 rows 2 columns 2'
     is "bit 2 with $four, chart" "$(hex bend.chart)" "$triangle"
 done
 for short in 050003 05000300 050003000000; do is "bit 2 with too few bytes, $short" "$(bytes "$short" | "$bend")" 'refused 2'; done
@@ -93,7 +101,7 @@ is 'four bytes without bit 2' "$(bytes 01000300000009 | "$bend")" 'refused 2'
 is 'bits 2 and 4' "$(bytes 15000300000009 | "$bend")" 'refused 1'
 
 # a sheet with angles (request (xi)): line and chart are those of the sheet without them, whatever they are, and however the pairs are listed
-line square_angle 'part - corners 4 levels 1 umbrellas 1 stems 0 rows 3 columns 3'
+line square_angle 'part - corners 4 levels 1 umbrellas 1 stems 0 rows 2 columns 3'
 is 'square_angle, every byte' "$(hex bend.chart)" "$square"
 for sample in boot_angles boot_both; do
     line $sample 'part - corners 12 levels 1 umbrellas 1 stems 1 rows 3 columns 12'
@@ -101,10 +109,10 @@ for sample in boot_angles boot_both; do
 done
 for angle in 0000 0001 ffff 0708 f8f8; do
     rm bend.chart
-    is "angle $angle" "$(bytes "0b000400000002$angle" | "$bend")" 'part - corners 4 levels 1 umbrellas 1 stems 0 rows 3 columns 3'
+    is "angle $angle" "$(bytes "0b000400000002$angle" | "$bend")" 'part - corners 4 levels 1 umbrellas 1 stems 0 rows 2 columns 3'
     is "angle $angle, chart" "$(hex bend.chart)" "$square"
     rm bend.chart
-    is "angle $angle and bit 2" "$(bytes "0f00040002000000000009$angle" | "$bend")" 'part - corners 4 levels 1 umbrellas 1 stems 0 rows 3 columns 3'
+    is "angle $angle and bit 2" "$(bytes "0f00040002000000000009$angle" | "$bend")" 'part - corners 4 levels 1 umbrellas 1 stems 0 rows 2 columns 3'
     is "angle $angle and bit 2, chart" "$(hex bend.chart)" "$square"
 done
 is 'overbent' "$("$bend" <"$root/samples/overbent.sheet")" 'refused 23'
@@ -136,6 +144,20 @@ is 'long input' "$(head -c 100000 /dev/zero | "$bend")" 'refused 1'
 is 'long triangle' "$( (cat "$root/samples/triangle.sheet"; head -c 100000 /dev/zero) | "$bend")" 'refused 2'
 is 'no chart of a refused sheet' "$(ls)" ''
 
+# rows without bars (request (v)): none is drawn, but a chart handed in may have them and tells its own rows. Document 01's chart of the triangle, with
+# the empty row 1; the same with the most rows that there are; the triangle as it is drawn, with an empty row behind the others
+placed=00030002000300000000000000020000000100000001000101000000010000000000000201000100020001
+is 'an empty row, every word' "$(bytes "$placed" | "$unbend")" 'part - corners 3 levels 1 umbrellas 1 stems 0 rows 3 columns 2
+corner 0 row 0 columns 0 to 0
+corner 1 row 2 columns 0 to 1
+corner 2 row 0 columns 1 to 1
+line 0 corners 0 1 side
+level 0 to 1 corners 0 2 side
+line 1 corners 1 2 side'
+is '65,533 empty rows' "$(bytes "ffff${placed:4}" | "$unbend" | head -n 1)" 'part - corners 3 levels 1 umbrellas 1 stems 0 rows 65535 columns 2'
+is 'an empty last row' "$(bytes "0003${triangle:4}" | "$unbend" | head -n 1)" 'part - corners 3 levels 1 umbrellas 1 stems 0 rows 3 columns 2'
+is 'no empty row' "$(bytes "$triangle" | "$unbend" | head -n 1)" 'part - corners 3 levels 1 umbrellas 1 stems 0 rows 2 columns 2'
+
 # another's chart of the square: the first line tells the part, the rows, columns, bars and strokes are those of the chart
 is 'another chart, every word' "$(bytes 000300060004000000000005000200000005000100000001000100030004010000000100050100000002000001000000030003010001000200010000020003 | "$unbend")" \
     'part - corners 4 levels 1 umbrellas 1 stems 0 rows 3 columns 6
@@ -162,7 +184,8 @@ refused 14 'a byte short' "${square%??}"
 refused 14 'a byte over' "${square}00"
 refused 14 'two corners' "${square:0:10}02${square:12}"
 refused 14 'bit 1 of a map byte' "${square:0:60}03${square:62}"
-refused 15 'a bar past the rows' "${square:0:2}02${square:4}"
+refused 15 'a bar past the rows' "${square:0:2}01${square:4}"
+refused 15 'a bar past rows of which one is empty' "${placed:0:2}02${placed:4}"
 refused 16 'a stroke twice' "${square:0:82}01${square:84}"
 refused 17 'an upright in a level gap' 000300050004000000000004000200000004000100000001000100030004010000000100020100000002000001000000030003010001000200010000020003
 refused 18 'a side missing' 00030003000400000000000100020000000000000002000200020001000201000000010000000000000201000000030001000001000301000200030002
@@ -209,11 +232,21 @@ for shape in fan fan_above zigzag; do narrow "$shape" "$shape.sheet"; done
 mkdir sheets
 CARGO_TARGET_DIR="${CARGO_TARGET_DIR:-$root/target/cargo}" cargo run --quiet --release --manifest-path "$root/tests/Cargo.toml" --bin sheets -- sheets
 for sheet in sheets/*_1024.sheet; do narrow "$(basename "$sheet")" "$sheet"; done
-rm -r sheets fan.sheet fan_above.sheet zigzag.sheet bend.chart
+# the sheets of every shape and size, and damaged ones: every line and every chart is the model's
+for sheet in sheets/*.sheet; do
+    rm -f bend.chart
+    is "$sheet, line" "$("$root/target/bin/bend" <"$sheet")" "$(cat "${sheet%.sheet}.line")"
+    if [ -f "${sheet%.sheet}.chart" ]; then
+        is "$sheet, chart" "$(cmp bend.chart "${sheet%.sheet}.chart" 2>&1)" ''
+    else
+        is "$sheet, no chart" "$(ls bend.chart 2>/dev/null)" ''
+    fi
+done
+rm -rf sheets fan.sheet fan_above.sheet zigzag.sheet bend.chart
 
 # bent LAST: 1,021 angles, the last one as it is named
 bent() { for ((k = 1; k < 1021; k++)); do hex16 $((k % 1801)); done; printf '%s' "$1"; }
-long_line='part - corners 1024 levels 1 umbrellas 1 stems 0 rows 3 columns 1023'
+long_line='part - corners 1024 levels 1 umbrellas 1 stems 0 rows 2 columns 1023'
 bytes "0f$(fan)0000002a$(bent f8f8)" >longest.sheet
 is 'longest sheet, bytes' "$(wc -c <longest.sheet)" 6133
 is 'longest sheet' "$("$bend" <longest.sheet)" "$long_line"
@@ -258,7 +291,7 @@ ends() {
     is "$what" "$found" "$text"$'\n'"status $status"
 }
 sheet="$root/samples/square.sheet"
-said='part - corners 4 levels 1 umbrellas 1 stems 0 rows 3 columns 3'
+said='part - corners 4 levels 1 umbrellas 1 stems 0 rows 2 columns 3'
 ends 'a line' 0 "$said" "$bend" <"$sheet"
 ends 'a text' 0 "$(bytes "$square" | "$unbend")" "$unbend" <bend.chart
 ends 'a refusal' 1 'refused 7' "$bend" <"$root/samples/crossing.sheet"

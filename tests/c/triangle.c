@@ -1,9 +1,10 @@
 /*
  * Calls the library from C as the header declares it: the triangle's sheet is
  * set in order, without bit 2 and with it, sheets are refused, and a list of
- * edits is run on it, refused, and run with no edit taken. A square with an angle
- * is set in order, turned, planned, drawn and edited. The last line is `N passed,
- * M failed`; the exit status is 1 if any check failed.
+ * edits is run on it, refused, and run with no edit taken. It is drawn, and charts
+ * of it are read, with an empty row and without. A square with an angle is set in
+ * order, turned, planned, drawn and edited. The last line is `N passed, M failed`;
+ * the exit status is 1 if any check failed.
  */
 #include "bend.h"
 
@@ -118,6 +119,35 @@ static void same_chart(void)
                                     == bend_plan(plain_square, sizeof plain_square));
 }
 
+/*
+ * The triangle is drawn with 2 rows. Its chart by document 01's places, which has 3
+ * and no bar on row 1, is read as the same part.
+ */
+static void rows(void)
+{
+    static const uint8_t triangle[3] = {1, 0, 3};
+    static const uint8_t drawn[44] = {
+        0, 2, 0, 2, 0, 3, 0, 0, 0, 0, 0, 0, 0, 1, 0, 0, 0, 1, 0, 0, 0, 1,
+        0, 1, 1, 0, 0, 0, 1, 0, 0, 0, 0, 0, 0, 2, 1, 0, 1, 0, 2, 0, 1, 0xaa};
+    uint8_t chart[44];
+    uint8_t placed[43];
+    uint8_t back[2][3] = {{0, 0, 0}, {0, 0, 0}};
+    uint64_t answer;
+
+    memset(chart, 0xaa, sizeof chart);
+    answer = bend_draw(triangle, sizeof triangle, chart, sizeof chart);
+    check("triangle drawn", bend_number(answer) == 0 && bend_length(answer) == 43
+                                && memcmp(chart, drawn, sizeof chart) == 0);
+    memcpy(placed, drawn, sizeof placed);
+    placed[1] = 3;
+    placed[13] = 2;
+    check("chart read", bend_number(bend_read_chart(drawn, 43, back[0], 3)) == 0
+                            && memcmp(back[0], triangle, 3) == 0);
+    check("chart with an empty row read",
+          bend_number(bend_read_chart(placed, 43, back[1], 3)) == 0
+              && memcmp(back[1], triangle, 3) == 0);
+}
+
 /* A corner off and one on again, through a triangle: no angle is left. */
 static void through_a_triangle(void)
 {
@@ -167,6 +197,7 @@ int main(void)
     normalize("bit 3 of a triangle with two bytes", angled, 5, 4, 2, untouched);
     angles();
     same_chart();
+    rows();
     through_a_triangle();
 
     memset(not_run, 0xaa, sizeof not_run);
