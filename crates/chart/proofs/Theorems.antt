@@ -12,6 +12,7 @@ use Rattle.polygon.specs.Tree.{Tree, span, treeOf}
 use Rattle.polygon.proofs.TreeTheorem.{TreeIs, tree-of}
 use Rattle.umbrella.specs.Plan.{Plan, levels, umbrellas, stems}
 use Rattle.umbrella.specs.Best.{planOf}
+use Rattle.umbrella.specs.Border.{NothingHung}
 use Rattle.chart.specs.Places.{cols}
 use Rattle.chart.specs.Chart.{upright, level, Chart, chart, closed, NoEmptyRow, chartOf, Touching, True, Shows}
 use Rattle.chart.specs.Pieces.{RootBars, EveryPiece}
@@ -22,7 +23,7 @@ use Rattle.chart.proofs.Charts.{chart-true, chart-touching, chart-size,
 use Rattle.chart.proofs.Closing.{closing, closed-true, closed-shows, closed-no-empty, closed-rows-most, closed-touching}
 use Rattle.chart.proofs.ClosedPlan.{closed-plan-rows}
 use Rattle.chart.proofs.Rungs.{rows-least}
-use Rattle.chart.proofs.NoStem.{rows-no-stem, one-umbrella, triangle-flat}
+use Rattle.chart.proofs.NoStem.{rows-no-stem, nothing-hung, one-umbrella, triangle-flat}
 use Rattle.chart.proofs.Fits.{chart-fits}
 use Rattle.chart.proofs.Pieces.{piece-bars, closed-piece-bars}
 
@@ -91,13 +92,17 @@ module _ (p : Polygon) (v : Valid p) where
   unfolding chartOf
   chart-rows-no-stem s = omega (arith, closed-plan-rows (planOf p), rows-no-stem (planOf p) s)
 
-  -- So it has two if its umbrella has no stem and nothing hung: one umbrella in all, and no stem.
-  pub chart-two-rows : umbrellas (planOf p) ≡ 1 → stems (planOf p) ≡ 0 → chartOf p .rows ≡ 2
-  chart-two-rows u s = omega (arith, chart-rows-no-stem s, one-umbrella (planOf p) u)
+  -- So it has two if its umbrella has no stem and nothing hung.
+  pub chart-two-rows : stems (planOf p) ≡ 0 → NothingHung (planOf p) → chartOf p .rows ≡ 2
+  chart-two-rows s h = omega (arith, chart-rows-no-stem s, nothing-hung (planOf p) wide s h)
+
+  -- And so by the counts that the log line tells: one umbrella in all, and no stem.
+  pub chart-one-umbrella : umbrellas (planOf p) ≡ 1 → stems (planOf p) ≡ 0 → chartOf p .rows ≡ 2
+  chart-one-umbrella u s = omega (arith, chart-rows-no-stem s, one-umbrella (planOf p) u)
 
   -- So a triangle has two.
   pub chart-triangle : p .n ≡ 3 → chartOf p .rows ≡ 2
-  chart-triangle h = let (u, s) = triangle-flat (planOf p) (omega (arith, T .size)) in chart-two-rows u s
+  chart-triangle h = let (u, s) = triangle-flat (planOf p) (omega (arith, T .size)) in chart-one-umbrella u s
 
   -- Each of its rows carries a bar.
   pub chart-no-empty-row : NoEmptyRow (chartOf p)

@@ -7,11 +7,11 @@ use native.Mathlib.Decide.{ℕ-discrete}
 use native.Mathlib.Numerals.{add-one}
 use native.Mathlib.Omega.{arith}
 use lib.ListN.{length, take, getD, set, length-set}
-use lib.Seq.{take-suc, take-all, getD-set-other}
+use lib.Seq.{take-suc, take-all}
 use Rattle.lists.specs.Lists.{Mem, All, times, mem?}
 use Rattle.lists.proofs.Lists.{here, mem-left, mem-right, snoc-cases, all-imp, map-same}
 use Rattle.lists.proofs.Occurs.{times-yes, times-same}
-use Rattle.lists.proofs.Places.{all-at, at-all, stored, mapped-next}
+use Rattle.lists.proofs.Places.{all-at, at-all, stored, mapped-next, Ahead, ahead-next}
 use Rattle.keys.specs.Sort.{total}
 use Rattle.keys.proofs.Counting.{total-next}
 use Rattle.chart.specs.Chart.{closedRow}
@@ -60,19 +60,12 @@ module _ (rs marks : List ℕ) (M : Marked rs marks) where
 
 -- the first x corners have new numbers
 pub record Renumbered (f : ℕ → ℕ) (first rows : List ℕ) (x : ℕ) : Type 0 where
-  pub upto : x ≤ length first
-  pub kept : length rows ≡ length first
+  pub ahead : Ahead first rows x
   pub done : take x rows ≡ map f (take x first)
-  pub rest : (i : ℕ) → x ≤ i → getD rows i 0 ≡ getD first i 0
 
 pub renumbered-next : {f : ℕ → ℕ} {first rows : List ℕ} {x v : ℕ} → Renumbered f first rows x → x < length rows → v ≡ f (getD first x 0) → Renumbered f first (set rows x v) (x + 1)
-renumbered-next {f} {first} {rows} {x} {v} R h e = record {
-  upto = omega (arith, R .kept);
-  kept = simp length-set (R .kept);
-  done = mapped-next f first rows x 0 (omega (arith, R .kept)) h e (R .done);
-  rest = λ i k. getD-set-other rows x i v 0 (λ q. omega arith) ∙ R .rest i (omega arith);
-}
+renumbered-next {f} {first} {rows} {x} {v} R h e = record { ahead = ahead-next v (R .ahead); done = mapped-next f first rows x 0 (omega (arith, R .ahead .kept)) h e (R .done) }
 
 -- the row at hand is one of the first
 pub row-inside : {f : ℕ → ℕ} {first rows : List ℕ} {x m : ℕ} → Renumbered f first rows x → x < length rows → All (λ r. r < m) first → getD rows x 0 < m
-row-inside {x = x} R h small = omega (arith, R .rest x (omega arith), at-all 0 small x (omega (arith, R .kept)))
+row-inside {x = x} R h small = omega (arith, R .ahead .rest x (omega arith), at-all 0 small x (omega (arith, R .ahead .kept)))

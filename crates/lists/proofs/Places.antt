@@ -5,7 +5,7 @@ use Prim.Native.Nat.{ℕ, zero, suc, _+_, _-_, _≤_, _<_}
 use native.Mathlib.Decide.{decLt, ℕ-discrete}
 use native.Mathlib.Numerals.{add-one}
 use native.Mathlib.Omega.{arith}
-use lib.ListN.{length, take, getD, set, replicate, length-reverse}
+use lib.ListN.{length, take, getD, set, replicate, length-reverse, length-set}
 use lib.Seq.{take-suc, take-suc-set, getD-set-same, getD-set-other}
 use Rattle.lists.specs.Lists.{Mem, head, tail, Nth, now, next, All, all-nil, all-cons, Sorted, sorted-nil, sorted-cons, numbers, below}
 use Rattle.lists.proofs.Lists.{there, all-imp, all-mem, map-same}
@@ -229,3 +229,14 @@ map-next f l j d h = rw (add-one j, take-suc l j d h) (map-append f (take j l) (
 pub mapped-next : {A B : Type 0} (f : A → B) (l : List A) (out : List B) (j : ℕ) (d : A) {v : B} → j < length l → j < length out → v ≡ f (getD l j d) → take j out ≡ map f (take j l)
     → take (j + 1) (set out j v) ≡ map f (take (j + 1) l)
 mapped-next f l out j d {v} h k e t = rw (add-one j, take-suc-set out j v k, t, e) (sym (rw (add-one j) at (map-next f l j d h)))
+
+-- a table that a loop rewrites from the front: as long as it was, and from place j on as it was
+pub record Ahead (first table : List ℕ) (j : ℕ) : Type 0 where
+  pub kept : length table ≡ length first
+  pub rest : (i : ℕ) → j ≤ i → getD table i 0 ≡ getD first i 0
+
+pub ahead-first : (first : List ℕ) → Ahead first first 0
+ahead-first first = record { kept = refl; rest = λ i h. refl }
+
+pub ahead-next : {first table : List ℕ} {j : ℕ} (v : ℕ) → Ahead first table j → Ahead first (set table j v) (j + 1)
+ahead-next {first} {table} {j} v A = record { kept = simp length-set (A .kept); rest = λ i h. getD-set-other table j i v 0 (λ e. omega arith) ∙ A .rest i (omega arith) }

@@ -10,7 +10,7 @@ use Rattle.sheet.proofs.Valid.{read-valid}
 use Rattle.umbrella.specs.Best.{planOf}
 use Rattle.chart.specs.Chart.{Chart, chart, closed, chartOf, True, Shows}
 use Rattle.chart.specs.Bytes.{bytesOf}
-use Rattle.chart.proofs.Theorems.{closes-up, placed-is-true, placed-shows, chart-triangle, chart-two-rows, chart-rows-most, chart-rows-least, chart-rows-no-stem, chart-no-empty-row}
+use Rattle.chart.proofs.Theorems.{closes-up, placed-is-true, placed-shows, chart-triangle, chart-two-rows, chart-one-umbrella, chart-rows-most, chart-rows-least, chart-rows-no-stem, chart-no-empty-row}
 use Rattle.chart_reader.specs.Reader.{chartRead}
 use Rattle.chart_reader.proofs.Theorems.{writes}
 use Rattle.draw.specs.Answer.{charted, drawn}
@@ -31,6 +31,7 @@ rows-without-bars s p reads =
       closing = closes-up (chart (planOf p));
       triangle = chart-triangle p v;
       flat = chart-two-rows p v;
+      one-umbrella = chart-one-umbrella p v;
       ceiling = chart-rows-most p v;
       floor = chart-rows-least p v;
       no-stem = chart-rows-no-stem p v;

@@ -9,6 +9,7 @@ use Rattle.codec.specs.Answer.{write}
 use Rattle.sheet.specs.Sheet.{normalSheet}
 use Rattle.umbrella.specs.Plan.{levels, umbrellas, stems}
 use Rattle.umbrella.specs.Best.{planOf}
+use Rattle.umbrella.specs.Border.{NothingHung}
 use Rattle.chart.specs.Chart.{Chart, chart, closed, NoEmptyRow, chartOf, True, Shows}
 use Rattle.chart.specs.Bytes.{bytesOf}
 use Rattle.chart.specs.Closing.{ClosesUp}
@@ -23,8 +24,10 @@ pub record RowsWithoutBars (s : List ℕ) (p : Polygon) : Type 0 where
   pub closing : ClosesUp (chart (planOf p))
   -- "The triangle now has 2 rows,"
   pub triangle : p .n ≡ 3 → chartOf p .rows ≡ 2
-  -- "and so has every part whose umbrella has no stem and nothing hung." What is hung has an umbrella of its own.
-  pub flat : umbrellas (planOf p) ≡ 1 → stems (planOf p) ≡ 0 → chartOf p .rows ≡ 2
+  -- "and so has every part whose umbrella has no stem and nothing hung."
+  pub flat : stems (planOf p) ≡ 0 → NothingHung (planOf p) → chartOf p .rows ≡ 2
+  -- and so by the counts in its log line: what is hung has an umbrella of its own
+  pub one-umbrella : umbrellas (planOf p) ≡ 1 → stems (planOf p) ≡ 0 → chartOf p .rows ≡ 2
   -- "The two rows a level and one more, in document 01 and in the mission's third demand, become a ceiling," and a row a level and one more is a floor
   pub ceiling : chartOf p .rows ≤ 2 * levels (planOf p) + 1
   pub floor : levels (planOf p) + 1 ≤ chartOf p .rows

@@ -4,9 +4,9 @@ use mathlib.Core.Path.{_≡_}
 use mathlib.Core.Logic.{_⊎_, _≢_}
 use mathlib.Core.List.{List, [], _∷_, _++_}
 use Prim.Native.Nat.{ℕ, _+_}
-use Rattle.lists.specs.Lists.{Mem}
+use Rattle.lists.specs.Lists.{Mem, All}
 use Rattle.polygon.specs.Polygon.{Edge}
-use Rattle.polygon.specs.Tree.{Tree, node, span}
+use Rattle.polygon.specs.Tree.{Tree, leaf, node, span}
 use Rattle.umbrella.specs.Plan.{Plan, none, plain, stemLeft, stemRight, LeftRim, leftEnd, leftOn, RightRim, rightEnd, rightOn, LeftGate, leftGate, leftPast, RightGate, rightGate, rightPast, Stem, endBoth, endLeft, endRight, goLeft, goRight}
 use Rattle.umbrella.specs.Triangles.{Triangle, Inner, Outer}
 
@@ -52,6 +52,10 @@ hungIn u (takes {l} L R) = hungIn u L ++ hungIn (u + span l) R
 
 unfoldable pub hung : {t : Tree} → Plan t → ℕ → List (ℕ × Tree)
 hung p u = hungIn u (cut p)
+
+-- nothing is hung: each of them is empty
+abbrev pub NothingHung : {t : Tree} → Plan t → Type 0
+NothingHung p = All (λ s. s .1 ≡ leaf) (hung p 0)
 
 -- a hung piece stands on the edge
 abbrev pub Carries : List (ℕ × Tree) → Edge → Type 0
