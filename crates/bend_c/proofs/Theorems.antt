@@ -18,6 +18,7 @@ use Rattle.draw.proofs.Refusals.{drawn-settled}
 use Rattle.draw.proofs.Size.{drawn-size}
 use Rattle.chart_reader.proofs.Refusals.{chart-settled}
 use Rattle.chart_reader.proofs.Size.{chart-read-size}
+use Rattle.chart_reader.proofs.Following.{found-reads-back}
 use Rattle.bend_c.specs.ReadBack.{EveryAnswer}
 
 edit-reads-back : (e : Edit) (s out : List ℕ) → ReadsBack (written (edited e s) out)
@@ -33,4 +34,5 @@ every-answer = record {
   bend-plan = plan-reads-back;
   bend-draw = λ s out. reads-back _ (small-number (drawn-settled s out)) (omega (arith, drawn-size s out));
   bend-read-chart = λ s out. reads-back _ (small-number (chart-settled s out)) (omega (arith, chart-read-size s out));
+  bend-nearest-bar = found-reads-back;
 }

@@ -1,9 +1,9 @@
 // Every operation without record lists, for C: numbers and byte runs in, one number out. include/bend.h declares them.
 // The low 16 bits of an answer are the number, 0 or that of a refusal. Above it stands the length of what was written, or for Plan the levels,
-// umbrellas and stems, 16 bits each, or for a list of edits the place of the sheet left, in 16 bits, and its length.
+// umbrellas and stems, 16 bits each, or for a list of edits the place of the sheet left, in 16 bits, and its length, or for the nearest bar its corner and one.
 ghost use mathlib.Core.Path.{_≡_};
 ghost use mathlib.Core.List.{List};
-ghost use Prim.Native.Nat.{ℕ};
+ghost use Prim.Native.Nat.{ℕ, _<_};
 ghost use Rattle.codec.specs.Answer.{written, answered, packed, Packable};
 ghost use Rattle.sheet.specs.Sheet.{ordered};
 ghost use Rattle.edit.specs.Rules.{addEar, removeEar, flip};
@@ -11,8 +11,12 @@ ghost use Rattle.edit.specs.Calls.{edited};
 ghost use Rattle.edit.specs.Tables.{editOf};
 ghost use Rattle.edit_list.specs.Result.{ranOf, resultOf, packedRun, Tellable};
 ghost use Rattle.draw.specs.Answer.{drawn};
+ghost use Rattle.chart_reader.specs.Cells.{cell};
 ghost use Rattle.chart_reader.specs.Reader.{chartRead};
+ghost use Rattle.chart_reader.specs.Follow.{nearestBar, followedOf, valueOf, packedFound};
 ghost use Rattle.plan.specs.Answer.{planned, plannedOf, packedPlan};
+use chart_reader::Cell;
+use chart_reader::Followed;
 use codec::Written;
 use edit::held::Edit;
 use edit_list::Ran;
@@ -146,4 +150,35 @@ pub extern "C" fn bend_read_chart(chart: &[u8], out: &mut [u8]) -> u64
     ensures bytes { λ r. ⌜ now (out .exit) ≡ written (chartRead (now (chart .entry))) (now (out .entry)) .bytes ⌝ }
 {
     pack(chart_reader::read_chart(chart, out))
+}
+
+// The answer of the nearest bar in one number.
+fn pack_found(f: Followed) -> u64
+    requires { ⌜ valueOf (followedOf f .found) < 281474976710656 ⌝ }
+    ensures { λ r. ⌜ r ≡ packedFound (followedOf f) ⌝ }
+{
+    match f {
+        Followed::None => 0,
+        Followed::Bar(x) => (x as u64 + 1) * 65536,
+        Followed::Refused(k) => k as u64,
+    }
+}
+
+// The nearest bar: the corner of the bar nearest the first of two cells of a row or column of a chart.
+#[no_mangle]
+pub extern "C" fn bend_nearest_bar(
+    chart: &[u8],
+    row: usize,
+    column: usize,
+    to_row: usize,
+    to_column: usize,
+) -> u64
+    ensures { λ r. ⌜ r ≡ packedFound (nearestBar (now (chart .entry)) (cell row column, cell «to_row» «to_column»)) ⌝ }
+{
+    let p = Cell { row, column };
+    let q = Cell {
+        row: to_row,
+        column: to_column,
+    };
+    pack_found(chart_reader::follow::nearest_bar(chart, p, q))
 }

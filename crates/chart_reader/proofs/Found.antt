@@ -2,7 +2,7 @@
 use mathlib.Core.Path.{_≡_, ap, ap₂, sym, _∙_}
 use mathlib.Core.Bool.{false}
 use mathlib.Core.List.{List}
-use Prim.Native.Nat.{ℕ, _+_, _*_, _-_, _≤_}
+use Prim.Native.Nat.{ℕ, _+_, _-_, _≤_}
 use lib.ListN.{length, take, length-map}
 use Rattle.lists.specs.Lists.{keep}
 use Rattle.lists.proofs.Lists.{all-map}
@@ -20,7 +20,6 @@ use Rattle.chart_reader.specs.Reader.{readChart}
 use Rattle.chart_reader.specs.Held.{StrokesFound, EdgesOf}
 use Rattle.chart_reader.proofs.Accepts.{strokes-count}
 use Rattle.chart_reader.proofs.Shown.{rule-valid}
-use Rattle.chart_reader.proofs.Stroked.{strokes-room}
 use Rattle.chart_reader.proofs.Verdict.{by-18, taken, read-by}
 
 -- a chart whose bars and strokes keep their rules, and the keys of its edges
@@ -28,16 +27,13 @@ pub record Edged (s : List ℕ) (n : ℕ) (at edges : List ℕ) : Type 0 where
   pub placed : StrokesFound s n at
   pub bars : BarRule (chartIn s)
   pub strokes : StrokeRule (chartIn s)
-  pub keys : edgesOf (take (length at) edges) ≡ edgesIn (chartIn s)
+  pub keys : edgesOf edges ≡ edgesIn (chartIn s)
 
 module _ {s : List ℕ} {n : ℕ} {at edges : List ℕ} (E : Edged s n at edges) where
-  edges-are : edgesOf (take (2 * n - 3) edges) ≡ edgesIn (chartIn s)
-  edges-are = rw (← strokes-room s n at (E .placed)) (E .keys)
-
-  pub edges-found : EdgesOf n (edgesOf (take (2 * n - 3) edges))
+  pub edges-found : EdgesOf n (edgesOf edges)
   edges-found =
       let F = E .placed .formed in
-      rw (edges-are, E .placed .count) (record {
+      rw (E .keys, E .placed .count) (record {
         least = F .least;
         named = all-map strokeEdge (E .strokes .0);
         ascending = E .strokes .1;
@@ -45,16 +41,16 @@ module _ {s : List ℕ} {n : ℕ} {at edges : List ℕ} (E : Edged s n at edges)
       })
 
   module _ (G : GapRule (chartIn s)) where
-    pub no-part : {keys : List ℕ} → (PartOf n (edgesOf (take (2 * n - 3) edges)) → ⊥) → Reads (readChart s) (Refused 18) keys
-    no-part f = refuses (read-by s (by-18 (E .placed .formed) (E .bars) (E .strokes) G (λ R. f (rw (edges-are, E .placed .count) R))))
+    pub no-part : {keys : List ℕ} → (PartOf n (edgesOf edges) → ⊥) → Reads (readChart s) (Refused 18) keys
+    no-part f = refuses (read-by s (by-18 (E .placed .formed) (E .bars) (E .strokes) G (λ R. f (rw (E .keys, E .placed .count) R))))
 
-    pub part-read : (keys : List ℕ) → PartOf n (edgesOf (take (2 * n - 3) edges)) × (edgesOf (take (n - 3) keys) ≡ keep (diagonal? n) (edgesOf (take (2 * n - 3) edges)))
+    pub part-read : (keys : List ℕ) → PartOf n (edgesOf edges) × (edgesOf (take (n - 3) keys) ≡ keep (diagonal? n) (edgesOf edges))
         → 1021 ≤ length keys → Reads (readChart s) (Held (record { n = n; angled = false })) keys
     part-read keys R long =
         let F = E .placed .formed in
         let S = E .strokes in
-        let part = rw (edges-are, E .placed .count) at (R .0) in
-        let ds : edgesOf (take (n - 3) keys) ≡ diagonalsIn (chartIn s) = R .1 ∙ ap₂ (λ (k : ℕ) (es : List Edge). keep (diagonal? k) es) (E .placed .count) edges-are in
+        let part = rw (E .keys, E .placed .count) at (R .0) in
+        let ds : edgesOf (take (n - 3) keys) ≡ diagonalsIn (chartIn s) = R .1 ∙ ap₂ (λ (k : ℕ) (es : List Edge). keep (diagonal? k) es) (E .placed .count) (E .keys) in
         let same : polygonOf (record { n = n; angled = false }) keys ≡ partIn (chartIn s) = λ i. record { n = E .placed .count i; ds = ds i; angles = none } in
         gives {h = record { n = n; angled = false }} (read-by s (taken F (E .bars) S G part) ∙ ap held (sym same))
         (record { valid = rw same (rule-valid (chartIn s) (F .least) (S .0) (S .1) part (F .most) (strokes-count s (F .least))); room = long })

@@ -1,125 +1,162 @@
--- No upright passes through a gap exactly if none of the gaps, as bars, stands between an upright's two cells.
-use mathlib.Core.Path.{_≡_, sym, subst}
+-- No upright passes through a gap exactly if none of the gaps, as spans, stands between an upright's two cells.
+use mathlib.Core.Path.{_≡_, refl, ap, sym, subst, _∙_}
+use mathlib.Core.Bool.{true, false}
 use mathlib.Core.Logic.{inl, inr}
-use mathlib.Core.List.{List, [], _∷_, flatMap}
-use Prim.Native.Nat.{ℕ, _+_, _<_}
-use native.Mathlib.Decide.{decLt}
+use mathlib.Core.List.{List}
+use Prim.Native.Nat.{ℕ, _+_, _-_, _/_, _%_, _≤_, _<_}
 use native.Mathlib.Omega.{arith}
-use Rattle.lists.specs.Lists.{All, Mem, all-cons, all-nil, choose}
-use Rattle.lists.proofs.Lists.{all-append, all-both, all-imp, all-left, all-mem, all-of, all-right}
-use Rattle.lists.proofs.Places.{all-at, at-all, below-at}
-use Rattle.polygon.specs.Polygon.{Edge, _—_}
-use Rattle.chart.specs.Chart.{Bar, Stroke, upright, level, strokeEdge, Chart}
+use lib.ListN.{length, getD, set}
+use Rattle.lists.specs.Lists.{All}
+use Rattle.lists.proofs.Lists.{all-imp}
+use Rattle.lists.proofs.Places.{below-at}
+use Rattle.chart.specs.declared.Stroke as code
+use Rattle.polygon.specs.Polygon.{_—_}
+use Rattle.chart.specs.Chart.{Bar, Stroke, upright, level, Chart}
+use Rattle.chart.specs.Decode.{chartIn, strokeAt, strokeOf}
 use Rattle.chart_reader.specs.declared.Cell.{Cell}
 use Rattle.chart_reader.specs.declared.Ends.{Ends}
-use Rattle.chart_reader.specs.Cells.{Inside, HasCell, CommonCell}
-use Rattle.chart_reader.specs.Rules.{ends, BarRule, StrokeRule, Passes, GapRule}
-use Rattle.chart_reader.specs.Held.{EndsOf, gapBar, gapIn, gapOf, gapsOf, GapsIn, Clear, NoBar, SomeBar}
-use Rattle.chart_reader.proofs.Truth.{apart-of}
-use mathlib.Core.Bool.{true, false}
-use Rattle.chart.specs.declared.Stroke as code
-use Rattle.chart.specs.Decode.{barOn, strokeOf}
+use Rattle.chart_reader.specs.Cells.{HasCell, Inside}
+use Rattle.chart_reader.specs.Rules.{ends, BarRule, Passes, GapRule}
+use Rattle.chart_reader.specs.Held.{StrokesFound, EndsOf}
+use Rattle.chart_reader.specs.Nearest.{none, bar, nearest}
+use Rattle.chart_reader.specs.Order.{address, endOf, spanAt, Cut, InOrder, Whole, Ordered}
+use Rattle.chart_reader.specs.Gaps.{InGap, Gapped, Clear, GapPut, GapAt, GapsIn}
+use Rattle.chart_reader.proofs.Line.{of-nearest, of-none}
+use Rattle.chart_reader.proofs.Spans.{has-address, address-has}
+use Rattle.chart_reader.proofs.Stroked.{strokes-all, strokes-at}
 
--- no bar of the list has a cell between the two cells
-abbrev Unmet : Cell × Cell → Bar → Type 0
-Unmet e b = ¬ CommonCell (Inside e) (HasCell b)
+-- two cells with one address are the same
+same-cell : (d f : Cell) → d .column < 65536 → f .column < 65536 → address d ≡ address f → d ≡ f
+same-cell d f h k e = λ i. record { row = row i; column = column i }
+  where
+    row : d .row ≡ f .row
+    row = omega (arith, e)
 
--- a level stroke's two cells are on one row, the first left of the last
-abbrev Gapped : Chart → Stroke → Type 0
-Gapped c (level e) = (ends c (level e) .0 .row ≡ ends c (level e) .1 .row) × (ends c (level e) .0 .column < ends c (level e) .1 .column)
-Gapped c (upright e j) = Unit {0}
+    column : d .column ≡ f .column
+    column = omega (arith, e)
 
--- so it is in a chart that keeps the rules of bars and strokes
-module _ (c : Chart) (B : BarRule c) (S : StrokeRule c) where
-  gapped-at : (t : Stroke) → Mem t (c .strokes) → Gapped c t
-  unfolding strokeEdge
-  gapped-at (upright e j) m = tt
-  gapped-at (level e) m =
-      let k = all-mem (S .0) m in
-      let r = all-mem (S .2) m .0 in
-      let X = below-at (B .0) (e .0) (omega arith) in
-      let Y = below-at (B .0) (e .1) (k .1) in
-      (r, elim (apart-of c B (e .0) (e .1) (omega arith) (k .1) (omega arith) r) [ inl p ↦ omega (arith, p) | inr p ↦ omega (arith, p) ])
+module _ (c : Chart) (t : ℕ → Stroke) (k : ℕ) (starts es from to : List ℕ) (G : GapsIn c t k starts es to) (size : length from ≡ length es)
+    (froms : (i : ℕ) → i < length es → getD from i 0 ≡ getD es i 0 + 1) (within : (i : ℕ) → i < length es → getD es i 0 % 65536 < 65535) where
+  one-row : (i : ℕ) → i < length es → getD from i 0 / 65536 ≡ getD to i 0 / 65536
+  one-row i h = omega (arith, froms i h, within i h, G .row i h)
 
-  pub gapped : All (Gapped c) (c .strokes)
-  gapped = all-of (c .strokes) gapped-at
+  pub gaps-ordered : length starts ≡ length es → Whole starts es → InOrder from to
+  gaps-ordered same whole = record {
+    size = G .size ∙ sym size;
+    row = λ i h. one-row i (omega (arith, size));
+    span = λ i h. omega (arith, froms i (omega (arith, size)), G .up i (omega (arith, size)));
+    apart = λ i j h l. omega (arith, froms j (omega (arith, size)), G .apart i j h (omega (arith, size)), whole j (omega (arith, size, same)));
+  }
 
--- the bars in the bytes are the gaps
-module _ (c : Chart) (gaps : List ℕ) (g : ℕ) (I : GapsIn c gaps g) (e : Cell × Cell) where
-  none-unmet : NoBar gaps 0 g (Inside e) → All (Unmet e) (gapsOf c)
-  none-unmet f = all-at (barOn 0 0 0) (gapsOf c) (λ k h. let i : k < g = omega (arith, I .count) in subst (Unmet e) (I .bars k i) (f k i))
+  has-gap : (i : ℕ) → i < length es → (d : Cell) → HasCell (spanAt from to i) d → GapAt es to i (address d) × (d .column < 65536)
+  has-gap i h d w = let f = has-address (getD from i 0) (getD to i 0) (d .row) (d .column) (one-row i h) w in ((omega (arith, f, froms i h), f .1), omega (arith, w .2))
 
-  unmet-none : All (Unmet e) (gapsOf c) → NoBar gaps 0 g (Inside e)
-  unmet-none a k h = subst (Unmet e) (sym (I .bars k h)) (at-all (barOn 0 0 0) a k (omega (arith, I .count)))
+  gap-has : (i : ℕ) → i < length es → (d : Cell) → d .column < 65536 → GapAt es to i (address d) → HasCell (spanAt from to i) d
+  gap-has i h d s w = address-has (getD from i 0) (getD to i 0) (d .row) (d .column) (one-row i h) s (omega (arith, froms i h, w)) (w .1)
 
--- gap by gap
-flat-all : {A B : Type 0} {Q : B → Type 0} (f : A → List B) (xs : List A) → All (λ x. All Q (f x)) xs → All Q (flatMap f xs)
-unfolding flatMap
-flat-all f [] a = all-nil
-flat-all f (x ∷ xs) (all-cons q a) = all-append q (flat-all f xs a)
-
-all-flat : {A B : Type 0} {Q : B → Type 0} (f : A → List B) (xs : List A) → All Q (flatMap f xs) → All (λ x. All Q (f x)) xs
-unfolding flatMap
-all-flat f [] a = all-nil
-all-flat f (x ∷ xs) a = all-cons (all-left (f x) (flatMap f xs) a) (all-flat f xs (all-right (f x) a))
-
--- the cells between two cells of a row are those of the gap
-module _ (f : Cell × Cell) (e : Cell × Cell) (r : e .0 .row ≡ e .1 .row) (h : e .0 .column < e .1 .column) where
-  unmet-gap : All (Unmet f) (gapIn e) → ¬ CommonCell (Inside f) (Inside e)
-  unfolding gapIn choose
-  unmet-gap a (x, i, j) = go (decLt (e .0 .column + 1) (e .1 .column)) a j
+  -- an upright is clear exactly if it passes through none of the gaps
+  pub clear-passes : (s : Stroke) → Clear c from to s → (m : ℕ) → m < k → ¬ Passes c s (t m)
+  clear-passes (level e) f m h = λ w. w
+  clear-passes (upright e j) f m h = go (t m) (G .full m h)
     where
-      go : (d : Dec (e .0 .column + 1 < e .1 .column)) → All (Unmet f) (choose d (gapBar e ∷ []) []) → Inside e x → ⊥
-      go (yes d) (all-cons q b) (inl k) = q (x, i, omega arith)
-      go (no d) b (inl k) = omega arith
-      go d b (inr k) = omega arith
+      go : (u : Stroke) → ((d : Cell) → InGap c u d → (i : ℕ) × (i < length es) × GapAt es to i (address d) × (d .column < 65536)) → ¬ Passes c (upright e j) u
+      go (upright g l) full = λ w. w
+      go (level g) full = λ w. let x = full (w .0) (w .2) in f (x .0) (omega (arith, x .1, size)) (w .0, w .1, gap-has (x .0) (x .1) (w .0) (x .3) (x .2))
 
-  gap-unmet : ¬ CommonCell (Inside f) (Inside e) → All (Unmet f) (gapIn e)
-  unfolding gapIn choose
-  gap-unmet p = go (decLt (e .0 .column + 1) (e .1 .column))
+  pub passes-clear : (s : Stroke) → ((m : ℕ) → m < k → ¬ Passes c s (t m)) → Clear c from to s
+  passes-clear (level e) f = tt
+  passes-clear (upright e j) f = λ i h w.
+      let g = has-gap i (omega (arith, size)) (w .0) (w .2) in
+      let x = G .sound i (address (w .0)) (omega (arith, size)) (g .0) in
+      go (t (x .0)) (f (x .0) (x .2)) (subst (InGap c (t (x .0))) (same-cell (x .1) (w .0) (x .5) (g .1) (x .4)) (x .3)) (w .1)
     where
-      go : (d : Dec (e .0 .column + 1 < e .1 .column)) → All (Unmet f) (choose d (gapBar e ∷ []) [])
-      go (yes d) = all-cons {x = gapBar e} (λ w. p (w .0, w .1, inl (omega (arith, w .2)))) all-nil
-      go (no d) = all-nil
+      go : {d : Cell} (u : Stroke) → ¬ Passes c (upright e j) u → InGap c u d → Inside (ends c (upright e j)) d → ⊥
+      go {d} (level g) p n i = p (d, i, n)
+      go (upright g l) p n i = n
 
-module _ (c : Chart) (e : Edge) (j : ℕ) where
-  passes-none : (t : Stroke) → Gapped c t → All (Unmet (ends c (upright e j))) (gapOf c t) → ¬ Passes c (upright e j) t
-  passes-none (upright f k) G a = λ w. w
-  passes-none (level f) G a = unmet-gap (ends c (upright e j)) (ends c (level f)) (G .0) (G .1) a
+-- no bar of a chart ends in the last column that two bytes can name
+pub ends-within : (c : Chart) (n : ℕ) (starts es corners : List ℕ) → Ordered (c .bar) n starts es corners → BarRule c → n ≡ c .n → c .columns < 65536 → (i : ℕ) → i < length es → getD es i 0 % 65536 < 65535
+ends-within c n starts es corners O B count small i h =
+    let here : i < n = omega (arith, O .order .size, O .count) in
+    let L = below-at (B .0) (getD corners i 0) (rw count at (O .corner i here)) in
+    omega (arith, ap (λ (b : Bar). b .right) (O .held i here), L)
 
-  none-passes : (t : Stroke) → Gapped c t → ¬ Passes c (upright e j) t → All (Unmet (ends c (upright e j))) (gapOf c t)
-  none-passes (upright f k) G p = all-nil
-  none-passes (level f) G p = gap-unmet (ends c (upright e j)) (ends c (level f)) (G .0) (G .1) p
+-- the rule, by the places of the strokes
+module _ (s : List ℕ) (n : ℕ) (at : List ℕ) (P : StrokesFound s n at) where
+  abbrev strokes : ℕ → Stroke
+  strokes k = strokeAt s (getD at k 0)
 
--- all strokes are clear exactly if no upright passes through a gap
-module _ (c : Chart) (G : All (Gapped c) (c .strokes)) (gaps : List ℕ) (g : ℕ) (I : GapsIn c gaps g) where
-  clear-at : (s : Stroke) → Clear c gaps g s → All (λ t. ¬ Passes c s t) (c .strokes)
-  clear-at (level e) k = all-of (c .strokes) (λ t m w. w)
-  clear-at (upright e j) k = all-both (λ t. passes-none c e j t) G (all-flat (gapOf c) (c .strokes) (none-unmet c gaps g I (ends c (upright e j)) k))
+  pub no-gaps : ((k : ℕ) → k < length at → (d : Cell) → InGap (chartIn s) (strokes k) d → ⊥) → GapRule (chartIn s)
+  no-gaps f = strokes-all s n at P (λ j g. strokes-all s n at P (λ k h. go (strokes j) (strokes k) (f k h)))
+    where
+      go : (u t : Stroke) → ((d : Cell) → InGap (chartIn s) t d → ⊥) → ¬ Passes (chartIn s) u t
+      go (level e) t f = λ w. w
+      go (upright e j) (upright g l) f = λ w. w
+      go (upright e j) (level g) f = λ w. f (w .0) (w .2)
 
-  at-clear : (s : Stroke) → All (λ t. ¬ Passes c s t) (c .strokes) → Clear c gaps g s
-  at-clear (level e) a = tt
-  at-clear (upright e j) a = unmet-none c gaps g I (ends c (upright e j)) (flat-all (gapOf c) (c .strokes) (all-both (λ t. none-passes c e j t) G a))
+  module _ (starts es from to : List ℕ) (G : GapsIn (chartIn s) strokes (length at) starts es to) (size : length from ≡ length es)
+      (froms : (i : ℕ) → i < length es → getD from i 0 ≡ getD es i 0 + 1) (within : (i : ℕ) → i < length es → getD es i 0 % 65536 < 65535) where
+    pub clear-rule : All (Clear (chartIn s) from to) (chartIn s .strokes) → GapRule (chartIn s)
+    clear-rule = all-imp (λ t f. strokes-all s n at P (clear-passes (chartIn s) strokes (length at) starts es from to G size froms within t f))
 
-  pub clear-rule : All (Clear c gaps g) (c .strokes) → GapRule c
-  clear-rule a = all-imp clear-at a
-
-  pub rule-clear : GapRule c → All (Clear c gaps g) (c .strokes)
-  rule-clear a = all-imp at-clear a
+    pub rule-clear : GapRule (chartIn s) → All (Clear (chartIn s) from to) (chartIn s .strokes)
+    rule-clear = all-imp (λ t f. passes-clear (chartIn s) strokes (length at) starts es from to G size froms within t (strokes-at s n at P f))
 
 -- a stroke that was read
-module _ (c : Chart) (t : code.Stroke) (gaps : List ℕ) (g : ℕ) where
-  pub level-clear : t .upright ≡ false → Clear c gaps g (strokeOf t)
-  level-clear l = rw l tt
+pub level-clear : (c : Chart) (t : code.Stroke) (from to : List ℕ) → t .upright ≡ false → Clear c from to (strokeOf t)
+level-clear c t from to l = rw l tt
 
-  module _ {r : Ends} (u : t .upright ≡ true) (E : EndsOf c t r) where
-    cells : (r .first, r .last) ≡ ends c (upright (t .a — t .b) (t .column))
-    cells = rw u at (E .same)
+module _ (c : Chart) (t : code.Stroke) {r : Ends} (u : t .upright ≡ true) (E : EndsOf c t r) where
+  cells : (r .first, r .last) ≡ ends c (upright (t .a — t .b) (t .column))
+  cells = rw u at (E .same)
 
-    pub upright-clear : NoBar gaps 0 g (Inside (r .first, r .last)) → Clear c gaps g (strokeOf t)
-    upright-clear f = rw u (subst (λ (e : Cell × Cell). NoBar gaps 0 g (Inside e)) cells f)
+  pub same-column : r .first .column ≡ r .last .column
+  same-column = ap (λ (e : Cell × Cell). e .0 .column) cells ∙ sym (ap (λ (e : Cell × Cell). e .1 .column) cells)
 
-    pub upright-met : SomeBar gaps 0 g (Inside (r .first, r .last)) → Clear c gaps g (strokeOf t) → ⊥
-    upright-met w k =
-        let f : NoBar gaps 0 g (Inside (ends c (upright (t .a — t .b) (t .column)))) = rw u at k in
-        subst (λ (e : Cell × Cell). NoBar gaps 0 g (Inside e)) (sym cells) f (w .0) (w .1) (w .2)
+  module _ (from to : List ℕ) where
+    pub upright-clear : nearest (spanAt from to) (length from) (r .first, r .last) ≡ none → Clear c from to (strokeOf t)
+    upright-clear f = rw u (of-none (spanAt from to) (length from) _ (rw cells at f))
+
+    pub upright-met : (x : ℕ) → nearest (spanAt from to) (length from) (r .first, r .last) ≡ bar x → Clear c from to (strokeOf t) → ⊥
+    upright-met x f k =
+        let N = of-nearest (spanAt from to) (length from) _ x (rw cells at f) in
+        let clear = subst (Clear c from to) is k in
+        clear x (N .corner) (N .at, N .between, N .has)
+      where
+        is : strokeOf t ≡ upright (t .a — t .b) (t .column)
+        is = rw u
+
+-- the gap of a stroke that was read, as it is put: an upright has none, nor has a level stroke whose bars are neighbours
+pub upright-gap : (c : Chart) (t : code.Stroke) → t .upright ≡ true → (d : Cell) → InGap c (strokeOf t) d → ⊥
+upright-gap c t u d g = rw u at g
+
+module _ (c : Chart) (t : code.Stroke) {r : Ends} (l : t .upright ≡ false) (E : EndsOf c t r) where
+  flat : strokeOf t ≡ level (t .a — t .b)
+  flat = rw l
+
+  flat-cells : (r .first, r .last) ≡ ends c (level (t .a — t .b))
+  flat-cells = E .same ∙ ap (ends c) flat
+
+  pub narrow-gap : r .last .column ≤ r .first .column + 1 → Gapped c (strokeOf t) → (d : Cell) → InGap c (strokeOf t) d → ⊥
+  narrow-gap h G d g = go (subst (λ (e : Cell × Cell). (e .0 .row ≡ e .1 .row) × (e .0 .column < e .1 .column)) (sym flat-cells) (subst (Gapped c) flat G))
+      (subst (λ (e : Cell × Cell). Inside e d) (sym flat-cells) (subst (λ (s : Stroke). InGap c s d) flat g))
+    where
+      go : (r .first .row ≡ r .last .row) × (r .first .column < r .last .column) → Inside (r .first, r .last) d → ⊥
+      go m (inl w) = omega (arith, w, m)
+      go m (inr w) = omega (arith, w, m)
+
+  -- the first cell lies at or before the end of the lower corner's bar
+  pub first-before : address (r .first) ≤ endOf (c .bar (t .a))
+  first-before = subst (λ (e : Cell × Cell). address (e .0) ≤ endOf (c .bar (t .a))) (sym flat-cells) (omega arith)
+
+  pub gap-put : r .first .column + 1 < r .last .column → (es to : List ℕ) (a b at : ℕ) → a ≡ address (r .first) → b ≡ address (r .last) → Cut es a at → GapPut c (strokeOf t) es to (set to at (b - 1))
+  gap-put h es to a b at ea eb C = record {
+    edge = t .a — t .b;
+    flat = flat;
+    wide = subst (λ (e : Cell × Cell). e .0 .column + 1 < e .1 .column) flat-cells h;
+    at = at;
+    cut = subst (λ (e : Cell × Cell). Cut es (address (e .0)) at) flat-cells (subst (λ (x : ℕ). Cut es x at) ea C);
+    end = b - 1;
+    before = subst (λ (e : Cell × Cell). b - 1 + 1 ≡ address (e .1)) flat-cells (omega arith);
+    stored = refl;
+  }

@@ -1,14 +1,20 @@
 -- Whether two kinds of cells have a cell in common: decisions. What each decides is its type; they compute with areas.
 use mathlib.Core.Path.{_≡_, sym, _∙_}
 use mathlib.Core.Logic.{inl, inr}
-use Prim.Native.Nat.{suc, _≤_, _<_, min, max}
+use Prim.Native.Nat.{ℕ, suc, _≤_, _<_, min, max}
 use native.Mathlib.Decide.{decLt, ℕ-discrete}
 use native.Mathlib.Omega.{arith}
 use Rattle.lists.specs.Lists.{choose, recast?}
 use Rattle.chart.specs.Chart.{Bar}
 use Rattle.chart_reader.specs.declared.Cell.{Cell}
-use Rattle.chart_reader.specs.declared.Area.{Area}
 use Rattle.chart_reader.specs.Cells.{cell, HasCell, Inside, CommonCell, Stands}
+
+-- the cells of the rows from `top` to before `bottom` in the columns from `left` to before `right`
+pub record Area : Type 0 where
+  pub top : ℕ
+  pub bottom : ℕ
+  pub left : ℕ
+  pub right : ℕ
 
 -- the cell lies in the area
 abbrev pub InArea : Area → Cell → Type 0

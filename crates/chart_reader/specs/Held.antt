@@ -1,33 +1,24 @@
 -- How the code holds a chart, for its contracts.
 use mathlib.Core.Path.{_≡_}
 use mathlib.Core.Bool.{false}
-use mathlib.Core.List.{List, [], _∷_, flatMap}
-use Prim.Native.Nat.{ℕ, _+_, _*_, _-_, _≤_, _<_}
-use native.Mathlib.Decide.{decLt}
+use mathlib.Core.List.{List}
+use Prim.Native.Nat.{ℕ, _+_, _*_, _≤_, _<_}
 use lib.ListN.{length, getD}
-use Rattle.lists.specs.Lists.{All, choose}
+use Rattle.lists.specs.Lists.{All}
 use Rattle.polygon.specs.Polygon.{Edge, Ascending}
 use Rattle.sheet.specs.declared.Read.{Read}
 use Rattle.sheet.specs.declared.Read.the-variants.{Refused, Held}
-use Rattle.chart.specs.Chart.{Bar, Stroke, upright, level, Chart}
-use Rattle.chart.specs.Decode.{barOn, countIn, barAt, places, behind, strokePlaces, strokeOf}
+use Rattle.chart.specs.Chart.{Bar, Stroke, Chart}
+use Rattle.chart.specs.Decode.{countIn, places, behind, strokePlaces, strokeOf}
 use Rattle.chart.specs.declared.Stroke as code
 use Rattle.chart_reader.specs.declared.Cell.{Cell}
 use Rattle.chart_reader.specs.declared.Ends.{Ends}
-use Rattle.chart_reader.specs.Cells.{HasCell, Inside, CommonCell}
 use Rattle.chart_reader.specs.Formed.{Formed}
 use Rattle.chart_reader.specs.Rules.{ends}
 
 -- numbers of a cell of two bytes
 abbrev pub SmallCell : Cell → Type 0
 SmallCell p = (p .row < 65536) × (p .column < 65536)
-
--- of the m bars from a place on, none has a cell of the kind P, or some has
-abbrev pub NoBar : List ℕ → ℕ → ℕ → (Cell → Type 0) → Type 0
-NoBar s from m P = (x : ℕ) → x < m → ¬ CommonCell P (HasCell (barAt s (from + 6 * x)))
-
-abbrev pub SomeBar : List ℕ → ℕ → ℕ → (Cell → Type 0) → Type 0
-SomeBar s from m P = (x : ℕ) × (x < m) × CommonCell P (HasCell (barAt s (from + 6 * x)))
 
 -- the map bytes of k strokes have at most bit 0, and the strokes end where the bytes end
 pub record Ending (s : List ℕ) (from k : ℕ) : Type 0 where
@@ -59,30 +50,6 @@ pub record EndsOf (c : Chart) (t : code.Stroke) (r : Ends) : Type 0 where
   pub same : (r .first, r .last) ≡ ends c (strokeOf t)
   pub first-small : SmallCell (r .first)
   pub last-small : SmallCell (r .last)
-
--- the gap between two cells of a row, as a bar; the gaps of the level strokes, those without a cell left out
-abbrev pub gapBar : Cell × Cell → Bar
-gapBar e = barOn (e .0 .row) (e .0 .column + 1) (e .1 .column - 1)
-
-unfoldable pub gapIn : Cell × Cell → List Bar
-gapIn e = choose (decLt (e .0 .column + 1) (e .1 .column)) (gapBar e ∷ []) []
-
-abbrev pub gapOf : Chart → Stroke → List Bar
-gapOf c (level e) = gapIn (ends c (level e))
-gapOf c (upright e j) = []
-
-abbrev pub gapsOf : Chart → List Bar
-gapsOf c = flatMap (gapOf c) (c .strokes)
-
--- the first g bars in the bytes are the gaps of the level strokes
-pub record GapsIn (c : Chart) (gaps : List ℕ) (g : ℕ) : Type 0 where
-  pub count : g ≡ length (gapsOf c)
-  pub bars : (k : ℕ) → k < g → barAt gaps (0 + 6 * k) ≡ getD (gapsOf c) k (barOn 0 0 0)
-
--- of an upright: none of the first g gaps in the bytes stands between its two cells
-abbrev pub Clear : Chart → List ℕ → ℕ → Stroke → Type 0
-Clear c gaps g (level e) = Unit {0}
-Clear c gaps g (upright e j) = NoBar gaps 0 g (Inside (ends c (upright e j)))
 
 -- the edges of a chart of n corners that keeps the rule of strokes
 pub record EdgesOf (n : ℕ) (es : List Edge) : Type 0 where

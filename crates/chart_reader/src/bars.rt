@@ -1,12 +1,14 @@
 // Whether the bars keep their rule.
 ghost use mathlib.Core.Path.{_≡_};
 ghost use mathlib.Core.Bool.{true, false};
-ghost use Rattle.lists.specs.Lists.{All, Sorted, below};
+ghost use Prim.Native.Nat.{_≤_};
+ghost use lib.ListN.{length};
+ghost use Rattle.lists.specs.Lists.{All, below};
 ghost use Rattle.chart.specs.Decode.{chartIn, barOf};
-ghost use Rattle.chart_reader.specs.Rules.{LiesIn, Lies, Apart, BarRule};
+ghost use Rattle.chart_reader.specs.Rules.{LiesIn, Lies, BarRule};
 ghost use Rattle.chart_reader.specs.Held.{Bars};
-use crate::question::any_within;
-use crate::question::bar_area;
+ghost use Rattle.chart_reader.specs.Order.{Ordered};
+use crate::order::put_in_order;
 use chart::Bar;
 use chart::corner_bar;
 use codec::get16;
@@ -43,30 +45,22 @@ fn all_lie(chart: &[u8], n: usize) -> bool
     true
 }
 
-// Whether no two bars share a cell: each is held against those before it.
-fn all_apart(chart: &[u8], n: usize) -> bool
-    requires { ⌜ Bars (now chart) n ⌝ }
-    ensures yes { λ r. ⌜ (r ≡ true → Sorted (Apart (chartIn (now (chart .entry)))) (below n)) ⌝ }
-    ensures no { λ r. ⌜ (r ≡ false → Sorted (Apart (chartIn (now (chart .entry)))) (below n) → ⊥) ⌝ }
-{
-    let mut x = 0;
-    while x < n {
-        if any_within(chart, 6, x, bar_area(corner_bar(chart, x))) {
-            return false;
-        }
-        x += 1;
-    }
-    true
-}
-
-// Whether the bars keep their rule.
-pub fn bars_keep(chart: &[u8], n: usize) -> bool
-    requires { ⌜ Bars (now chart) n ⌝ }
-    ensures yes { λ r. ⌜ (r ≡ true → BarRule (chartIn (now (chart .entry)))) ⌝ }
+// Whether the bars keep their rule, with the bars in order in the tables if they do.
+pub fn bars_keep(
+    chart: &[u8],
+    n: usize,
+    starts: &mut [u32],
+    ends: &mut [u32],
+    corners: &mut [u16],
+) -> bool
+    requires bars { ⌜ Bars (now chart) n × (n ≤ 1024) ⌝ }
+    requires sizes { ⌜ (length (now starts) ≡ n) × (length (now ends) ≡ n) × (length (now corners) ≡ n) ⌝ }
+    ensures yes { λ r. ⌜ (r ≡ true → BarRule (chartIn (now (chart .entry)))
+        × Ordered (chartIn (now (chart .entry)) .bar) n (now (starts .exit)) (now (ends .exit)) (now (corners .exit))) ⌝ }
     ensures no { λ r. ⌜ (r ≡ false → BarRule (chartIn (now (chart .entry))) → ⊥) ⌝ }
 {
     if !all_lie(chart, n) {
         return false;
     }
-    all_apart(chart, n)
+    put_in_order(chart, n, starts, ends, corners)
 }

@@ -1,26 +1,31 @@
 // Read a chart: the bytes of a chart, ours or another's, to the normal sheet of the part that it shows.
-// frame.rt finds the strokes in the bytes, question.rt asks whether a bar stands between two cells, bars.rt, strokes.rt, gaps.rt and part.rt test the rules.
-// The definitions that the contracts cite are in specs/: Reader.antt has the tests in their order, Rules.antt the rules, crate chart's Decode.antt the bytes, Held.antt how the code holds a chart.
+// frame.rt finds the strokes in the bytes, order.rt puts the bars in order, question.rt asks for the bar nearest a cell, bars.rt, strokes.rt, gaps.rt and part.rt test the rules;
+// follow.rt asks the same for others.
+// The definitions that the contracts cite are in specs/: Reader.antt has the tests in their order, Rules.antt the rules, crate chart's Decode.antt the bytes, Nearest.antt and Follow.antt the nearest bar,
+// Held.antt, Order.antt and Gaps.antt how the code holds a chart.
 ghost use mathlib.Core.Path.{_≡_};
 ghost use lib.ListN.{length};
 ghost use Rattle.codec.specs.Answer.{answered, written};
 ghost use Rattle.sheet.specs.Held.{Reads};
 ghost use Rattle.chart_reader.specs.Reader.{readChart, chartRead};
-ghost use Rattle.chart_reader.specs.Held.{NoAngles};
+ghost use Rattle.chart_reader.specs.Held.{StrokesFound, NoAngles};
 use crate::bars::bars_keep;
 use crate::frame::frame;
 use crate::gaps::gaps_keep;
 use crate::part::part;
 use crate::strokes::strokes_keep;
 use codec::Written;
+use keys::CORNERS;
 use keys::EDGES;
 use sheet::Head;
 use sheet::Read;
 use sheet::writer::write_keys;
 
 pub mod bars;
+pub mod follow;
 pub mod frame;
 pub mod gaps;
+pub mod order;
 pub mod part;
 pub mod question;
 pub mod strokes;
@@ -37,12 +42,49 @@ pub struct Ends {
     pub last: Cell,
 }
 
-// The cells of the rows from `top` to before `bottom` in the columns from `left` to before `right`.
-pub struct Area {
-    pub top: usize,
-    pub bottom: usize,
-    pub left: usize,
-    pub right: usize,
+// The answer to the question which bar is nearest: that of a corner, or none.
+pub enum Nearest {
+    None,
+    Bar(usize),
+}
+
+// The same for the bytes of a chart, which may be refused.
+pub enum Followed {
+    None,
+    Bar(usize),
+    Refused(u16),
+}
+
+// Reads a chart whose strokes were found, with tables for the bars in order and for the edges.
+fn read_found(
+    chart: &[u8],
+    at: &[usize],
+    n: usize,
+    starts: &mut [u32],
+    ends: &mut [u32],
+    corners: &mut [u16],
+    edges: &mut [u32],
+    keys: &mut [u32],
+) -> Read
+    requires found { ⌜ StrokesFound (now chart) n (now at) ⌝ }
+    requires bars { ⌜ (length (now starts) ≡ n) × (length (now ends) ≡ n) × (length (now corners) ≡ n) ⌝ }
+    requires edges { ⌜ (length (now edges) ≡ length (now at)) × (length (now keys) ≡ 2045) ⌝ }
+    ensures part { λ r. ⌜ Reads (readChart (now (chart .entry))) r (now (keys .exit)) ⌝ }
+    ensures bare { λ r. ⌜ NoAngles r ⌝ }
+{
+    if !bars_keep(chart, n, starts, ends, corners) {
+        return Read::Refused(15);
+    }
+    if !strokes_keep(chart, at, n, starts, ends, corners, edges) {
+        return Read::Refused(16);
+    }
+    if !gaps_keep(chart, at, n, starts, ends) {
+        return Read::Refused(17);
+    }
+    if !part(edges, n, keys) {
+        return Read::Refused(18);
+    }
+    Read::Held(Head { n, angled: false })
 }
 
 // Reads a chart: the part's head, with the keys of its diagonals in the table, ascending, or a refusal.
@@ -56,21 +98,21 @@ pub fn read_part(chart: &[u8], keys: &mut [u32]) -> Read
     if n == 0 {
         return Read::Refused(14);
     }
-    if !bars_keep(chart, n) {
-        return Read::Refused(15);
-    }
     let m = 2 * n - 3;
+    let mut starts = [0u32; CORNERS];
+    let mut ends = [0u32; CORNERS];
+    let mut corners = [0u16; CORNERS];
     let mut edges = [0u32; EDGES];
-    if !strokes_keep(chart, &at[..m], n, &mut edges) {
-        return Read::Refused(16);
-    }
-    if !gaps_keep(chart, &at[..m], n) {
-        return Read::Refused(17);
-    }
-    if !part(&edges[..m], n, keys) {
-        return Read::Refused(18);
-    }
-    Read::Held(Head { n, angled: false })
+    read_found(
+        chart,
+        &at[..m],
+        n,
+        &mut starts[..n],
+        &mut ends[..n],
+        &mut corners[..n],
+        &mut edges[..m],
+        keys,
+    )
 }
 
 // Read a chart: the normal sheet of the part that it shows.

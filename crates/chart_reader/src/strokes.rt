@@ -1,7 +1,7 @@
 // Whether the strokes keep their rule: their corners, their order, and their bars.
 ghost use mathlib.Core.Path.{_≡_};
 ghost use mathlib.Core.Bool.{true, false};
-ghost use Prim.Native.Nat.{_≤_, max};
+ghost use Prim.Native.Nat.{_≤_};
 ghost use lib.ListN.{length, take};
 ghost use Rattle.lists.specs.Lists.{All};
 ghost use Rattle.keys.specs.Keys.{edgesOf};
@@ -9,9 +9,12 @@ ghost use Rattle.chart.specs.Decode.{chartIn, barOf, strokeOf};
 ghost use Rattle.chart_reader.specs.Cells.{cell};
 ghost use Rattle.chart_reader.specs.Rules.{Named, Joins, BarsFit, StrokeRule, edgesIn};
 ghost use Rattle.chart_reader.specs.Held.{Bars, StrokesFound, StrokeIn, EndsOf, HasColumn};
+ghost use Rattle.chart_reader.specs.Order.{Ordered};
 use crate::Cell;
 use crate::Ends;
-use crate::question::bar_between;
+use crate::Nearest;
+use crate::question::greater;
+use crate::question::nearest_corner;
 use chart::Bar;
 use chart::Stroke;
 use chart::corner_bar;
@@ -73,12 +76,6 @@ fn joins(chart: &[u8], s: Stroke, n: usize) -> bool
     spans(b, s.column)
 }
 
-fn greater(x: usize, y: usize) -> usize
-    ensures { λ r. ⌜ r ≡ max x y ⌝ }
-{
-    if x < y { y } else { x }
-}
-
 // The cells in columns i and j of the rows of two bars.
 fn cells(a: Bar, b: Bar, i: usize, j: usize) -> Ends
     ensures { λ r. ⌜ (r .first ≡ cell (a .row) i) × (r .last ≡ cell (b .row) j) ⌝ }
@@ -110,8 +107,9 @@ pub fn stroke_ends(chart: &[u8], s: Stroke, n: usize) -> Ends
 }
 
 // Whether the bars of a stroke fit: they are joined, with no bar between.
-fn fits(chart: &[u8], s: Stroke, n: usize) -> bool
-    requires { ⌜ StrokeIn n s × Bars (now chart) n ⌝ }
+fn fits(chart: &[u8], s: Stroke, n: usize, starts: &[u32], ends: &[u32], corners: &[u16]) -> bool
+    requires stroke { ⌜ StrokeIn n s × Bars (now chart) n ⌝ }
+    requires tables { ⌜ Ordered (chartIn (now chart) .bar) n (now starts) (now ends) (now corners) ⌝ }
     ensures yes { λ r. ⌜ (r ≡ true → BarsFit (chartIn (now (chart .entry))) (strokeOf s)) ⌝ }
     ensures no { λ r. ⌜ (r ≡ false → BarsFit (chartIn (now (chart .entry))) (strokeOf s) → ⊥) ⌝ }
 {
@@ -119,19 +117,30 @@ fn fits(chart: &[u8], s: Stroke, n: usize) -> bool
         return false;
     }
     let e = stroke_ends(chart, s, n);
-    !bar_between(chart, 6, n, e.first, e.last)
+    match nearest_corner(starts, ends, corners, e.first, e.last) {
+        Nearest::None => true,
+        Nearest::Bar(_) => false,
+    }
 }
 
 // Whether the bars of each stroke do.
-fn all_fit(chart: &[u8], at: &[usize], n: usize) -> bool
-    requires { ⌜ StrokesFound (now chart) n (now at) × All (Named (chartIn (now chart))) (chartIn (now chart) .strokes) ⌝ }
+fn all_fit(
+    chart: &[u8],
+    at: &[usize],
+    n: usize,
+    starts: &[u32],
+    ends: &[u32],
+    corners: &[u16],
+) -> bool
+    requires strokes { ⌜ StrokesFound (now chart) n (now at) × All (Named (chartIn (now chart))) (chartIn (now chart) .strokes) ⌝ }
+    requires tables { ⌜ Ordered (chartIn (now chart) .bar) n (now starts) (now ends) (now corners) ⌝ }
     ensures yes { λ r. ⌜ (r ≡ true → All (BarsFit (chartIn (now (chart .entry)))) (chartIn (now (chart .entry)) .strokes)) ⌝ }
     ensures no { λ r. ⌜ (r ≡ false → All (BarsFit (chartIn (now (chart .entry)))) (chartIn (now (chart .entry)) .strokes) → ⊥) ⌝ }
 {
     let mut i = 0;
     while i < at.len() {
         let s = stroke_at(chart, at[i]);
-        if !fits(chart, s, n) {
+        if !fits(chart, s, n, starts, ends, corners) {
             return false;
         }
         i += 1;
@@ -140,8 +149,17 @@ fn all_fit(chart: &[u8], at: &[usize], n: usize) -> bool
 }
 
 // Whether the strokes keep their rule, with the keys of their edges in the table if they do.
-pub fn strokes_keep(chart: &[u8], at: &[usize], n: usize, keys: &mut [u32]) -> bool
-    requires { ⌜ StrokesFound (now chart) n (now at) × (length (now at) ≤ length (now keys)) ⌝ }
+pub fn strokes_keep(
+    chart: &[u8],
+    at: &[usize],
+    n: usize,
+    starts: &[u32],
+    ends: &[u32],
+    corners: &[u16],
+    keys: &mut [u32],
+) -> bool
+    requires strokes { ⌜ StrokesFound (now chart) n (now at) × (length (now at) ≤ length (now keys)) ⌝ }
+    requires tables { ⌜ Ordered (chartIn (now chart) .bar) n (now starts) (now ends) (now corners) ⌝ }
     ensures yes { λ r. ⌜ (r ≡ true → StrokeRule (chartIn (now (chart .entry)))
         × (edgesOf (take (length (now (at .entry))) (now (keys .exit))) ≡ edgesIn (chartIn (now (chart .entry))))) ⌝ }
     ensures no { λ r. ⌜ (r ≡ false → StrokeRule (chartIn (now (chart .entry))) → ⊥) ⌝ }
@@ -153,5 +171,5 @@ pub fn strokes_keep(chart: &[u8], at: &[usize], n: usize, keys: &mut [u32]) -> b
     if !ascends(&keys[..m]) {
         return false;
     }
-    all_fit(chart, at, n)
+    all_fit(chart, at, n, starts, ends, corners)
 }

@@ -1,5 +1,5 @@
 -- What a C caller reads from the number that an operation returns: the functions of include/bend.h, one for one. The number of an answer of each kind is `packed` (Answer.antt),
--- `packedPlan` (crate plan) and `packedRun` (crate edit_list).
+-- `packedPlan` (crate plan), `packedRun` (crate edit_list) and `packedFound` (crate chart_reader).
 use mathlib.Core.Path.{_≡_}
 use Prim.Native.Nat.{ℕ, _/_, _%_, _<_}
 use Rattle.codec.specs.Answer.{Answer, packed}
@@ -28,6 +28,10 @@ umbrellasIn answer = answer / 4294967296 % 65536
 
 abbrev pub stemsIn : ℕ → ℕ
 stemsIn answer = answer / 281474976710656 % 65536
+
+-- bend_corner, of the nearest bar: `answer >> 16`, the corner and one, or 0 for none
+abbrev pub cornerIn : ℕ → ℕ
+cornerIn answer = answer / 65536
 
 -- "Every function returns one number of 64 bits."
 abbrev pub OneNumber : ℕ → Type 0

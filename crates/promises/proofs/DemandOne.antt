@@ -1,4 +1,4 @@
--- Demand 1 is proved, by the law of every operation that writes bytes (crate codec, proofs/Refusals.antt) and the cases of the other three.
+-- Demand 1 is proved, by the law of every operation that writes bytes (crate codec, proofs/Refusals.antt) and the cases of the other four.
 use mathlib.Core.Path.{_≡_, refl}
 use mathlib.Core.Logic.{_⊎_, inl, inr}
 use mathlib.Core.List.{List, [], _∷_, _++_}
@@ -7,7 +7,7 @@ use native.Mathlib.Decide.{ℕ-discrete}
 use native.Mathlib.Omega.{arith}
 use lib.ListN.{length}
 use lib.Seq.{take-append-seam, drop-append-seam}
-use Rattle.lists.specs.Lists.{choose, numbers}
+use Rattle.lists.specs.Lists.{head, tail, choose, numbers}
 use Rattle.lists.proofs.Lists.{all-mem, here, mem-left, mem-right}
 use Rattle.lists.proofs.Places.{numbers-mem}
 use Rattle.polygon.specs.Polygon.{Polygon}
@@ -25,10 +25,14 @@ use Rattle.edit_list.proofs.Tests.{Number, fault-number}
 use Rattle.plan.specs.Answer.{answer, planned}
 use Rattle.chart.specs.Chart.{barsOf, chartOf}
 use Rattle.chart.specs.Bytes.{bytesOf}
+use Rattle.chart.specs.Decode.{chartIn}
+use Rattle.chart_reader.specs.declared.Cell.{Cell}
+use Rattle.chart_reader.specs.Follow.{FollowAnswer}
+use Rattle.chart_reader.proofs.Following.{Follows, by-14, by-15, by-9, found, by-answer}
 use Rattle.chart_reader.proofs.Refusals.{chart-settled}
 use Rattle.draw.specs.Answer.{chartedBoth, drawnWithBars}
 use Rattle.draw.proofs.Refusals.{drawn-settled}
-use Rattle.promises.specs.DemandOne.{PlanAnswers, PlanFinished, PlanRefusal, BothFinished, BothRefusal, BothAnswers, numbersOut, RunFinished, RunRefusal, RunAnswers, DemandOne}
+use Rattle.promises.specs.DemandOne.{PlanAnswers, PlanFinished, PlanRefusal, BothFinished, BothRefusal, BothAnswers, numbersOut, FoundFinished, FoundRefusal, FoundAnswers, RunFinished, RunRefusal, RunAnswers, DemandOne}
 
 -- the numbers of the tests of a list
 abbrev listTests : List ℕ
@@ -56,6 +60,15 @@ both-answers s out bars = go (readSheet s) refl (read-refuses s)
           | inl w ↦ inl (p, e, rw (w .1) (record { chart = whole-finished bs out; told = refl; result = take-append-seam cs _; beyond = drop-append-seam cs _ }))
           | inr w ↦ inr (rw (w .1) (record { bytes = refusal-refuses out (mem-right sheetTests here) (omega arith, omega arith); nothing = refl; untouched = refl }))
         ]
+
+found-answers : (c : List ℕ) (e : Cell × Cell) → FoundAnswers (14 ∷ 15 ∷ 9 ∷ []) c e
+found-answers c e = go (by-answer c e refl)
+  where
+    go : {a : FollowAnswer} → Follows c e a → FoundFinished (chartIn c) e a ⊎ FoundRefusal (14 ∷ 15 ∷ 9 ∷ []) a
+    go (by-14 f) = inr (record { published = head refl; proper = (omega arith, omega arith); nothing = refl })
+    go (by-15 F f) = inr (record { published = tail (head refl); proper = (omega arith, omega arith); nothing = refl })
+    go (by-9 F B f) = inr (record { published = tail (tail (head refl)); proper = (omega arith, omega arith); nothing = refl })
+    go (found F B A) = inl (record { zero = refl; bar = refl })
 
 run-answers : (first list : List ℕ) → RunAnswers listTests first list
 unfolding resultOf choose finished numbered numbers
@@ -88,5 +101,6 @@ demand-one = record {
   draw = drawn-settled;
   draw-bars = both-answers;
   read-chart = chart-settled;
+  nearest-bar = found-answers;
   run = run-answers;
 }

@@ -25,6 +25,8 @@ use Rattle.chart.specs.Decode.{shaped, places, behind}
 use Rattle.chart_reader.specs.Areas.{common?, common-of, between, stands?, shares?, crosses?}
 use Rattle.chart_reader.specs.Formed.{formed?}
 use Rattle.chart_reader.specs.Rules.{partSides}
+use Rattle.chart_reader.specs.Nearest as near
+use Rattle.chart_reader.specs.Follow.{on-chart?, asked?, nearestBar}
 use Rattle.chart_reader.specs.Reader.{bars?, free?, joins?, strokes?, passes?, gaps?, part?, readChart, chartRead}
 use Rattle.log_line.specs.Line.{digits, decimal, line, refusedLine}
 use Rattle.draw.specs.Answer as draw
@@ -38,6 +40,7 @@ unfolding sheet barsIn columnsIn valuesIn piece readSheet ask pairs angles carri
     refusedLine chartOf chart layout treeOf grow far farther near? span chordsAt best umbrella leftAt rightAt stemAt over-node ud fold cols rows edges edgesAt
     edgesPast barsOf barRows closedRow closed meets? first last stroke barBytes strokeBytes bytesOf flatMap rowsIn
     chartRead readChart formed? places behind shaped bars? free? joins? strokes? passes? gaps? part? partSides common? common-of between stands? shares? crosses? strokeEdge
+    near.first near.orElse near.toward near.steps near.has? near.lowestAt near.nearest on-chart? asked? nearestBar
 known =
     all-cons refl (all-cons refl (all-cons refl (all-cons refl (all-cons refl (all-cons refl (all-cons refl
     (all-cons refl (all-cons refl (all-cons refl (all-cons refl (all-cons refl (all-cons refl (all-cons refl
@@ -48,4 +51,7 @@ known =
     (all-cons refl (all-cons refl (all-cons refl (all-cons refl (all-cons refl (all-cons refl (all-cons refl
     (all-cons refl (all-cons refl (all-cons refl (all-cons refl (all-cons refl (all-cons refl (all-cons refl
     (all-cons refl (all-cons refl (all-cons refl (all-cons refl (all-cons refl (all-cons refl (all-cons refl
-    (all-cons refl (all-cons refl (all-cons refl all-nil)))))))))))))))))))))))))))))))))))))))))))))))))))))))))))))))))
+    (all-cons refl (all-cons refl (all-cons refl (all-cons refl (all-cons refl (all-cons refl (all-cons refl
+    (all-cons refl (all-cons refl (all-cons refl (all-cons refl (all-cons refl (all-cons refl (all-cons refl
+    (all-cons refl (all-cons refl (all-cons refl (all-cons refl (all-cons refl (all-cons refl (all-cons refl
+    (all-cons refl (all-cons refl (all-cons refl (all-cons refl all-nil)))))))))))))))))))))))))))))))))))))))))))))))))))))))))))))))))))))))))))))))))))))))

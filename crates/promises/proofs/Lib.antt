@@ -8,3 +8,4 @@ pub mod PartNumbers
 pub mod BendAngles
 pub mod DepthInOrder
 pub mod RowsWithoutBars
+pub mod NearestBar

@@ -22,7 +22,11 @@ use Rattle.umbrella.specs.Best.{planOf}
 use Rattle.plan.specs.Answer.{PlanAnswer, countsOf, planned}
 use Rattle.chart.specs.Chart.{Bar, Chart, barsOf, chartOf}
 use Rattle.chart.specs.Bytes.{bytesOf}
+use Rattle.chart.specs.Decode.{chartIn}
+use Rattle.chart_reader.specs.declared.Cell.{Cell}
 use Rattle.chart_reader.specs.Reader.{chartRead}
+use Rattle.chart_reader.specs.Nearest.{none, nearest}
+use Rattle.chart_reader.specs.Follow.{FollowAnswer, nearestBar}
 use Rattle.draw.specs.Answer.{drawn, drawnWithBars}
 
 -- an operation that is to do o, whatever output is lent
@@ -83,6 +87,19 @@ abbrev pub RunAnswers : List ℕ → List ℕ → List ℕ → Type 0
 RunAnswers ks first list = (front back outs : List ℕ)
     → RunFinished first list front back outs (resultOf first list front back outs) ⊎ RunRefusal ks front back outs (resultOf first list front back outs)
 
+-- The nearest bar of request (x), which writes nothing either
+pub record FoundFinished (c : Chart) (e : Cell × Cell) (a : FollowAnswer) : Type 0 where
+  pub zero : a .number ≡ 0
+  pub bar : a .found ≡ nearest (c .bar) (c .n) e
+
+pub record FoundRefusal (ks : List ℕ) (a : FollowAnswer) : Type 0 where
+  pub published : Mem (a .number) ks
+  pub proper : Proper (a .number)
+  pub nothing : a .found ≡ none
+
+abbrev pub FoundAnswers : List ℕ → List ℕ → Cell × Cell → Type 0
+FoundAnswers ks s e = FoundFinished (chartIn s) e (nearestBar s e) ⊎ FoundRefusal ks (nearestBar s e)
+
 pub record DemandOne : Type 0 where
   -- Set in order
   pub order : (s : List ℕ) → Answers (1 ∷ 2 ∷ 3 ∷ 4 ∷ 5 ∷ 6 ∷ 7 ∷ 23 ∷ 8 ∷ []) (ordered s)
@@ -99,5 +116,7 @@ pub record DemandOne : Type 0 where
   pub draw-bars : (s : List ℕ) → BothAnswers (1 ∷ 2 ∷ 3 ∷ 4 ∷ 5 ∷ 6 ∷ 7 ∷ 23 ∷ 8 ∷ []) s
   -- Read a chart. "14 .. 15 .. 16 .. 17 .. 18 .. 8."
   pub read-chart : (c : List ℕ) → Answers (14 ∷ 15 ∷ 16 ∷ 17 ∷ 18 ∷ 8 ∷ []) (chartRead c)
+  -- The nearest bar: 14, 15, 9 (crate chart_reader, specs/Follow.antt).
+  pub nearest-bar : (c : List ℕ) (e : Cell × Cell) → FoundAnswers (14 ∷ 15 ∷ 9 ∷ []) c e
   -- A list of edits in bytes: 32 to 35 (crate edit_list, specs/Script.antt).
   pub run : (first list : List ℕ) → RunAnswers (32 ∷ 33 ∷ 34 ∷ 35 ∷ []) first list

@@ -1,8 +1,9 @@
--- The known parts of document 01 that are marked M, with the closed rows of request (v), one part more, and the known sheets of requests (iv), (v), (xi) and (xii), as one list of cases, each on a sheet's bytes.
+-- The known parts of document 01 that are marked M, with the closed rows of request (v), one part more, the known sheets of requests (iv), (v), (xi) and (xii), and known bars of request (x), as one list of cases.
 -- proofs/Known.antt proves them all. (Document 01's own rows, before closing up, are in crate chart, proofs/Known.antt.)
 use mathlib.Core.Path.{_≡_}
 use mathlib.Core.List.{List, [], _∷_, _++_}
 use Prim.Native.Nat.{ℕ}
+use lib.ListN.{length, getD}
 use Rattle.polygon.specs.Polygon.{Edge, _—_}
 use Rattle.polygon.specs.Tree.{piece}
 use Rattle.codec.specs.Numbers.{bytes16}
@@ -13,7 +14,12 @@ use Rattle.edit.specs.Calls.{edited}
 use Rattle.umbrella.specs.Values.{values}
 use Rattle.plan.specs.Answer.{planned}
 use Rattle.chart.specs.Chart.{Bar, barsOf, chartOf}
+use Rattle.chart_reader.specs.declared.Cell.{Cell}
+use Rattle.chart_reader.specs.Cells.{cell}
+use Rattle.chart_reader.specs.Nearest as near
+use Rattle.chart_reader.specs.Nearest.{Found, none, nearest}
 use Rattle.chart_reader.specs.Reader.{chartRead}
+use Rattle.chart_reader.specs.Follow.{FollowAnswer, followRefusal, nearestBar}
 use Rattle.draw.specs.Answer.{drawn}
 use Rattle.draw.specs.Printed.{printed}
 
@@ -62,7 +68,8 @@ abbrev pub bar : ℕ → ℕ → ℕ → Bar
 bar r l s = record { row = r; left = l; right = s }
 
 -- a case: a sheet refused by a number; one with these levels, umbrellas and stems; with these chart bytes; with these bars; with so many rows; with so many columns; a sheet whose diagonal is turned; one that is edited; one with this line;
--- a sheet and an output, and the answer of setting in order; a sheet with these six values at the edge (a,b); a chart that is read as a sheet
+-- a sheet and an output, and the answer of setting in order; a sheet with these six values at the edge (a,b); a chart that is read as a sheet;
+-- bars, two cells, and what is found between them; the same for a chart's bytes
 pub data Case : Type 0 where
   refusedBy : List ℕ → ℕ → Case
   counted : List ℕ → ℕ → ℕ → ℕ → Case
@@ -76,6 +83,8 @@ pub data Case : Type 0 where
   inOrder : List ℕ → List ℕ → Answer → Case
   valued : List ℕ → ℕ → ℕ → List ℕ → Case
   readAs : List ℕ → List ℕ → Case
+  found : List Bar → Cell × Cell → Found → Case
+  followed : List ℕ → Cell × Cell → FollowAnswer → Case
 
 abbrev pub Holds : Case → Type 0
 Holds (refusedBy s k) = readSheet s ≡ refused k
@@ -90,6 +99,8 @@ Holds (lined s bs) = printed s ≡ bs
 Holds (inOrder s out a) = written (ordered s) out ≡ a
 Holds (valued s a b xs) = valuesIn (readSheet s) a b ≡ xs
 Holds (readAs c s) = chartRead c ≡ write s
+Holds (found bs e f) = nearest (λ x. getD bs x (bar 0 0 0)) (length bs) e ≡ f
+Holds (followed c e a) = nearestBar c e ≡ a
 
 -- the triangle's chart with h rows and corner 1 on row r
 abbrev pub triangleChart : ℕ → ℕ → List ℕ
@@ -97,6 +108,16 @@ triangleChart h r =
     0 ∷ h ∷ 0 ∷ 2 ∷ 0 ∷ 3 ∷
     0 ∷ 0 ∷ 0 ∷ 0 ∷ 0 ∷ 0 ∷ 0 ∷ r ∷ 0 ∷ 0 ∷ 0 ∷ 1 ∷ 0 ∷ 0 ∷ 0 ∷ 1 ∷ 0 ∷ 1 ∷
     1 ∷ 0 ∷ 0 ∷ 0 ∷ 1 ∷ 0 ∷ 0 ∷ 0 ∷ 0 ∷ 0 ∷ 0 ∷ 2 ∷ 1 ∷ 0 ∷ 1 ∷ 0 ∷ 2 ∷ 0 ∷ 1 ∷ []
+
+-- two cells; the bars of n = 5, (0,3) (1,3), as document 01 gives them; bars not tested: two that share cells, one with left > right, and three above each other
+abbrev pub line : ℕ → ℕ → ℕ → ℕ → Cell × Cell
+line r j s k = (cell r j, cell s k)
+
+abbrev pub stemBars : List Bar
+stemBars = bar 0 0 3 ∷ bar 1 1 2 ∷ bar 1 0 0 ∷ bar 2 0 4 ∷ bar 0 4 4 ∷ []
+
+abbrev pub looseBars : List Bar
+looseBars = bar 3 0 9 ∷ bar 1 2 6 ∷ bar 1 0 4 ∷ bar 1 8 7 ∷ bar 2 0 0 ∷ []
 
 -- a part with one hung piece, one with two beside each other, of which the first alone has a stem, and one with several
 abbrev pub oneHung : List ℕ
@@ -207,4 +228,31 @@ cases =
     ∷ readAs (triangleChart 4 3) (sheet 3 [])
     ∷ readAs (triangleChart 3 1) (sheet 3 [])
     ∷ readAs (triangleChart 2 1) (sheet 3 [])
+    -- Request (x), "whether a bar stands between two cells of a row or column": either way along a column and a row
+    ∷ found stemBars (line 0 0 2 0) (near.bar 2)
+    ∷ found stemBars (line 2 1 0 1) (near.bar 1)
+    ∷ found stemBars (line 1 0 1 4) (near.bar 1)
+    ∷ found stemBars (line 2 3 0 3) none
+    -- "neither cell counted": neighbours, the same cell; a bar that also has an end cell counts by its cells between
+    ∷ found stemBars (line 0 0 1 0) none
+    ∷ found stemBars (line 1 1 1 1) none
+    ∷ found stemBars (line 1 0 1 1) none
+    ∷ found stemBars (line 0 2 0 4) (near.bar 0)
+    ∷ found stemBars (line 2 4 2 0) (near.bar 3)
+    -- "the corner of such a bar nearest the first cell", not the second, and not the lowest
+    ∷ found looseBars (line 0 0 4 0) (near.bar 2)
+    ∷ found looseBars (line 4 0 0 0) (near.bar 0)
+    ∷ found looseBars (line 1 9 1 0) (near.bar 1)
+    -- "(the lowest if bars share a cell)"; a bar with left > right has no cell; cells that are not of one row or column
+    ∷ found looseBars (line 0 3 4 3) (near.bar 1)
+    ∷ found looseBars (line 1 1 1 9) (near.bar 1)
+    ∷ found looseBars (line 1 6 1 9) none
+    ∷ found looseBars (line 0 0 3 3) none
+    -- of a chart's bytes: found, none; 14 and 15 before 9; 9 for a cell outside the chart, and for cells that are not of one row or column
+    ∷ followed (triangleChart 3 1) (line 0 0 2 0) (record { number = 0; found = near.bar 1 })
+    ∷ followed (triangleChart 3 2) (line 0 0 2 0) (record { number = 0; found = none })
+    ∷ followed [] (line 0 0 2 0) (followRefusal 14)
+    ∷ followed (triangleChart 3 3) (line 0 0 9 9) (followRefusal 15)
+    ∷ followed (triangleChart 3 1) (line 0 0 3 0) (followRefusal 9)
+    ∷ followed (triangleChart 3 1) (line 0 0 2 1) (followRefusal 9)
     ∷ []

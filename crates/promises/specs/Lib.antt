@@ -1,4 +1,4 @@
--- Read beside document 01, and beside requests (iv), (v), (xi) and (xii).
+-- Read beside document 01, and beside requests (iv), (v), (x), (xi) and (xii).
 pub mod DemandOne
 pub mod DemandTwo
 pub mod DemandThree
@@ -7,4 +7,5 @@ pub mod PartNumbers
 pub mod BendAngles
 pub mod DepthInOrder
 pub mod RowsWithoutBars
+pub mod NearestBar
 pub mod Known

@@ -7,56 +7,41 @@ use borrow.Author.Tests.{not-true, not-false}
 use native.Mathlib.Omega.{arith}
 use lib.ListN.{length, getD}
 use Rattle.chart.specs.Decode.{strokeAt, chartIn}
-use Rattle.chart_reader.specs.Held.{Clear}
+use Rattle.chart_reader.specs.Gaps.{Clear}
 use Rattle.chart_reader.proofs.Stroked.{strokes-all, strokes-at, bars-room, place-room, stroke-in}
 use Rattle.chart_reader.proofs.gaps.all_clear.Statement.{statement}
 use Rattle.chart_reader.proofs.gaps.all_clear.Tie as tie
 
 abbrev Inv-loop : tie.InvT-loop
-Inv-loop chart at n gaps g i₀ i = (i ≤ length at) × ((k : ℕ) → k < i → Clear (chartIn chart) gaps g (strokeAt chart (getD at k 0)))
+Inv-loop chart at n from to i₀ i = (i ≤ length at) × ((k : ℕ) → k < i → Clear (chartIn chart) from to (strokeAt chart (getD at k 0)))
 
 abbrev μ-loop : tie.MeasureT-loop
-μ-loop chart at n gaps g i₀ i = length at - i
+μ-loop chart at n from to i₀ i = length at - i
 
 loop-holds : tie.Need-loop-holds Inv-loop μ-loop
 loop-holds c = (omega arith, λ k h. absurd (omega arith))
 
 stroke-at-requires : tie.Need-stroke-at-requires Inv-loop μ-loop
-stroke-at-requires c κs = place-room _ _ _ (c .before .before .before .before .before .before .pre .0) (c .before .before .loop .i) (c .before .loop-test .taken)
+stroke-at-requires c κs = place-room _ _ _ (c .before .before .before .before .before .before .before .pre .0) (c .before .before .loop .i) (c .before .loop-test .taken)
 
 clear-requires : tie.Need-clear-requires Inv-loop μ-loop
-clear-requires c κs =
-    let at-loop-test = c .before .before in
-    let at-loop = at-loop-test .before in
-    let start = at-loop .before .before .before .before in
-    (stroke-in _ _ _ (start .pre .0) (at-loop .loop .i) (at-loop-test .loop-test .taken) (c .stroke-at .ensures) (start .pre .1), bars-room _ _ _ (start .pre .0), start .pre .2)
+clear-requires c κs = (stroke-in _ _ _ (c .before .before .before .before .before .before .before .before .pre .0) (c .before .before .before .loop .i) (c .before .before .loop-test .taken) (c .stroke-at .ensures) (c .before .before .before .before .before .before .before .before .pre .1), bars-room _ _ _ (c .before .before .before .before .before .before .before .before .pre .0), c .before .before .before .before .before .before .before .before .pre .2)
 
 returns : tie.Need-returns Inv-loop μ-loop
 returns c =
-    let at-clear = c .before in
-    let at-stroke-at = at-clear .before in
-    let at-loop-test = at-stroke-at .before .before in
-    let at-loop = at-loop-test .before in
-    let start = at-loop .before .before .before .before in
-    let s = start .args .chart .now in
-    let at = start .args .at .now in (
+    let a = c .before .before .before .before .before .before .before .before .before .before .args in
+    let s = a .chart .now in (
       λ h. absurd (false≢true h),
-      λ h a. at-clear .clear .ensures .1 (not-true _ (c .if1 .taken))
-          (subst (Clear (chartIn s) (start .args .gaps .now) (start .args .g)) (sym (at-stroke-at .stroke-at .ensures))
-          (strokes-at s (start .args .n) at (start .pre .0) a (at-loop .loop .i) (at-loop-test .loop-test .taken))),
+      λ h all. c .before .clear .ensures .1 (not-true _ (c .if1 .taken)) (subst (Clear (chartIn s) (a .from .now) (a .to .now)) (sym (c .before .before .stroke-at .ensures)) (strokes-at s (a .n) (a .at .now) (c .before .before .before .before .before .before .before .before .before .before .pre .0) all (c .before .before .before .before .before .loop .i) (c .before .before .before .before .loop-test .taken))),
     )
 
 loop-again : tie.Need-loop-again Inv-loop μ-loop
 loop-again c =
-    let at-clear = c .before in
-    let at-stroke-at = at-clear .before in
-    let at-loop = at-stroke-at .before .before .before in
-    let start = at-loop .before .before .before .before in
-    let s = start .args .chart .now in
-    (omega arith, below-more _ _ (at-loop .loop .inv .1) (subst (Clear (chartIn s) (start .args .gaps .now) (start .args .g)) (at-stroke-at .stroke-at .ensures) (at-clear .clear .ensures .0 (not-false _ (c .if1 .left)))))
+    let a = c .before .before .before .before .before .before .before .before .before .before .args in
+    (omega arith, below-more _ _ (c .before .before .before .before .before .loop .inv .1) (subst (Clear (chartIn (a .chart .now)) (a .from .now) (a .to .now)) (c .before .before .stroke-at .ensures) (c .before .clear .ensures .0 (not-false _ (c .if1 .left)))))
 
 returns-2 : tie.Need-returns-2 Inv-loop μ-loop
-returns-2 c = (λ h. strokes-all _ _ _ (c .before .before .before .before .before .pre .0) (λ k i. c .before .loop .inv .1 k (omega arith)), λ h. absurd (true≢false h))
+returns-2 c = (λ h. strokes-all _ _ _ (c .before .before .before .before .before .before .pre .0) (λ k i. c .before .loop .inv .1 k (omega arith)), λ h. absurd (true≢false h))
 
 pub all-clear-spec : {M : Type 1} → statement M
 all-clear-spec =

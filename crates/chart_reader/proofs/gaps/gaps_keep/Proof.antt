@@ -1,34 +1,25 @@
--- The gaps are written, and each upright is held against them.
+-- The tables are as long as there are corners.
+use mathlib.Core.Path.{sym}
 use borrow.Author.Needs.{needs}
 use native.Mathlib.Omega.{arith}
-use Rattle.chart.specs.Decode.{chartIn}
-use Rattle.chart_reader.proofs.Stroked.{strokes-room}
-use Rattle.chart_reader.proofs.Passing.{gapped, clear-rule, rule-clear}
+use lib.Seq.{length-take-le}
 use Rattle.chart_reader.proofs.gaps.gaps_keep.Statement.{statement}
 use Rattle.chart_reader.proofs.gaps.gaps_keep.Tie as tie
 
-put-gaps-requires : tie.Need-put-gaps-requires
-put-gaps-requires c κs =
-    let start = c .before .before .before in
-    (start .pre .0, start .pre .2 .0, omega (arith, strokes-room (start .args .chart .now) (start .args .n) (start .args .at .now) (start .pre .0), start .pre .0 .count, start .pre .0 .formed .most))
+array-borrow-prefix-from : tie.Need-array-borrow-prefix-from
+array-borrow-prefix-from c = omega (arith, c .before .before .before .before .pre .0 .0 .count, c .before .before .before .before .pre .0 .0 .formed .most)
 
-all-clear-requires : tie.Need-all-clear-requires
-all-clear-requires c κs =
-    let at-put-gaps = c .before .before in
-    let start = at-put-gaps .before .before .before .before in (
-      start .pre .0,
-      start .pre .2 .0,
-      omega (arith, at-put-gaps .put-gaps .ensures .1, at-put-gaps .put-gaps .kept .1 .1 .1 .0, strokes-room (start .args .chart .now) (start .args .n) (start .args .at .now) (start .pre .0), start .pre .0 .count, start .pre .0 .formed .most),
-    )
+slice-aggregate-none-passes : tie.Need-slice-aggregate-none-passes
+slice-aggregate-none-passes c = sym (length-take-le (c .before .before .before .before .before .args .n) _ (omega (arith, c .before .before .before .before .before .pre .0 .0 .count, c .before .before .before .before .before .pre .0 .0 .formed .most)))
 
-returns : tie.Need-returns
-returns c =
-    let at-put-gaps = c .before .before .before in
-    let start = at-put-gaps .before .before .before .before in
-    let chart = start .args .chart .now in (
-      λ h. clear-rule (chartIn chart) (gapped (chartIn chart) (start .pre .1) (start .pre .2)) (at-put-gaps .put-gaps .last .1 .1 .1 .0) (at-put-gaps .put-gaps .result) (at-put-gaps .put-gaps .ensures .0) (c .all-clear .ensures .0 h),
-      λ h R. c .all-clear .ensures .1 h (rule-clear (chartIn chart) (gapped (chartIn chart) (start .pre .1) (start .pre .2)) (at-put-gaps .put-gaps .last .1 .1 .1 .0) (at-put-gaps .put-gaps .result) (at-put-gaps .put-gaps .ensures .0) R),
-    )
+array-borrow-prefix-to : tie.Need-array-borrow-prefix-to
+array-borrow-prefix-to c = omega (arith, c .before .before .before .before .before .pre .0 .0 .count, c .before .before .before .before .before .pre .0 .0 .formed .most)
+
+slice-aggregate-none-passes-2 : tie.Need-slice-aggregate-none-passes-2
+slice-aggregate-none-passes-2 c = sym (length-take-le (c .before .before .before .before .before .before .args .n) _ (omega (arith, c .before .before .before .before .before .before .pre .0 .0 .count, c .before .before .before .before .before .before .pre .0 .0 .formed .most)))
+
+none-passes-requires : tie.Need-none-passes-requires
+none-passes-requires c κs = (c .before .before .before .before .before .before .pre .0, (c .before .before .before .before .before .before .pre .1, (length-take-le (c .before .before .before .before .before .before .args .n) _ (omega (arith, c .before .before .before .before .before .before .pre .0 .0 .count, c .before .before .before .before .before .before .pre .0 .0 .formed .most)), length-take-le (c .before .before .before .before .before .before .args .n) _ (omega (arith, c .before .before .before .before .before .before .pre .0 .0 .count, c .before .before .before .before .before .before .pre .0 .0 .formed .most)))))
 
 pub gaps-keep-spec : {M : Type 1} → statement M
-gaps-keep-spec = tie.close (tie.spec (λ c. search needs) put-gaps-requires (λ c. search needs) all-clear-requires returns)
+gaps-keep-spec = tie.close (tie.spec array-borrow-prefix-from slice-aggregate-none-passes array-borrow-prefix-to slice-aggregate-none-passes-2 none-passes-requires (λ c. search needs))

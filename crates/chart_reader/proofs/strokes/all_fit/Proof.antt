@@ -13,46 +13,33 @@ use Rattle.chart_reader.proofs.strokes.all_fit.Statement.{statement}
 use Rattle.chart_reader.proofs.strokes.all_fit.Tie as tie
 
 abbrev Inv-loop : tie.InvT-loop
-Inv-loop chart at n i₀ i = (i ≤ length at) × ((k : ℕ) → k < i → BarsFit (chartIn chart) (strokeAt chart (getD at k 0)))
+Inv-loop chart at n starts ends corners i₀ i = (i ≤ length at) × ((k : ℕ) → k < i → BarsFit (chartIn chart) (strokeAt chart (getD at k 0)))
 
 abbrev μ-loop : tie.MeasureT-loop
-μ-loop chart at n i₀ i = length at - i
+μ-loop chart at n starts ends corners i₀ i = length at - i
 
 loop-holds : tie.Need-loop-holds Inv-loop μ-loop
 loop-holds c = (omega arith, λ k h. absurd (omega arith))
 
 stroke-at-requires : tie.Need-stroke-at-requires Inv-loop μ-loop
-stroke-at-requires c κs = place-room _ _ _ (c .before .before .before .before .before .pre .0) (c .before .before .loop .i) (c .before .loop-test .taken)
+stroke-at-requires c κs = place-room _ _ _ (c .before .before .before .before .before .before .before .before .pre .0 .0) (c .before .before .loop .i) (c .before .loop-test .taken)
 
 fits-requires : tie.Need-fits-requires Inv-loop μ-loop
-fits-requires c κs =
-    let at-loop-test = c .before .before in
-    let at-loop = at-loop-test .before in
-    let start = at-loop .before .before .before in
-    (stroke-in _ _ _ (start .pre .0) (at-loop .loop .i) (at-loop-test .loop-test .taken) (c .stroke-at .ensures) (start .pre .1), bars-room _ _ _ (start .pre .0))
+fits-requires c κs = ((stroke-in _ _ _ (c .before .before .before .before .before .before .before .before .before .pre .0 .0) (c .before .before .before .loop .i) (c .before .before .loop-test .taken) (c .stroke-at .ensures) (c .before .before .before .before .before .before .before .before .before .pre .0 .1), bars-room _ _ _ (c .before .before .before .before .before .before .before .before .before .pre .0 .0)), c .before .before .before .before .before .before .before .before .before .pre .1)
 
 returns : tie.Need-returns Inv-loop μ-loop
 returns c =
-    let at-fits2 = c .before in
-    let at-stroke-at = at-fits2 .before in
-    let at-loop-test = at-stroke-at .before .before in
-    let at-loop = at-loop-test .before in
-    let start = at-loop .before .before .before in
+    let start = (c .before .before .before .before .before .before .before .before .before .before .before) in
     let s = start .args .chart .now in
-    let at = start .args .at .now in
-    (λ h. absurd (false≢true h), λ h a. at-fits2 .fits2 .ensures .1 (not-true _ (c .if1 .taken)) (subst (BarsFit (chartIn s)) (sym (at-stroke-at .stroke-at .ensures)) (strokes-at s (start .args .n) at (start .pre .0) a (at-loop .loop .i) (at-loop-test .loop-test .taken))))
+    (λ h. absurd (false≢true h), λ h a. c .before .fits2 .ensures .1 (not-true _ (c .if1 .taken)) (subst (BarsFit (chartIn s)) (sym (c .before .before .stroke-at .ensures)) (strokes-at s (start .args .n) (start .args .at .now) (start .pre .0 .0) a (c .before .before .before .before .before .loop .i) (c .before .before .before .before .loop-test .taken))))
 
 loop-again : tie.Need-loop-again Inv-loop μ-loop
 loop-again c =
-    let at-fits2 = c .before in
-    let at-stroke-at = at-fits2 .before in
-    let at-loop = at-stroke-at .before .before .before in
-    let start = at-loop .before .before .before in
-    let s = start .args .chart .now in
-    (omega arith, below-more _ _ (at-loop .loop .inv .1) (subst (BarsFit (chartIn s)) (at-stroke-at .stroke-at .ensures) (at-fits2 .fits2 .ensures .0 (not-false _ (c .if1 .left)))))
+    let s = c .before .before .before .before .before .before .before .before .before .before .before .args .chart .now in
+    (omega arith, below-more _ _ (c .before .before .before .before .before .loop .inv .1) (subst (BarsFit (chartIn s)) (c .before .before .stroke-at .ensures) (c .before .fits2 .ensures .0 (not-false _ (c .if1 .left)))))
 
 returns-2 : tie.Need-returns-2 Inv-loop μ-loop
-returns-2 c = (λ h. strokes-all _ _ _ (c .before .before .before .before .pre .0) (λ k i. c .before .loop .inv .1 k (omega arith)), λ h. absurd (true≢false h))
+returns-2 c = (λ h. strokes-all _ _ _ (c .before .before .before .before .before .before .before .pre .0 .0) (λ k i. c .before .loop .inv .1 k (omega arith)), λ h. absurd (true≢false h))
 
 pub all-fit-spec : {M : Type 1} → statement M
 all-fit-spec =

@@ -17,28 +17,21 @@ slice-reshare-prefix-ascends : tie.Need-slice-reshare-prefix-ascends
 slice-reshare-prefix-ascends c = omega (arith, c .before .before .before .edge-keys .kept .1 .1 .1 .0)
 
 slice-aggregate-ascends : tie.Need-slice-aggregate-ascends
-slice-aggregate-ascends c = sym (length-take-le (length (c .before .before .before .before .before .before .before .before .before .args .at .now)) (c .before .before .before .before .edge-keys .last .1 .1 .1 .0) (omega (arith, c .before .before .before .before .edge-keys .kept .1 .1 .1 .0)))
+slice-aggregate-ascends c = sym (length-take-le (length (c .before .before .before .before .before .before .before .before .before .before .before .before .args .at .now)) (c .before .before .before .before .edge-keys .last .1 .1 .1 .0) (omega (arith, c .before .before .before .before .edge-keys .kept .1 .1 .1 .0)))
 
 returns-2 : tie.Need-returns-2
-returns-2 c =
-    let at-if1 = c .before .before .before in
-    let at-edge-keys = at-if1 .before .before .before in
-    let start = at-edge-keys .before .before .before .before .before in (
-      λ h. absurd (false≢true h),
-      λ h R. keys-not (take (length (start .args .at .now)) (at-edge-keys .edge-keys .last .1 .1 .1 .0)) _ (c .before .ascends .result) ((at-edge-keys .edge-keys .ensures .0 (not-false _ (at-if1 .if1 .left))) .1) (c .before .ascends .ensures) (not-true _ (c .if2 .taken)) (R .1),
-    )
+returns-2 c = (
+  λ h. absurd (false≢true h),
+  λ h R. keys-not (take (length (c .before .before .before .before .before .before .before .before .before .before .before .before .before .before .args .at .now)) (c .before .before .before .before .before .before .edge-keys .last .1 .1 .1 .0)) _ (c .before .ascends .result) ((c .before .before .before .before .before .before .edge-keys .ensures .0 (not-false _ (c .before .before .before .if1 .left))) .1) (c .before .ascends .ensures) (not-true _ (c .if2 .taken)) (R .1),
+)
 
 all-fit-requires : tie.Need-all-fit-requires
-all-fit-requires c κs = (c .before .before .before .before .before .before .before .before .before .before .before .pre .0, (c .before .before .before .before .before .before .edge-keys .ensures .0 (not-false _ (c .before .before .before .if1 .left))) .0)
+all-fit-requires c κs = ((c .before .before .before .before .before .before .before .before .before .before .before .before .before .before .pre .0 .0, (c .before .before .before .before .before .before .edge-keys .ensures .0 (not-false _ (c .before .before .before .if1 .left))) .0), c .before .before .before .before .before .before .before .before .before .before .before .before .before .before .pre .1)
 
 returns-3 : tie.Need-returns-3
 returns-3 c =
-    let at-ascends = c .before .before in
-    let at-if1 = at-ascends .before .before in
-    let at-edge-keys = at-if1 .before .before .before in
-    let named = at-edge-keys .edge-keys .ensures .0 (not-false _ (at-if1 .if1 .left)) in
-    let start = at-edge-keys .before .before .before .before .before in (
-      λ h. ((named .0, keys-ascend (take (length (start .args .at .now)) (at-edge-keys .edge-keys .last .1 .1 .1 .0)) _ (at-ascends .ascends .result) (named .1) (at-ascends .ascends .ensures) (not-false _ (c .before .if2 .left)), c .all-fit .ensures .0 h), named .1),
+    let named = c .before .before .before .before .before .before .before .edge-keys .ensures .0 (not-false _ (c .before .before .before .before .if1 .left)) in (
+      λ h. ((named .0, keys-ascend (take (length (c .before .before .before .before .before .before .before .before .before .before .before .before .before .before .before .args .at .now)) (c .before .before .before .before .before .before .before .edge-keys .last .1 .1 .1 .0)) _ (c .before .before .ascends .result) (named .1) (c .before .before .ascends .ensures) (not-false _ (c .before .if2 .left)), c .all-fit .ensures .0 h), named .1),
       λ h R. c .all-fit .ensures .1 h (R .2),
     )
 

@@ -1,0 +1,6 @@
+-- Request (x) is proved, from the theorems of the crate chart_reader.
+use Rattle.chart_reader.proofs.Theorems.{accepts, nearest-answers, nearest-none, neighbours-none, free-answer, strokes-free, taken-followed}
+use Rattle.promises.specs.NearestBar.{NearestBar}
+
+pub nearest-bar : NearestBar
+nearest-bar = record { answer = nearest-answers; no-bar = nearest-none; neighbours = neighbours-none; reader = free-answer; strokes = strokes-free; taken = accepts; followed = taken-followed }
