@@ -28,7 +28,8 @@
  *    6  a pair is repeated, either way round
  *    7  two diagonals cross
  *    8  the output is shorter than the result
- *    9  a side or corner that the call names is not below n
+ *    9  a side or corner that the call names is not below n; of two cells, one
+ *       lies outside the chart, or they are not of one row or column
  *   10  the part has 1,024 corners and can take no more
  *   11  the part is a triangle and can lose no corner
  *   12  a diagonal ends at the corner to be taken off
@@ -150,6 +151,19 @@ uint64_t bend_draw(const uint8_t *sheet, size_t sheet_len,
 uint64_t bend_read_chart(const uint8_t *chart, size_t chart_len,
                          uint8_t *out, size_t out_len);
 
+/*
+ * Nearest bar: of the bars that stand between two cells of one row or column,
+ * neither cell counted, gives the corner of the one nearest the first cell, or none
+ * if there is no such bar. Rows and columns are numbered from 0. A bar that also
+ * covers one of the two cells counts by its cells between them. Equal cells and
+ * neighbours have none between. The chart need not show a part: no stroke is asked
+ * for more than its form.
+ * Refusals: 14; 15; 9.
+ */
+uint64_t bend_nearest_bar(const uint8_t *chart, size_t chart_len,
+                          size_t row, size_t column,
+                          size_t to_row, size_t to_column);
+
 /* The number in an answer: 0, or the refusal. */
 static inline unsigned bend_number(uint64_t answer)
 {
@@ -175,6 +189,12 @@ static inline unsigned bend_place(uint64_t answer)
 static inline size_t bend_left(uint64_t answer)
 {
     return (size_t)(answer >> 32);
+}
+
+/* The corner and one in an answer of bend_nearest_bar; 0 if there is none. */
+static inline unsigned bend_corner(uint64_t answer)
+{
+    return (unsigned)(answer >> 16);
 }
 
 /* The levels in an answer of bend_plan. */

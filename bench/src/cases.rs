@@ -1,9 +1,10 @@
 //! What is timed: each operation at 128 and at 1,024 corners, on a handful of
 //! parts of different shapes.
 
-use crate::library;
 #[cfg(feature = "read_chart")]
-use bend_tests::draw::chart_of;
+use crate::charts;
+#[allow(unused_imports)] // unused if charts alone are timed
+use crate::library;
 #[cfg(feature = "draw")]
 use bend_tests::draw::draw_sheet;
 #[cfg(feature = "edits")]
@@ -20,8 +21,6 @@ use bend_tests::plain_part::PlainPart;
 #[cfg(feature = "plan")]
 use bend_tests::plan::plan_sheet;
 use bend_tests::random::Random;
-#[cfg(feature = "read_chart")]
-use bend_tests::reader::read_chart;
 use bend_tests::shapes::{part, SHAPES};
 #[allow(unused_imports)] // unused if charts alone are timed
 use bend_tests::sheet;
@@ -44,7 +43,7 @@ pub struct Case {
 pub const ROOM: usize = 32_000;
 
 /// A part of each shape.
-fn parts(corners: Corner) -> Vec<Part> {
+pub fn parts(corners: Corner) -> Vec<Part> {
     let mut random = Random::new(u64::from(corners));
     SHAPES
         .iter()
@@ -98,7 +97,7 @@ fn sheets_with_angles(corners: Corner) -> Vec<Vec<u8>> {
 }
 
 /// A case of an operation whose two sides take an input and lent output.
-fn case<I: 'static, A: 'static, B: 'static>(
+pub fn case<I: 'static, A: 'static, B: 'static>(
     operation: &'static str,
     corners: Corner,
     inputs: Vec<I>,
@@ -285,15 +284,6 @@ pub fn all() -> Vec<Case> {
         )
     }));
     #[cfg(feature = "read_chart")]
-    cases.extend(sizes.map(|n| {
-        let charts = parts(n).iter().map(|part| chart_of(part).bytes()).collect();
-        case(
-            "read a chart",
-            n,
-            charts,
-            |chart: &Vec<u8>, out| library::read_chart(chart, out),
-            |chart, out| read_chart(chart, out),
-        )
-    }));
+    cases.extend(charts::all(sizes));
     cases
 }

@@ -4,6 +4,8 @@
 //! how each grows from 128 to 1,024 corners.
 
 mod cases;
+#[cfg(feature = "read_chart")]
+mod charts;
 #[path = "../../tests/src/library.rs"]
 mod library;
 

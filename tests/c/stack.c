@@ -1,8 +1,9 @@
 /*
  * Calls every function on the sheets that the arguments name, each sheet in a
  * thread with 128 KiB of stack: sets it in order, plans, draws, reads the chart
- * back, and edits it. The last line is `N passed, M failed`; the exit status is 1
- * if any check failed. A stack that is too small ends the program.
+ * back, asks it for the nearest bar, and edits it. The last line is `N passed, M
+ * failed`; the exit status is 1 if any check failed. A stack that is too small ends
+ * the program.
  */
 #include "bend.h"
 
@@ -52,6 +53,7 @@ static void *call_all(void *unused)
     int holds = bend_number(drawn) == 0;
     holds = holds && bend_number(bend_read_chart(chart, bend_length(drawn), out, sizeof out)) == 0;
     holds = holds && memcmp(out + 1, sheet + 1, 2) == 0;
+    holds = holds && bend_number(bend_nearest_bar(chart, bend_length(drawn), 0, 0, 0, number16(chart + 2) - 1)) == 0;
     holds = holds && bend_number(bend_normalize(sheet, sheet_len, out, sizeof out)) == 0;
     holds = holds && bend_number(bend_plan(sheet, sheet_len)) == 0;
     holds = holds && bend_number(bend_add_ear(sheet, sheet_len, 0, out, sizeof out)) == (n == 1024 ? 10 : 0);

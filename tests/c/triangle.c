@@ -3,8 +3,9 @@
  * set in order, without bit 2 and with it, sheets are refused, and a list of
  * edits is run on it, refused, and run with no edit taken. It is drawn, and charts
  * of it are read, with an empty row and without. A square with an angle is set in
- * order, turned, planned, drawn and edited. The last line is `N passed, M failed`;
- * the exit status is 1 if any check failed.
+ * order, turned, planned, drawn and edited. On the chart of a part with 7 corners
+ * the nearest bar is asked for. The last line is `N passed, M failed`; the exit
+ * status is 1 if any check failed.
  */
 #include "bend.h"
 
@@ -148,6 +149,64 @@ static void rows(void)
               && memcmp(back[1], triangle, 3) == 0);
 }
 
+/*
+ * Asks for the nearest bar from the first cell to the second, each a row and a
+ * column. `found` is its corner and one, or 0.
+ */
+static void nearest_bar(const char *name, const uint8_t *chart, size_t chart_len,
+                        const size_t first[2], const size_t second[2],
+                        unsigned number, unsigned found)
+{
+    uint64_t answer = bend_nearest_bar(chart, chart_len, first[0], first[1],
+                                       second[0], second[1]);
+
+    check(name, bend_number(answer) == number && bend_corner(answer) == found
+                    && answer >> 32 == 0);
+}
+
+/*
+ * The corners whose bars cover the cells of the chart that is drawn:
+ *
+ *    0 0 0 0 0 0 6
+ *    - 2 3 3 4 - -
+ *    1 1 1 5 5 5 5
+ */
+static void nearest_bars(void)
+{
+    static const uint8_t seven[19] = {3, 0, 7, 0, 0, 0, 5, 0, 1, 0, 3,
+                                      0, 1, 0, 5, 0, 3, 0, 5};
+    static const size_t left[2] = {1, 0}, right[2] = {1, 6};
+    static const size_t over_3[2] = {0, 3}, under_3[2] = {2, 3};
+    static const size_t over_5[2] = {0, 5}, under_5[2] = {2, 5};
+    static const size_t at_4[2] = {1, 4}, at_2[2] = {1, 2};
+    static const size_t below[2] = {3, 0}, beside[2] = {1, 7};
+    static const size_t far[2] = {1, (size_t)-1};
+    uint8_t chart[118];
+    size_t length;
+
+    memset(chart, 0xaa, sizeof chart);
+    length = bend_length(bend_draw(seven, sizeof seven, chart, sizeof chart));
+    check("seven corners drawn", length == 117 && chart[117] == 0xaa);
+    nearest_bar("from the left", chart, length, left, right, 0, 2 + 1);
+    nearest_bar("from the right", chart, length, right, left, 0, 4 + 1);
+    nearest_bar("from a bar's own cell", chart, length, at_2, right, 0, 3 + 1);
+    nearest_bar("back to a bar's own cell", chart, length, at_4, at_2, 0, 3 + 1);
+    nearest_bar("downwards", chart, length, over_3, under_3, 0, 3 + 1);
+    nearest_bar("upwards", chart, length, under_3, over_3, 0, 3 + 1);
+    nearest_bar("none in a row", chart, length, at_4, right, 0, 0);
+    nearest_bar("none in a column", chart, length, over_5, under_5, 0, 0);
+    nearest_bar("none, one cell", chart, length, at_2, at_2, 0, 0);
+    nearest_bar("cells of no row or column", chart, length, over_3, right, 9, 0);
+    nearest_bar("cell below the rows", chart, length, left, below, 9, 0);
+    nearest_bar("cell right of the columns", chart, length, beside, left, 9, 0);
+    nearest_bar("cell far away", chart, length, left, far, 9, 0);
+    nearest_bar("chart cut short", chart, length - 1, left, far, 14, 0);
+    nearest_bar("chart with a byte more", chart, length + 1, left, right, 14, 0);
+    chart[7] = 3; /* corner 0's row */
+    nearest_bar("bar below the rows", chart, length, left, right, 15, 0);
+    nearest_bar("bar below the rows, cell far away", chart, length, left, far, 15, 0);
+}
+
 /* A corner off and one on again, through a triangle: no angle is left. */
 static void through_a_triangle(void)
 {
@@ -198,6 +257,7 @@ int main(void)
     angles();
     same_chart();
     rows();
+    nearest_bars();
     through_a_triangle();
 
     memset(not_run, 0xaa, sizeof not_run);

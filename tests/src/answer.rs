@@ -23,7 +23,8 @@ pub enum Refusal {
     Crossing = 7,
     /// The output is shorter than the result.
     OutputShort = 8,
-    /// A number that an edit names is too high.
+    /// A number that an edit names is too high; of two cells that the nearest bar is
+    /// asked for, one lies outside the chart or they lie in no row or column.
     OutOfRange = 9,
     /// The part has 1,024 corners and can take no more.
     Full = 10,

@@ -3,8 +3,10 @@
 //! those of "A chart is true" under "The chart's bytes" of document 01.
 
 use crate::chart::{Bar, Chart, Stroke};
+use crate::draw::chart_of;
 use crate::part::{lower_first, Corner};
 use crate::random::Random;
+use crate::shapes::{part, Shape};
 
 /// Reversed left to right.
 pub fn mirrored(chart: &Chart) -> Chart {
@@ -28,6 +30,28 @@ pub fn upside_down(chart: &Chart) -> Chart {
     changed
 }
 
+/// With every bar and upright in the row and the column that are given for its own.
+fn replaced(
+    chart: &Chart,
+    row: impl Fn(u16) -> u16,
+    column: impl Fn(u16) -> u16,
+    (rows, columns): (u16, u16),
+) -> Chart {
+    let mut changed = chart.clone();
+    (changed.rows, changed.columns) = (rows, columns);
+    for bar in &mut changed.bars {
+        *bar = Bar {
+            row: row(bar.row),
+            left: column(bar.left),
+            right: column(bar.right),
+        };
+    }
+    for stroke in &mut changed.strokes {
+        stroke.column = stroke.column.map(&column);
+    }
+    changed
+}
+
 /// With empty rows and columns put in at random, `most` at a place.
 pub fn stretched(chart: &Chart, most: usize, random: &mut Random) -> Chart {
     let mut places = |count: u16| -> Vec<u16> {
@@ -40,20 +64,34 @@ pub fn stretched(chart: &Chart, most: usize, random: &mut Random) -> Chart {
         all
     };
     let (rows, columns) = (places(chart.rows), places(chart.columns));
-    let mut changed = chart.clone();
-    changed.rows = rows[usize::from(chart.rows)];
-    changed.columns = columns[usize::from(chart.columns)];
-    for bar in &mut changed.bars {
-        *bar = Bar {
-            row: rows[usize::from(bar.row)],
-            left: columns[usize::from(bar.left)],
-            right: columns[usize::from(bar.right)],
-        };
-    }
-    for stroke in &mut changed.strokes {
-        stroke.column = stroke.column.map(|column| columns[usize::from(column)]);
-    }
+    let row = |row: u16| rows[usize::from(row)];
+    let column = |column: u16| columns[usize::from(column)];
+    let ends = (row(chart.rows), column(chart.columns));
+    replaced(chart, row, column, ends)
+}
+
+/// With empty rows put in above and empty columns to the left.
+pub fn shifted(chart: &Chart, rows: u16, columns: u16) -> Chart {
+    let ends = (chart.rows + rows, chart.columns + columns);
+    replaced(chart, |row| row + rows, |column| column + columns, ends)
+}
+
+/// With an empty row and an empty column on every side.
+pub fn framed(chart: &Chart) -> Chart {
+    let mut changed = shifted(chart, 1, 1);
+    (changed.rows, changed.columns) = (changed.rows + 1, changed.columns + 1);
     changed
+}
+
+/// Spread over as many rows and columns as a chart can have, from the first to the
+/// last of them.
+pub fn spread(chart: &Chart) -> Chart {
+    let place = |count: u16| {
+        let last = u32::from(count - 1).max(1);
+        move |place: u16| (u32::from(place) * u32::from(u16::MAX - 1) / last) as u16
+    };
+    let ends = (u16::MAX, u16::MAX);
+    replaced(chart, place(chart.rows), place(chart.columns), ends)
 }
 
 /// With the bars cut back to their uprights: level strokes then have gaps.
@@ -246,4 +284,17 @@ pub fn changed(chart: &Chart, random: &mut Random) -> Chart {
         changed = nudged(&changed, random);
     }
     changed
+}
+
+/// A chart of a small part of the shape, as drawn or with its bars cut back, or of
+/// bars strewn at random, with a few random changes.
+pub fn any_small_chart(shape: Shape, random: &mut Random) -> Chart {
+    let n = random.between(3, 14);
+    let part = part(shape, n as Corner, random);
+    let chart = match random.below(3) {
+        0 => chart_of(&part),
+        1 => cut_back(&chart_of(&part)),
+        _ => strewn(random.between(3, 7), random),
+    };
+    changed(&chart, random)
 }

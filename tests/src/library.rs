@@ -48,6 +48,15 @@ extern "C" {
     fn bend_draw(sheet: *const u8, sheet_len: usize, out: *mut u8, out_len: usize) -> u64;
     #[cfg(feature = "read_chart")]
     fn bend_read_chart(chart: *const u8, chart_len: usize, out: *mut u8, out_len: usize) -> u64;
+    #[cfg(feature = "read_chart")]
+    fn bend_nearest_bar(
+        chart: *const u8,
+        chart_len: usize,
+        row: usize,
+        column: usize,
+        to_row: usize,
+        to_column: usize,
+    ) -> u64;
 }
 
 // Each call below lends a whole slice with its own length, and an output never
@@ -135,4 +144,13 @@ pub fn draw(sheet: &[u8], out: &mut [u8]) -> u64 {
 #[cfg(feature = "read_chart")]
 pub fn read_chart(chart: &[u8], out: &mut [u8]) -> u64 {
     unsafe { bend_read_chart(chart.as_ptr(), chart.len(), out.as_mut_ptr(), out.len()) }
+}
+
+#[cfg(feature = "read_chart")]
+pub fn nearest_bar(
+    chart: &[u8],
+    (row, column): (usize, usize),
+    (to_row, to_column): (usize, usize),
+) -> u64 {
+    unsafe { bend_nearest_bar(chart.as_ptr(), chart.len(), row, column, to_row, to_column) }
 }

@@ -157,11 +157,18 @@ fn part_of(chart: &Chart) -> Result<Part, Refusal> {
     })
 }
 
-/// The part that a chart's bytes show, or the first refusal that applies.
-pub fn read(bytes: &[u8]) -> Result<Part, Refusal> {
+/// The chart in the bytes, its bars tested, and its corners by rows; or refusal 14
+/// or 15.
+pub fn with_bars_tested(bytes: &[u8]) -> Result<(Chart, Vec<usize>), Refusal> {
     let chart = Chart::from_bytes(bytes)?;
     let by_rows = by_rows(&chart.bars);
     check_bars(&chart, &by_rows)?;
+    Ok((chart, by_rows))
+}
+
+/// The part that a chart's bytes show, or the first refusal that applies.
+pub fn read(bytes: &[u8]) -> Result<Part, Refusal> {
+    let (chart, by_rows) = with_bars_tested(bytes)?;
     check_strokes(&chart, &by_rows)?;
     part_of(&chart)
 }
@@ -177,7 +184,7 @@ mod tests {
     use crate::changes::*;
     use crate::draw::{chart_of, placed_of};
     use crate::random::Random;
-    use crate::shapes::{all_parts, part, SHAPES};
+    use crate::shapes::{all_parts, SHAPES};
     use crate::truth::part_shown;
 
     #[test]
@@ -202,14 +209,7 @@ mod tests {
         let mut random = Random::new(6);
         let mut seen = [0; 19];
         for round in 0..60_000 {
-            let n = random.between(3, 14);
-            let part = part(SHAPES[round % SHAPES.len()], n as Corner, &mut random);
-            let chart = match random.below(3) {
-                0 => chart_of(&part),
-                1 => cut_back(&chart_of(&part)),
-                _ => strewn(random.between(3, 7), &mut random),
-            };
-            let chart = changed(&chart, &mut random);
+            let chart = any_small_chart(SHAPES[round % SHAPES.len()], &mut random);
             let quick = read(&chart.bytes());
             assert_eq!(quick, part_shown(&chart), "{chart:?}");
             seen[quick.map_or_else(|refusal| usize::from(refusal.number()), |_| 0)] += 1;

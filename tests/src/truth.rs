@@ -7,11 +7,11 @@ use crate::chart::{Bar, Chart, Stroke};
 use crate::part::{any_cross, is_diagonal, lower_first, Corner, Pair, Part};
 
 /// The corner whose bar covers each cell, row by row.
-type Cells = Vec<Vec<Option<usize>>>;
+pub type Cells = Vec<Vec<Option<usize>>>;
 
 /// The chart's cells, or none if the bars break their rule: left at most right,
 /// within rows and columns, no cell shared.
-fn cells(chart: &Chart) -> Option<Cells> {
+pub fn cells(chart: &Chart) -> Option<Cells> {
     let empty_row = vec![None; usize::from(chart.columns)];
     let mut cells = vec![empty_row; usize::from(chart.rows)];
     for (corner, bar) in chart.bars.iter().enumerate() {

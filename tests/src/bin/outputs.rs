@@ -1,7 +1,8 @@
 //! Writes what the library answers to the sheets of the folder that the argument
 //! names, and to the sheets of parts that the comparison plans and draws: a line for
-//! each call of Plan, Set in order, Draw, and Read a chart on the chart drawn. (Draw
-//! with the bar list and the log line are no exports for C.)
+//! each call of Plan, Set in order, Draw, and Read a chart on the chart drawn; at the
+//! end, on charts drawn, for calls of the nearest bar. (Draw with the bar list and the
+//! log line are no exports for C.)
 //!
 //! A line has the sheet's digest, the operation, the number and the values of the
 //! answer and, if the operation writes, a digest of the lent bytes and of those round
@@ -21,9 +22,10 @@ mod library;
 #[path = "../compare/sheets.rs"]
 mod sheets;
 
+use bend_tests::draw::chart_of;
 use bend_tests::part::Part;
 use bend_tests::random::Random;
-use bend_tests::shapes::{part, Shape, HUNG};
+use bend_tests::shapes::{all_parts, part, Shape, HUNG, SHAPES};
 use bend_tests::sheet::{normal, LONGEST};
 use checks::{guarded, inside, Outcome};
 use sheets::any_sheet;
@@ -119,6 +121,29 @@ fn deep_parts(tests: &mut Tests) {
     });
 }
 
+/// The nearest bar from the ends of each bar of a chart, to either side and up and
+/// down as far as the chart goes: the cells, the number, and the corner and one.
+fn nearest_bars(part: &Part) {
+    let chart = chart_of(part);
+    let bytes = chart.bytes();
+    let name = digest(&bytes);
+    let (last_row, last_column) = (chart.rows - 1, chart.columns - 1);
+    for bar in &chart.bars {
+        let (row, left, right) = (bar.row, bar.left, bar.right);
+        let sideways = [(left, row, 0), (right, row, last_column)];
+        let up_and_down = [(left, 0, left), (right, last_row, right)];
+        for (column, to_row, to_column) in sideways.into_iter().chain(up_and_down) {
+            let first = (usize::from(row), usize::from(column));
+            let second = (usize::from(to_row), usize::from(to_column));
+            let answer = library::nearest_bar(&bytes, first, second);
+            let (number, found) = (answer & 0xffff, answer >> 16);
+            println!(
+                "{name:016x} nearest_bar {row} {column} {to_row} {to_column} {number} {found}"
+            );
+        }
+    }
+}
+
 fn main() -> io::Result<()> {
     let folder = env::args().nth(1).expect("a folder of sheets");
     let tests = &mut Tests;
@@ -129,5 +154,14 @@ fn main() -> io::Result<()> {
     compared(tests, "plan", 101);
     compared(tests, "draw", 201);
     deep_parts(tests);
+    tests.test("the nearest bar", || {
+        let mut random = Random::new(105);
+        let large = [40, 300].map(|n| SHAPES.map(|shape| part(shape, n, &mut random)));
+        let parts = (3..=6)
+            .flat_map(all_parts)
+            .chain(large.into_iter().flatten());
+        parts.for_each(|part| nearest_bars(&part));
+        Ok(())
+    });
     Ok(())
 }

@@ -13,25 +13,28 @@ use bend_tests::part::Part;
 use bend_tests::random::Random;
 
 pub fn run(tests: &mut Tests) {
-    heads_and_map_bytes(tests);
+    heads_and_map_bytes(tests, "read_chart", |bytes| {
+        must_be(14, library::read_chart(bytes, &mut [0; 9]), bytes)?;
+        same(bytes, 9)
+    });
     faults(tests);
     gaps(tests);
 }
 
 /// Our chart of n = 4, (0,2). Upright are (0,1), (0,2) and (2,3), in this order
 /// of columns, level (0,3) and (1,2).
-fn square() -> Chart {
+pub fn square() -> Chart {
     chart_of(&Part::new(4, &[(0, 2)]))
 }
 
 /// The same by document 01's places: row 1 is empty.
-fn square_with_empty_row() -> Chart {
+pub fn square_with_empty_row() -> Chart {
     placed_of(&Part::new(4, &[(0, 2)]))
 }
 
 /// A chart of the same part, true but that the upright (0,1) passes through the
 /// gap of the level stroke (2,3).
-fn square_with_gap() -> Chart {
+pub fn square_with_gap() -> Chart {
     let bar = |row, left, right| Bar { row, left, right };
     let stroke = |a, b, column| Stroke { a, b, column };
     Chart {
@@ -50,10 +53,10 @@ fn square_with_gap() -> Chart {
 
 /// A fault: the number that it leads to, its name, and how it is done to the
 /// square's chart.
-type Fault = (u16, &'static str, fn(&mut Chart));
+pub type Fault = (u16, &'static str, fn(&mut Chart));
 
 /// The faults, in the order in which they are tested.
-const FAULTS: [Fault; 15] = [
+pub const FAULTS: [Fault; 15] = [
     (14, "a stroke over", |c| c.strokes.push(c.strokes[0])),
     (14, "a stroke short", |c| c.strokes.truncate(4)),
     (15, "left over right", |c| c.bars[2].left = 3),
@@ -82,12 +85,10 @@ const FAULTS: [Fault; 15] = [
     (18, "corners exchanged", |c| *c = exchanged(c, 2, 3)),
 ];
 
-fn heads_and_map_bytes(tests: &mut Tests) {
-    let refused = |bytes: &[u8]| -> Outcome {
-        must_be(14, library::read_chart(bytes, &mut [0; 9]), bytes)?;
-        same(bytes, 9)
-    };
-    tests.test("read_chart: 14 each of bits 1 to 7, in each stroke", || {
+/// Wrong map bytes and corner counts, which the operation must refuse by 14.
+pub fn heads_and_map_bytes(tests: &mut Tests, operation: &str, refused: impl Fn(&[u8]) -> Outcome) {
+    let name = format!("{operation}: 14 each of bits 1 to 7, in each stroke");
+    tests.test(&name, || {
         let chart = square();
         for stroke in 0..chart.strokes.len() {
             let mut before = chart.clone();
@@ -100,7 +101,7 @@ fn heads_and_map_bytes(tests: &mut Tests) {
         }
         Ok(())
     });
-    tests.test("read_chart: 14 every corner count", || {
+    tests.test(&format!("{operation}: 14 every corner count"), || {
         let mut bytes = square().bytes();
         for count in (0..=u16::MAX).filter(|&count| count != 4) {
             bytes[4..6].copy_from_slice(&count.to_be_bytes());
@@ -108,11 +109,12 @@ fn heads_and_map_bytes(tests: &mut Tests) {
         }
         Ok(())
     });
-    tests.test("read_chart: 14 1,025 corners, with all their bars", || {
+    let name = format!("{operation}: 14 1,025 corners, with all their bars");
+    tests.test(&name, || {
         let mut chart = chart_of(&any_part(1024, &mut Random::new(311)));
         chart.bars.push(chart.bars[0]);
         chart.strokes.extend([chart.strokes[0]; 2]);
-        gives(14, &chart)
+        refused(&chart.bytes())
     });
 }
 

@@ -14,6 +14,12 @@ mod edit_lists;
 mod edits;
 #[cfg(feature = "run_edits")]
 mod list_faults;
+#[cfg(feature = "read_chart")]
+mod nearest;
+#[cfg(feature = "read_chart")]
+mod nearest_faults;
+#[cfg(feature = "read_chart")]
+mod nearest_known;
 #[cfg(feature = "normalize")]
 mod normalize;
 #[cfg(feature = "plan")]
@@ -76,6 +82,12 @@ pub fn run(tests: &mut Tests) {
     read_chart::run(tests);
     #[cfg(feature = "read_chart")]
     chart_faults::run(tests);
+    #[cfg(feature = "read_chart")]
+    nearest_known::run(tests);
+    #[cfg(feature = "read_chart")]
+    nearest::run(tests);
+    #[cfg(feature = "read_chart")]
+    nearest_faults::run(tests);
     #[cfg(all(feature = "draw", feature = "read_chart"))]
     closing::run(tests);
 }

@@ -24,7 +24,7 @@ use bend_tests::sheet;
 pub fn run(tests: &mut Tests) {
     charts_drawn_otherwise(tests);
     changed_charts(tests);
-    damaged_charts(tests);
+    damaged_charts(tests, "read_chart", |bytes, lent, _| same(bytes, lent));
     output_lengths(tests);
     #[cfg(all(feature = "normalize", feature = "draw"))]
     back_from_sheets(tests);
@@ -46,19 +46,19 @@ pub fn gives(number: u16, chart: &Chart) -> Outcome {
 }
 
 /// The part's chart as drawn, and by document 01's places, with its empty rows.
-fn both_charts(part: &Part) -> [Chart; 2] {
+pub fn both_charts(part: &Part) -> [Chart; 2] {
     [chart_of(part), placed_of(part)]
 }
 
 /// One of the two charts of a random part of up to `most` corners.
-fn any_chart(most: usize, random: &mut Random) -> Chart {
+pub fn any_chart(most: usize, random: &mut Random) -> Chart {
     let n = random.between(3, most);
     let charts = both_charts(&any_part(n as Corner, random));
     random.pick(&charts).clone()
 }
 
 /// Both charts of all small parts, and one of some random ones of every size.
-fn many_charts(random: &mut Random) -> Vec<Chart> {
+pub fn many_charts(random: &mut Random) -> Vec<Chart> {
     let small = (3..=8).flat_map(all_parts);
     let mut charts: Vec<Chart> = small.flat_map(|part| both_charts(&part)).collect();
     for most in [40, 200, 1024] {
@@ -68,27 +68,50 @@ fn many_charts(random: &mut Random) -> Vec<Chart> {
     charts
 }
 
+/// A way to draw a chart otherwise, with its name.
+type Change = (&'static str, fn(&Chart, &mut Random) -> Chart);
+
+/// Those that keep a chart true.
+pub const ACCEPTED: [Change; 8] = [
+    ("as drawn", |chart, _| chart.clone()),
+    ("mirrored", |chart, _| mirrored(chart)),
+    ("upside down", |chart, _| upside_down(chart)),
+    ("mirrored and upside down", |chart, _| {
+        upside_down(&mirrored(chart))
+    }),
+    ("stretched", |chart, random| stretched(chart, 3, random)),
+    ("stretched to the limit", |chart, random| {
+        stretched(chart, 28, random)
+    }),
+    ("renumbered by rotation", |chart, random| {
+        rotated(chart, random.below(chart.bars.len()), false)
+    }),
+    ("renumbered backwards", |chart, random| {
+        rotated(chart, random.below(chart.bars.len()), true)
+    }),
+];
+
+/// Others.
+pub const OTHERS: [Change; 6] = [
+    ("two corners exchanged", |chart, random| {
+        let n = chart.bars.len();
+        exchanged(chart, random.below(n), random.below(n))
+    }),
+    ("bars cut back", |chart, _| cut_back(chart)),
+    ("bars cut back, stretched", |chart, random| {
+        stretched(&cut_back(chart), 2, random)
+    }),
+    ("a bar lengthened", |chart, random| {
+        lengthened(&stretched(chart, 2, random), random)
+    }),
+    ("an upright moved", |chart, random| {
+        moved(&stretched(chart, 1, random), random)
+    }),
+    ("a number changed", nudged),
+];
+
 fn charts_drawn_otherwise(tests: &mut Tests) {
-    type Change = fn(&Chart, &mut Random) -> Chart;
-    let accepted: [(&str, Change); 8] = [
-        ("as drawn", |chart, _| chart.clone()),
-        ("mirrored", |chart, _| mirrored(chart)),
-        ("upside down", |chart, _| upside_down(chart)),
-        ("mirrored and upside down", |chart, _| {
-            upside_down(&mirrored(chart))
-        }),
-        ("stretched", |chart, random| stretched(chart, 3, random)),
-        ("stretched to the limit", |chart, random| {
-            stretched(chart, 28, random)
-        }),
-        ("renumbered by rotation", |chart, random| {
-            rotated(chart, random.below(chart.bars.len()), false)
-        }),
-        ("renumbered backwards", |chart, random| {
-            rotated(chart, random.below(chart.bars.len()), true)
-        }),
-    ];
-    for (name, change) in accepted {
+    for (name, change) in ACCEPTED {
         tests.test(&format!("read_chart: {name}"), || {
             let mut random = Random::new(301);
             let charts = many_charts(&mut random);
@@ -96,24 +119,7 @@ fn charts_drawn_otherwise(tests: &mut Tests) {
             otherwise.try_for_each(|chart| gives(0, &chart))
         });
     }
-    let any: [(&str, Change); 6] = [
-        ("two corners exchanged", |chart, random| {
-            let n = chart.bars.len();
-            exchanged(chart, random.below(n), random.below(n))
-        }),
-        ("bars cut back", |chart, _| cut_back(chart)),
-        ("bars cut back, stretched", |chart, random| {
-            stretched(&cut_back(chart), 2, random)
-        }),
-        ("a bar lengthened", |chart, random| {
-            lengthened(&stretched(chart, 2, random), random)
-        }),
-        ("an upright moved", |chart, random| {
-            moved(&stretched(chart, 1, random), random)
-        }),
-        ("a number changed", nudged),
-    ];
-    for (name, change) in any {
+    for (name, change) in OTHERS {
         tests.test(&format!("read_chart: {name}"), || {
             let mut random = Random::new(302);
             let charts = many_charts(&mut random);
@@ -153,55 +159,67 @@ fn changed_charts(tests: &mut Tests) {
     });
 }
 
-fn damaged_charts(tests: &mut Tests) {
+/// Damaged charts and other bytes, each checked with so much output lent.
+pub fn damaged_charts(
+    tests: &mut Tests,
+    operation: &str,
+    check: impl Fn(&[u8], usize, &mut Random) -> Outcome,
+) {
     for (name, damage) in DAMAGES {
-        tests.test(&format!("read_chart: damaged, {name}"), || {
+        tests.test(&format!("{operation}: damaged, {name}"), || {
             let mut random = Random::new(331);
             for round in 0..5000 {
                 let most = if round % 50 == 0 { 1024 } else { 16 };
                 let mut bytes = any_chart(most, &mut random).bytes();
                 damage(&mut bytes, &mut random);
-                same(&bytes, bytes.len())?;
+                check(&bytes, bytes.len(), &mut random)?;
             }
             Ok(())
         });
     }
-    tests.test("read_chart: every bit of small charts flipped", || {
-        let parts = (3..=6).flat_map(all_parts);
-        for chart in parts.flat_map(|part| both_charts(&part)) {
-            let bytes = chart.bytes();
-            for bit in 0..8 * bytes.len() {
-                let mut damaged = bytes.clone();
-                damaged[bit / 8] ^= 1 << (bit % 8);
-                same(&damaged, 64)?;
+    tests.test(
+        &format!("{operation}: every bit of small charts flipped"),
+        || {
+            let mut random = Random::new(334);
+            let parts = (3..=6).flat_map(all_parts);
+            for chart in parts.flat_map(|part| both_charts(&part)) {
+                let bytes = chart.bytes();
+                for bit in 0..8 * bytes.len() {
+                    let mut damaged = bytes.clone();
+                    damaged[bit / 8] ^= 1 << (bit % 8);
+                    check(&damaged, 64, &mut random)?;
+                }
             }
-        }
-        Ok(())
-    });
-    tests.test("read_chart: every truncation", || {
+            Ok(())
+        },
+    );
+    tests.test(&format!("{operation}: every truncation"), || {
         let mut random = Random::new(332);
         for n in [3, 4, 5, 9, 40, 200] {
             let bytes = chart_of(&any_part(n, &mut random)).bytes();
-            (0..=bytes.len()).try_for_each(|length| same(&bytes[..length], 900))?;
+            (0..=bytes.len()).try_for_each(|length| check(&bytes[..length], 900, &mut random))?;
         }
         Ok(())
     });
-    tests.test("read_chart: short, random and long bytes", || {
-        let mut random = Random::new(333);
-        (0..=255).try_for_each(|byte| same(&[byte], 50))?;
-        for length in [0, 1, 6, 24, 43, 100_000] {
-            for byte in [0, 1, 3, 255] {
-                same(&vec![byte; length], 50)?;
+    tests.test(
+        &format!("{operation}: short, random and long bytes"),
+        || {
+            let mut random = Random::new(333);
+            (0..=255).try_for_each(|byte| check(&[byte], 50, &mut random))?;
+            for length in [0, 1, 6, 24, 43, 100_000] {
+                for byte in [0, 1, 3, 255] {
+                    check(&vec![byte; length], 50, &mut random)?;
+                }
             }
-        }
-        for _ in 0..20_000 {
-            let length = random.below(80);
-            let mut bytes = random.bytes(length);
-            bytes.iter_mut().for_each(|byte| *byte %= 4);
-            same(&bytes, 100)?;
-        }
-        Ok(())
-    });
+            for _ in 0..20_000 {
+                let length = random.below(80);
+                let mut bytes = random.bytes(length);
+                bytes.iter_mut().for_each(|byte| *byte %= 4);
+                check(&bytes, 100, &mut random)?;
+            }
+            Ok(())
+        },
+    );
 }
 
 fn output_lengths(tests: &mut Tests) {
