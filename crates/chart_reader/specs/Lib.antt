@@ -1,4 +1,4 @@
--- Read beside document 01.
+-- Read beside document 01; Nearest and Follow beside request (x).
 pub mod Cells
 pub mod Formed
 pub mod Rules
