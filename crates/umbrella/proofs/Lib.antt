@@ -8,6 +8,7 @@ pub mod Least
 pub mod First
 pub mod Unique
 pub mod Wide
+pub mod Tight
 pub mod Bounds
 pub mod Triangles
 pub mod Corners

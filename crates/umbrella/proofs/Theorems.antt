@@ -1,14 +1,18 @@
 -- What this crate proves of plans, each theorem with its statement in plain words. The proofs are in the files beside this one.
-use mathlib.Core.Path.{_≡_}
+use mathlib.Core.Path.{_≡_, refl, sym, _∙_}
 use mathlib.Core.Logic.{_⊎_, _↔_}
 use mathlib.Core.List.{[]}
 use mathlib.Core.Option.{none}
-use Prim.Native.Nat.{ℕ, suc, _+_, _^_, _≤_, _<_}
+use Prim.Native.Nat.{ℕ, zero, suc, _+_, _^_, _≤_, _<_}
+use native.Mathlib.Decide.{decLe}
 use native.Mathlib.Nat.{le-trans}
 use native.Mathlib.Omega.{arith}
+use lib.Pow.{pow-mono}
 use Rattle.lists.specs.Lists.{Mem, Sorted}
+use Rattle.polygon.specs.Angles.{none as bare}
 use Rattle.polygon.specs.Polygon.{Edge, _—_, Polygon, Valid, Linked}
 use Rattle.polygon.specs.Tree.{Tree, leaf, node, span, treeOf, PieceOf}
+use Rattle.polygon.proofs.Theorems.{polygon-is-tree, tree-is-polygon}
 use Rattle.polygon.proofs.TreeTheorem.{tree-of}
 use Rattle.umbrella.specs.Plan.{Plan, levels, umbrellas, stems}
 use Rattle.umbrella.specs.Values.{ud}
@@ -18,6 +22,7 @@ use Rattle.umbrella.specs.Triangles.{Triangle, triangles, AllJoined, own
 use Rattle.umbrella.specs.Rim.{rim, firstGate, Gate}
 use Rattle.umbrella.specs.Border.{hung, Carries, Border}
 use Rattle.umbrella.specs.Depth.{AtSide, Anywhere, Depth}
+use Rattle.umbrella.specs.Tight.{tight, tightPart}
 use Rattle.umbrella.proofs.Low.{low}
 use Rattle.umbrella.proofs.Least.{best-le, best-levels, best-least}
 use Rattle.umbrella.proofs.First.{best-first}
@@ -29,6 +34,7 @@ use Rattle.umbrella.proofs.Gates.{gate-of}
 use Rattle.umbrella.proofs.Border.{border-hung, hung-diagonal}
 use Rattle.umbrella.proofs.Bounds.{bounds}
 use Rattle.umbrella.proofs.Wide.{span-bound, nine}
+use Rattle.umbrella.proofs.Tight.{tight-ud, tight-span, tight-stems}
 use Rattle.umbrella.proofs.Depth.{depth-at}
 
 -- Every plan of a piece has at least ud levels, the number that document 004, chapter 6, computes.
@@ -98,6 +104,36 @@ umbrellas-bound p = let b = bounds p in (b .levels-few, b .stems-few, b .umbrell
 -- A piece that needs D levels has at least 2 ^ (D + 1) - 1 corners.
 pub corners-of-levels : (t : Tree) → 2 ^ suc (ud t) ≤ suc (span t) + 1
 corners-of-levels t = omega (arith, span-bound t)
+
+-- So a part of D levels does.
+pub part-corners : (p : Polygon) → Valid p → 2 ^ suc (levels (planOf p)) ≤ p .n + 1
+part-corners p v =
+    let t = treeOf (p .n) (p .ds) in
+    let e : levels (planOf p) ≡ ud t = best-levels t in
+    rw e (omega (arith, corners-of-levels t, tree-of (p .n) (p .ds) (v .triangulated) .size))
+
+-- One under 511 corners has at most 7.
+pub at-most-seven : (p : Polygon) → Valid p → p .n < 511 → levels (planOf p) ≤ 7
+at-most-seven p v h = go (decLe (levels (planOf p)) 7)
+  where
+    go : Dec (levels (planOf p) ≤ 7) → levels (planOf p) ≤ 7
+    go (yes k) = k
+    go (no k) = let q : 9 ≤ suc (levels (planOf p)) = omega (arith, k) in absurd (omega (arith, pow-mono q, part-corners p v, h))
+
+-- "and for each D from 1 .. some part has exactly that many": for every D from 1 on a piece of D levels has them,
+pub tight-has : (D : ℕ) → 1 ≤ D → (ud (tight D) ≡ D) × (suc (span (tight D)) + 1 ≡ 2 ^ suc D) × (stems (best (tight D)) ≡ 0)
+tight-has zero h = absurd (omega (arith, h))
+tight-has (suc k) h = (tight-ud k, omega (arith, tight-span k), tight-stems k)
+
+-- and "to 9" it is a valid part. The plan drawn of it has no stem.
+pub tight-part : (D : ℕ) → 1 ≤ D → D ≤ 9 → Valid (tightPart D) × (tightPart D .n + 1 ≡ 2 ^ suc D) × (levels (planOf (tightPart D)) ≡ D) × (stems (planOf (tightPart D)) ≡ 0)
+tight-part D h k =
+    let (deep, size, flat) = tight-has D h in
+    let low : 2 ≤ suc D = omega (arith, h) in
+    let high : suc D ≤ 10 = omega (arith, k) in
+    let v = tree-is-polygon (tight D) bare (omega (arith, size, pow-mono low)) (omega (arith, size, pow-mono high)) tt in
+    let e = polygon-is-tree (tightPart D) v .2 (tight D) refl refl in
+    (v, size, rw (sym e) (best-levels (tight D) ∙ deep), rw (sym e) flat)
 
 -- The plan drawn of a valid polygon has at most 9 levels.
 pub at-most-nine : (p : Polygon) → Valid p → levels (planOf p) ≤ 9

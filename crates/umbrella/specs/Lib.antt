@@ -7,6 +7,8 @@ pub mod Border
 -- Read beside document 004, chapter 6, and request (iv).
 pub mod Values
 pub mod Depth
+-- Read beside request (ii).
+pub mod Tight
 -- What serves these, the contracts and the code.
 pub mod Best
 pub mod Roles
