@@ -40,6 +40,7 @@
  *   16  a stroke's corners or order are wrong, or its bars do not fit
  *   17  an upright passes through the gap of a level stroke
  *   18  the strokes lack a side of the part, or diagonals cross
+ *   19  the chart has more than fifteen rows (bend_draw_label only)
  *   23  an angle is outside -1,800 to 1,800, or bit 3 stands with 3 corners
  *   32  the list's length is no multiple of 13
  *   33  the list has an edit of a kind above 2
@@ -142,6 +143,15 @@ uint64_t bend_plan(const uint8_t *sheet, size_t sheet_len);
  */
 uint64_t bend_draw(const uint8_t *sheet, size_t sheet_len,
                    uint8_t *out, size_t out_len);
+
+/*
+ * Draw on a label of fifteen rows: writes what bend_draw writes and gives its
+ * length, if the chart has at most fifteen rows. Every part under 511 corners has;
+ * a part that is refused by 19 can still be drawn on a tape by bend_draw.
+ * Refusals: 1 to 7 and 23 as for bend_normalize; 19; 8.
+ */
+uint64_t bend_draw_label(const uint8_t *sheet, size_t sheet_len,
+                         uint8_t *out, size_t out_len);
 
 /*
  * Read a chart: writes the sheet, in normal order and without angles, of the part

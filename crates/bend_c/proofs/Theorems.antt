@@ -14,8 +14,8 @@ use Rattle.edit.proofs.Refusals.{edited-settled}
 use Rattle.edit.proofs.Size.{edited-size}
 use Rattle.edit_list.proofs.Packing.{run-reads-back}
 use Rattle.plan.proofs.ReadBack.{plan-reads-back}
-use Rattle.draw.proofs.Refusals.{drawn-settled}
-use Rattle.draw.proofs.Size.{drawn-size}
+use Rattle.draw.proofs.Refusals.{drawn-settled, labelled-settled}
+use Rattle.draw.proofs.Size.{drawn-size, labelled-size}
 use Rattle.chart_reader.proofs.Refusals.{chart-settled}
 use Rattle.chart_reader.proofs.Size.{chart-read-size}
 use Rattle.chart_reader.proofs.Following.{found-reads-back}
@@ -33,6 +33,7 @@ every-answer = record {
   bend-run-edits = run-reads-back;
   bend-plan = plan-reads-back;
   bend-draw = λ s out. reads-back _ (small-number (drawn-settled s out)) (omega (arith, drawn-size s out));
+  bend-draw-label = λ s out. reads-back _ (small-number (labelled-settled s out)) (omega (arith, labelled-size s out));
   bend-read-chart = λ s out. reads-back _ (small-number (chart-settled s out)) (omega (arith, chart-read-size s out));
   bend-nearest-bar = found-reads-back;
 }

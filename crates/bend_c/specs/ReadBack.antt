@@ -11,6 +11,7 @@ use Rattle.edit.specs.Calls.{edited}
 use Rattle.edit_list.specs.Result.{resultOf, RunReadsBack}
 use Rattle.plan.specs.Answer.{planned, PlanReadsBack}
 use Rattle.draw.specs.Answer.{drawn}
+use Rattle.draw.specs.Label.{labelled}
 use Rattle.chart_reader.specs.declared.Cell.{Cell}
 use Rattle.chart_reader.specs.Reader.{chartRead}
 use Rattle.chart_reader.specs.Follow.{nearestBar, FoundReadsBack}
@@ -27,5 +28,6 @@ pub record EveryAnswer : Type 0 where
   pub bend-run-edits : (first list front back numbers : List ℕ) → Bytes list → RunReadsBack (resultOf first list front back numbers)
   pub bend-plan : (sheet : List ℕ) → PlanReadsBack (planned sheet)
   pub bend-draw : (sheet out : List ℕ) → ReadsBack (written (drawn sheet) out)
+  pub bend-draw-label : (sheet out : List ℕ) → ReadsBack (written (labelled sheet) out)
   pub bend-read-chart : (chart out : List ℕ) → ReadsBack (written (chartRead chart) out)
   pub bend-nearest-bar : (chart : List ℕ) (e : Cell × Cell) → FoundReadsBack (nearestBar chart e)

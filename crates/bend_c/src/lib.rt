@@ -11,6 +11,7 @@ ghost use Rattle.edit.specs.Calls.{edited};
 ghost use Rattle.edit.specs.Tables.{editOf};
 ghost use Rattle.edit_list.specs.Result.{ranOf, resultOf, packedRun, Tellable};
 ghost use Rattle.draw.specs.Answer.{drawn};
+ghost use Rattle.draw.specs.Label.{labelled};
 ghost use Rattle.chart_reader.specs.Cells.{cell};
 ghost use Rattle.chart_reader.specs.Reader.{chartRead};
 ghost use Rattle.chart_reader.specs.Follow.{nearestBar, followedOf, valueOf, packedFound};
@@ -141,6 +142,15 @@ pub extern "C" fn bend_draw(sheet: &[u8], out: &mut [u8]) -> u64
     ensures bytes { λ r. ⌜ now (out .exit) ≡ written (drawn (now (sheet .entry))) (now (out .entry)) .bytes ⌝ }
 {
     pack(draw::draw(sheet, out))
+}
+
+// Draw on a label, without the bar list.
+#[no_mangle]
+pub extern "C" fn bend_draw_label(sheet: &[u8], out: &mut [u8]) -> u64
+    ensures answer { λ r. ⌜ r ≡ packed (written (labelled (now (sheet .entry))) (now (out .entry))) ⌝ }
+    ensures bytes { λ r. ⌜ now (out .exit) ≡ written (labelled (now (sheet .entry))) (now (out .entry)) .bytes ⌝ }
+{
+    pack(draw::draw_label(sheet, out))
 }
 
 // Read a chart.

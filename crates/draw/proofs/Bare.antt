@@ -1,6 +1,7 @@
 -- The chart and the line of a part do not depend on its angles.
 use mathlib.Core.Path.{_≡_, refl, ap}
 use mathlib.Core.List.{List}
+use mathlib.Core.Option.{Option}
 use Prim.Native.Nat.{ℕ}
 use Rattle.polygon.specs.Polygon.{Polygon, bare}
 use Rattle.sheet.specs.Sheet.{Reading, refused, held}
@@ -8,7 +9,8 @@ use Rattle.sheet.proofs.Hand.{bared}
 use Rattle.chart.specs.Chart.{chartOf}
 use Rattle.chart.proofs.Theorems.{chart-bare}
 use Rattle.log_line.specs.Line.{line}
-use Rattle.draw.specs.Answer.{charted, chartedBoth}
+use Rattle.draw.specs.Answer.{charted}
+use Rattle.draw.specs.Label.{chartedWithin, chartedBothWithin}
 use Rattle.draw.specs.Printed.{factsOf, printedOf}
 use Rattle.draw.specs.Program.{savedOf, outputOf}
 
@@ -16,16 +18,16 @@ use Rattle.draw.specs.Program.{savedOf, outputOf}
 pub facts-bare : (p : Polygon) → factsOf (bare p) ≡ factsOf p
 facts-bare p = rw (chart-bare p)
 
--- what Draw writes of a reading, and with the bar list
-pub charted-bare : (q : Reading) → charted (bared q) ≡ charted q
-unfolding charted bared
-charted-bare (refused k) = refl
-charted-bare (held p) = rw (chart-bare p)
+-- what Draw writes of a reading, with any limit, and with the bar list
+pub charted-bare : (limit : Option ℕ) (q : Reading) → chartedWithin limit (bared q) ≡ chartedWithin limit q
+unfolding chartedWithin bared
+charted-bare limit (refused k) = refl
+charted-bare limit (held p) = rw (chart-bare p)
 
-pub both-bare : (q : Reading) → chartedBoth (bared q) ≡ chartedBoth q
-unfolding chartedBoth bared
-both-bare (refused k) = refl
-both-bare (held p) = rw (chart-bare p)
+pub both-bare : (limit : Option ℕ) (q : Reading) → chartedBothWithin limit (bared q) ≡ chartedBothWithin limit q
+unfolding chartedBothWithin bared
+both-bare limit (refused k) = refl
+both-bare limit (held p) = rw (chart-bare p)
 
 -- the line, and what the program does with a reading
 pub printed-bare : (q : Reading) → printedOf (bared q) ≡ printedOf q

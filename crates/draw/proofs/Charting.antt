@@ -1,7 +1,8 @@
 -- From the edges, columns and rows of the plan drawn to its chart.
 use mathlib.Core.Path.{_≡_, ap, sym, _∙_}
 use mathlib.Core.List.{List, _++_, map}
-use Prim.Native.Nat.{ℕ, _+_, _*_, _-_, _≤_, _<_}
+use mathlib.Core.Option.{Option}
+use Prim.Native.Nat.{ℕ, zero, suc, _+_, _*_, _-_, _≤_, _<_}
 use native.Mathlib.Omega.{arith}
 use lib.ListN.{length, take, drop, getD, length-append, length-map, length-drop}
 use lib.Seq.{getD-take, length-take-le, take-at}
@@ -10,6 +11,7 @@ use Rattle.lists.proofs.Lists.{all-imp}
 use Rattle.polygon.specs.Edges.{edges}
 use Rattle.polygon.specs.Tree.{Tree, span}
 use Rattle.polygon.proofs.Edges.{edges-ascending}
+use Rattle.codec.specs.Answer.{refusal, write, written}
 use Rattle.umbrella.specs.Plan.{Plan, levels}
 use Rattle.umbrella.specs.Best.{best}
 use Rattle.umbrella.proofs.Theorems.{computed-has}
@@ -18,7 +20,7 @@ use Rattle.tree.specs.declared.Root.{Root}
 use Rattle.tree.proofs.Whole.{keyed}
 use Rattle.levels.specs.Kept.{Filled}
 use Rattle.chart.specs.Places.{cols, rows}
-use Rattle.chart.specs.Chart.{cornerRows, layout, chart, closedRow, closed}
+use Rattle.chart.specs.Chart.{Chart, cornerRows, layout, chart, closedRow, closed}
 use Rattle.chart.specs.Bytes.{bytesOf}
 use Rattle.chart.proofs.Width.{width}
 use Rattle.chart.proofs.Closing.{closed-le, corners-shut}
@@ -27,6 +29,29 @@ use Rattle.chart_writer.specs.Tables.{Sizes, Edges, Among, Laid}
 use Rattle.drawing.specs.Located.{Located}
 use Rattle.drawing.specs.declared.Size.{Size}
 use Rattle.drawing.proofs.Whole.{sized}
+use Rattle.draw.specs.Charted.{stopped, unless, unlessStopped}
+
+-- a chart of h rows and n bars that was stopped by k, and one that was not
+module _ (limit : Option ℕ) (room : ℕ) (c : Chart) (out : List ℕ) {k h n : ℕ} (e : k ≡ stopped limit h n room) (rows-are : h ≡ c .rows) (bars-are : n ≡ c .n) where
+  by-number : unlessStopped limit room c ≡ unless k (bytesOf c)
+  unfolding unlessStopped
+  by-number = rw (e, rows-are, bars-are)
+
+  pub stopped-by : 0 < k → refusal k out ≡ written (unlessStopped limit room c) out
+  unfolding unless written
+  stopped-by p = go k p by-number
+    where
+      go : (m : ℕ) → 0 < m → unlessStopped limit room c ≡ unless m (bytesOf c) → refusal m out ≡ written (unlessStopped limit room c) out
+      go zero q i = absurd (omega (arith, q))
+      go (suc m) q i = rw i
+
+  pub not-stopped : k ≤ 0 → written (write (bytesOf c)) out ≡ written (unlessStopped limit room c) out
+  unfolding unless
+  not-stopped p = go k p by-number
+    where
+      go : (m : ℕ) → m ≤ 0 → unlessStopped limit room c ≡ unless m (bytesOf c) → written (write (bytesOf c)) out ≡ written (unlessStopped limit room c) out
+      go zero q i = rw i
+      go (suc m) q i = absurd (omega (arith, q))
 
 -- some columns
 some-columns : {t : Tree} (p : Plan t) → 2 ≤ span t → 1 ≤ length (cols p 0 (span t))
@@ -102,6 +127,10 @@ module _ {n : ℕ} {t : Tree} {tr ds : List ℕ} {p : Root} (F : Filled n t tr d
 
     pub placed-rows : h ≡ closed (chart (best t)) .rows
     placed-rows = height ∙ sym (closed-plan-rows (best t))
+
+  pub placed-corners : n ≡ closed (chart (best t)) .n
+  unfolding closed chart layout
+  placed-corners = omega (arith, last, least)
 
   pub placed-columns : s .columns ≡ closed (chart (best t)) .columns
   unfolding closed chart layout

@@ -1,4 +1,4 @@
--- A `&κ mut [T]` that is lent for a lifetime κ′ of a call, again or as a `&κ′ [T]`, and comes back. For the walk of `draw_with_bars`; it says nothing of the crate.
+-- A `&κ mut [T]` that is lent for a lifetime κ′ of a call, again or as a `&κ′ [T]`, and comes back. For the walk of BothWalk.antt; it says nothing of the crate.
 -- Meanwhile the holder keeps the lender's part at κ′, and its own borrow at κ, open, with both halves of its ghost variable (`Kept`).
 --     lends-again      own (the `&κ mut [T]` ((b, o), γ, ys)) ∗ [κ]_q  ⊢ ⇛ ∃ γ₁. own (the `&κ′ mut [T]` ((b, o), γ₁, ys)) ∗ LentAgain γ₁
 --     comes-back       given `Room` and that zs is as long as ys:  [†κ′] ∗ LentAgain γ₁ ∗ finally γ₁ zs  ⊢ ⇛ (own (the `&κ mut [T]` ((b, o), γ, zs)) ∗ [κ]_q)

@@ -1,8 +1,14 @@
 pub mod Charting
+pub mod Label
 pub mod Size
 pub mod WithBars
 pub mod Answers
 pub mod Bare
 pub mod Lent
+pub mod BothCode
+pub mod BothWalk
+pub mod BothMet
 pub mod Refusals
+pub mod Nineteen
+pub mod Theorems
 pub mod Inputs

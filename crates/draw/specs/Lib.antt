@@ -2,6 +2,8 @@
 pub mod Answer
 pub mod Printed
 pub mod Program
+-- Read beside request (ii).
+pub mod Label
 -- What serves these, the contracts and the code.
 pub mod WithBars
 pub mod Told

@@ -8,6 +8,7 @@ ghost use Rattle.codec.specs.Input.{Begins};
 ghost use Rattle.sheet.specs.Sheet.{held};
 ghost use Rattle.sheet.specs.Held.{polygonOf, InHand};
 ghost use Rattle.draw.specs.Program.{outputOf, output, shown, Lengths};
+use crate::Limit;
 use crate::line::counts_line;
 use crate::write_part;
 use codec::Written;
@@ -48,7 +49,7 @@ fn show_part(h: Head, keys: &[u32], chart: &mut [u8], text: &mut [u8]) -> Shown
     let mut tree = [0u32; PLACES];
     let mut depths = [0u8; VALUES];
     let p = fill(&keys[..m], h.n, &mut tree, &mut depths);
-    let c = write_part(h.n, &tree, &depths, p, chart);
+    let c = write_part(h.n, &tree, &depths, p, Limit::Any, h.n, chart);
     let end = counts_line(
         h,
         counts_of(&tree, &depths, p),

@@ -2,20 +2,22 @@
 use mathlib.Core.Path.{_≡_, refl}
 use mathlib.Core.Logic.{_⊎_, inl, inr}
 use mathlib.Core.List.{List, [], _∷_, _++_}
+use mathlib.Core.Option.{Option}
 use Prim.Native.Nat.{ℕ}
 use native.Mathlib.Decide.{ℕ-discrete}
 use native.Mathlib.Omega.{arith}
 use lib.ListN.{length}
 use lib.Seq.{take-append-seam, drop-append-seam}
-use Rattle.lists.specs.Lists.{head, tail, choose, numbers}
-use Rattle.lists.proofs.Lists.{all-mem, here, mem-left, mem-right}
+use Rattle.lists.specs.Lists.{Mem, head, tail, choose, numbers}
+use Rattle.lists.proofs.Lists.{all-mem, here, there, mem-left, mem-right}
 use Rattle.lists.proofs.Places.{numbers-mem}
 use Rattle.polygon.specs.Polygon.{Polygon}
-use Rattle.codec.specs.TwoOutputs.{writtenBoth}
+use Rattle.codec.specs.TwoOutputs.{refuseBoth, writeBoth, refusalBoth, writtenBoth}
 use Rattle.codec.proofs.TwoOutputs.{both-is}
 use Rattle.sheet.specs.Sheet.{Reading, held, readSheet}
 use Rattle.sheet.specs.Refusals.{sheetTests, RefusedBy, by, holds}
 use Rattle.sheet.proofs.Refusals.{read-refuses, tests-proper, ordered-settled}
+use Rattle.codec.specs.Refusals.{Proper}
 use Rattle.codec.proofs.Refusals.{whole-finished, refusal-refuses}
 use Rattle.edit.specs.Rules.{addEar, removeEar, flip}
 use Rattle.edit.proofs.Refusals.{edited-settled}
@@ -30,9 +32,11 @@ use Rattle.chart_reader.specs.declared.Cell.{Cell}
 use Rattle.chart_reader.specs.Follow.{FollowAnswer}
 use Rattle.chart_reader.proofs.Following.{Follows, by-14, by-15, by-9, found, by-answer}
 use Rattle.chart_reader.proofs.Refusals.{chart-settled}
-use Rattle.draw.specs.Answer.{chartedBoth, drawnWithBars}
-use Rattle.draw.proofs.Refusals.{drawn-settled}
-use Rattle.promises.specs.DemandOne.{PlanAnswers, PlanFinished, PlanRefusal, BothFinished, BothRefusal, BothAnswers, numbersOut, FoundFinished, FoundRefusal, FoundAnswers, RunFinished, RunRefusal, RunAnswers, DemandOne}
+use Rattle.draw.specs.Answer.{drawnWithBars}
+use Rattle.draw.specs.Label.{tape, label, Within, within?, chartedBothWithin, labelledWithBars}
+use Rattle.draw.proofs.Label.{tape-both}
+use Rattle.draw.proofs.Refusals.{drawn-settled, labelled-settled}
+use Rattle.promises.specs.DemandOne.{PlanAnswers, PlanFinished, PlanRefusal, BothRefusal, BothSettled, BothAnswers, numbersOut, FoundFinished, FoundRefusal, FoundAnswers, RunFinished, RunRefusal, RunAnswers, DemandOne}
 
 -- the numbers of the tests of a list
 abbrev listTests : List ℕ
@@ -46,20 +50,37 @@ plan-answers s = go (readSheet s) refl (read-refuses s)
     go r e (by m) = inr (record { published = m; proper = all-mem tests-proper m; no-levels = refl; no-umbrellas = refl; no-stems = refl })
     go r e (holds {p}) = inl (p, e, record { zero = refl; counts = refl })
 
-both-answers : (s : List ℕ) → BothAnswers (sheetTests ++ (8 ∷ [])) s
-unfolding drawnWithBars chartedBoth writtenBoth
-both-answers s out bars = go (readSheet s) refl (read-refuses s)
+-- with any limit of rows; the numbers after the sheet's are 8, and 19 if any part is beyond the limit
+both-answers : (limit : Option ℕ) (ks : List ℕ) → Mem 8 ks → ((p : Polygon) → ¬ Within limit (chartOf p .rows) → Mem 19 ks)
+    → (s : List ℕ) → BothAnswers (sheetTests ++ ks) s (writtenBoth (chartedBothWithin limit (readSheet s)))
+unfolding chartedBothWithin writtenBoth choose
+both-answers limit ks eight tall s out bars = go (readSheet s) refl (read-refuses s)
   where
-    go : (r : Reading) → readSheet s ≡ r → RefusedBy sheetTests r → let d = writtenBoth (chartedBoth r) out bars in
-        ((p : Polygon) × (readSheet s ≡ held p) × BothFinished (chartOf p) out bars d) ⊎ BothRefusal (sheetTests ++ (8 ∷ [])) out bars d
-    go r e (by m) = inr (record { bytes = refusal-refuses out (mem-left (8 ∷ []) m) (all-mem tests-proper m); nothing = refl; untouched = refl })
-    go r e (holds {p}) =
+    refused-by : (k : ℕ) → Mem k ks → Proper k → BothRefusal (sheetTests ++ ks) out bars (refusalBoth k out bars)
+    refused-by k m q = record { bytes = refusal-refuses out (mem-right sheetTests m) q; nothing = refl; untouched = refl }
+
+    drawn : (p : Polygon) → readSheet s ≡ held p → (d : Dec (Within limit (chartOf p .rows)))
+        → BothSettled (sheetTests ++ ks) s out bars (writtenBoth (choose d (writeBoth (bytesOf (chartOf p)) (barsOf (chartOf p))) (refuseBoth 19)) out bars)
+    drawn p e (no w) = inr (refused-by 19 (tall p w) (omega arith, omega arith))
+    drawn p e (yes w) =
         let bs = bytesOf (chartOf p) in
         let cs = barsOf (chartOf p) in
         elim (both-is bs out cs bars) [
-          | inl w ↦ inl (p, e, rw (w .1) (record { chart = whole-finished bs out; told = refl; result = take-append-seam cs _; beyond = drop-append-seam cs _ }))
-          | inr w ↦ inr (rw (w .1) (record { bytes = refusal-refuses out (mem-right sheetTests here) (omega arith, omega arith); nothing = refl; untouched = refl }))
+          | inl i ↦ inl (p, e, rw (i .1) (record { chart = whole-finished bs out; told = refl; result = take-append-seam cs _; beyond = drop-append-seam cs _ }))
+          | inr i ↦ inr (rw (i .1) (refused-by 8 eight (omega arith, omega arith)))
         ]
+
+    go : (r : Reading) → readSheet s ≡ r → RefusedBy sheetTests r → BothSettled (sheetTests ++ ks) s out bars (writtenBoth (chartedBothWithin limit r) out bars)
+    go r e (by m) = inr (record { bytes = refusal-refuses out (mem-left ks m) (all-mem tests-proper m); nothing = refl; untouched = refl })
+    go r e (holds {p}) = drawn p e (within? limit (chartOf p .rows))
+
+draw-answers : (s : List ℕ) → BothAnswers (sheetTests ++ (8 ∷ [])) s (drawnWithBars s)
+unfolding drawnWithBars
+draw-answers s = rw (tape-both (readSheet s)) at (both-answers tape (8 ∷ []) here (λ p f. absurd (f tt)) s)
+
+label-answers : (s : List ℕ) → BothAnswers (sheetTests ++ (19 ∷ 8 ∷ [])) s (labelledWithBars s)
+unfolding labelledWithBars
+label-answers s = both-answers label (19 ∷ 8 ∷ []) (there here) (λ p f. here) s
 
 found-answers : (c : List ℕ) (e : Cell × Cell) → FoundAnswers (14 ∷ 15 ∷ 9 ∷ []) c e
 found-answers c e = go (by-answer c e refl)
@@ -99,7 +120,9 @@ demand-one = record {
   turn = λ s a b. edited-settled (flip a b) s;
   plan = plan-answers;
   draw = drawn-settled;
-  draw-bars = both-answers;
+  draw-bars = draw-answers;
+  label = labelled-settled;
+  label-bars = label-answers;
   read-chart = chart-settled;
   nearest-bar = found-answers;
   run = run-answers;

@@ -7,7 +7,7 @@ use Rattle.lists.specs.Lists.{All, all-cons, all-nil, all?, below, choose, eith
 use Rattle.polygon.specs.Angles.{in-range?, allowed?}
 use Rattle.polygon.specs.Carried.{angleOf, carried}
 use Rattle.polygon.specs.Order.{before?, same?, cross?, none-cross?, diagonal?, distinct?, remove, place, insert, sort, lower-first}
-use Rattle.polygon.specs.Tree.{span, chordsAt, piece, treeOf, grow, far, farther, near?}
+use Rattle.polygon.specs.Tree.{span, chordsAt, chordsPast, inner, piece, treeOf, grow, far, farther, near?}
 use Rattle.codec.specs.Answer.{fit, written}
 use Rattle.codec.specs.Numbers.{run16}
 use Rattle.sheet.specs.Sheet.{ask, pairs, angles, count?, more, readSheet, pairBytes, mapByte, normalSheet, outcome, ordered}
@@ -15,6 +15,7 @@ use Rattle.edit.specs.Rules.{up, down, both, entering, earAdded, neighbours, ea
 use Rattle.edit.specs.Calls.{onHeld, edited}
 use Rattle.umbrella.specs.Plan.{fold}
 use Rattle.umbrella.specs.Values.{ud}
+use Rattle.umbrella.specs.Tight.{tight}
 use Rattle.umbrella.specs.Best.{best, umbrella, leftAt, rightAt, stemAt, over-node}
 use Rattle.plan.specs.Answer.{answer, planned}
 use Rattle.chart.specs.Places.{cols, rows}
@@ -30,6 +31,7 @@ use Rattle.chart_reader.specs.Follow.{on-chart?, asked?, nearestBar}
 use Rattle.chart_reader.specs.Reader.{bars?, free?, joins?, strokes?, passes?, gaps?, part?, readChart, chartRead}
 use Rattle.log_line.specs.Line.{digits, decimal, line, refusedLine}
 use Rattle.draw.specs.Answer as draw
+use Rattle.draw.specs.Label as draw-label
 use Rattle.draw.specs.Printed.{printedOf, printed}
 use Rattle.promises.specs.Known.{sheet, barsIn, rowsIn, columnsIn, valuesIn, Holds, cases}
 
@@ -40,6 +42,7 @@ unfolding sheet barsIn columnsIn valuesIn piece readSheet ask pairs angles carri
     refusedLine chartOf chart layout treeOf grow far farther near? span chordsAt best umbrella leftAt rightAt stemAt over-node ud fold cols rows edges edgesAt
     edgesPast barsOf barRows closedRow closed meets? first last stroke barBytes strokeBytes bytesOf flatMap rowsIn
     chartRead readChart formed? places behind shaped bars? free? joins? strokes? passes? gaps? part? partSides common? common-of between stands? shares? crosses? strokeEdge
+    tight inner chordsPast draw-label.chartedWithin draw-label.within?
     near.first near.orElse near.toward near.steps near.has? near.lowestAt near.nearest on-chart? asked? nearestBar
 known =
     all-cons refl (all-cons refl (all-cons refl (all-cons refl (all-cons refl (all-cons refl (all-cons refl
@@ -54,4 +57,6 @@ known =
     (all-cons refl (all-cons refl (all-cons refl (all-cons refl (all-cons refl (all-cons refl (all-cons refl
     (all-cons refl (all-cons refl (all-cons refl (all-cons refl (all-cons refl (all-cons refl (all-cons refl
     (all-cons refl (all-cons refl (all-cons refl (all-cons refl (all-cons refl (all-cons refl (all-cons refl
-    (all-cons refl (all-cons refl (all-cons refl (all-cons refl all-nil)))))))))))))))))))))))))))))))))))))))))))))))))))))))))))))))))))))))))))))))))))))))
+    (all-cons refl (all-cons refl (all-cons refl (all-cons refl (all-cons refl (all-cons refl (all-cons refl
+    (all-cons refl (all-cons refl (all-cons refl (all-cons refl (all-cons refl (all-cons refl (all-cons refl
+    (all-cons refl (all-cons refl (all-cons refl (all-cons refl (all-cons refl all-nil))))))))))))))))))))))))))))))))))))))))))))))))))))))))))))))))))))))))))))))))))))))))))))))))))))))

@@ -9,3 +9,4 @@ pub mod BendAngles
 pub mod DepthInOrder
 pub mod RowsWithoutBars
 pub mod NearestBar
+pub mod LabelPrinter

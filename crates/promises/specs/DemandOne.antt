@@ -1,6 +1,7 @@
 -- Demand 1: every answer is a finished result or one refusal. "A refusal gives its number and zeros, and changes no lent memory. Success gives 0; bytes or records beyond the result stay."
 -- One claim about every public operation, every input and everything lent to it.
--- `Finished`, `Refusal` and `Settled` are the two cases for an operation that writes bytes (crate codec, specs/Refusals.antt). The lists of numbers are document 01's, under each operation, and request (xi)'s: 23 "right after 7".
+-- `Finished`, `Refusal` and `Settled` are the two cases for an operation that writes bytes (crate codec, specs/Refusals.antt). The lists of numbers are document 01's, under each operation, and the requests': 23 "right after 7" (xi), and
+-- 19 for the label's calls "after 7 and before 8" (ii).
 use mathlib.Core.Path.{_≡_}
 use mathlib.Core.Logic.{_⊎_}
 use mathlib.Core.List.{List, [], _∷_}
@@ -28,6 +29,7 @@ use Rattle.chart_reader.specs.Reader.{chartRead}
 use Rattle.chart_reader.specs.Nearest.{none, nearest}
 use Rattle.chart_reader.specs.Follow.{FollowAnswer, nearestBar}
 use Rattle.draw.specs.Answer.{drawn, drawnWithBars}
+use Rattle.draw.specs.Label.{labelled, labelledWithBars}
 
 -- an operation that is to do o, whatever output is lent
 abbrev pub Answers : List ℕ → Outcome → Type 0
@@ -60,9 +62,11 @@ pub record BothRefusal (ks out : List ℕ) (bars : List Bar) (d : BothAnswer Bar
   pub nothing : d .count ≡ 0
   pub untouched : d .second ≡ bars
 
-abbrev pub BothAnswers : List ℕ → List ℕ → Type 0
-BothAnswers ks s = (out : List ℕ) (bars : List Bar)
-    → ((p : Polygon) × (readSheet s ≡ held p) × BothFinished (chartOf p) out bars (drawnWithBars s out bars)) ⊎ BothRefusal ks out bars (drawnWithBars s out bars)
+abbrev pub BothSettled : List ℕ → List ℕ → List ℕ → List Bar → BothAnswer Bar → Type 0
+BothSettled ks s out bars d = ((p : Polygon) × (readSheet s ≡ held p) × BothFinished (chartOf p) out bars d) ⊎ BothRefusal ks out bars d
+
+abbrev pub BothAnswers : List ℕ → List ℕ → (List ℕ → List Bar → BothAnswer Bar) → Type 0
+BothAnswers ks s d = (out : List ℕ) (bars : List Bar) → BothSettled ks s out bars (d out bars)
 
 -- a list of edits, run over two buffers, with the numbers of the edits written to a third output, two bytes each
 abbrev pub numbersOut : List ℕ → List ℕ → List ℕ → List ℕ → List ℕ
@@ -113,7 +117,10 @@ pub record DemandOne : Type 0 where
   pub plan : (s : List ℕ) → PlanAnswers (1 ∷ 2 ∷ 3 ∷ 4 ∷ 5 ∷ 6 ∷ 7 ∷ 23 ∷ []) s
   -- Draw. "1 to 7; 8: either output too short." Without the bar list and with it:
   pub draw : (s : List ℕ) → Answers (1 ∷ 2 ∷ 3 ∷ 4 ∷ 5 ∷ 6 ∷ 7 ∷ 23 ∷ 8 ∷ []) (drawn s)
-  pub draw-bars : (s : List ℕ) → BothAnswers (1 ∷ 2 ∷ 3 ∷ 4 ∷ 5 ∷ 6 ∷ 7 ∷ 23 ∷ 8 ∷ []) s
+  pub draw-bars : (s : List ℕ) → BothAnswers (1 ∷ 2 ∷ 3 ∷ 4 ∷ 5 ∷ 6 ∷ 7 ∷ 23 ∷ 8 ∷ []) s (drawnWithBars s)
+  -- Draw on a label: "19 .. after 7 and before 8" (request (ii)).
+  pub label : (s : List ℕ) → Answers (1 ∷ 2 ∷ 3 ∷ 4 ∷ 5 ∷ 6 ∷ 7 ∷ 23 ∷ 19 ∷ 8 ∷ []) (labelled s)
+  pub label-bars : (s : List ℕ) → BothAnswers (1 ∷ 2 ∷ 3 ∷ 4 ∷ 5 ∷ 6 ∷ 7 ∷ 23 ∷ 19 ∷ 8 ∷ []) s (labelledWithBars s)
   -- Read a chart. "14 .. 15 .. 16 .. 17 .. 18 .. 8."
   pub read-chart : (c : List ℕ) → Answers (14 ∷ 15 ∷ 16 ∷ 17 ∷ 18 ∷ 8 ∷ []) (chartRead c)
   -- The nearest bar: 14, 15, 9 (crate chart_reader, specs/Follow.antt).

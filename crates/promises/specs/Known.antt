@@ -1,17 +1,19 @@
--- The known parts of document 01 that are marked M, with the closed rows of request (v), one part more, the known sheets of requests (iv), (v), (xi) and (xii), and known bars of request (x), as one list of cases.
+-- The known parts of document 01 that are marked M, with the closed rows of request (v), one part more, the known sheets of requests (ii), (iv), (v), (xi) and (xii), and known bars of request (x), as one list of cases.
 -- proofs/Known.antt proves them all. (Document 01's own rows, before closing up, are in crate chart, proofs/Known.antt.)
 use mathlib.Core.Path.{_≡_}
 use mathlib.Core.List.{List, [], _∷_, _++_}
+use mathlib.Core.Option.{Option, some}
 use Prim.Native.Nat.{ℕ}
 use lib.ListN.{length, getD}
 use Rattle.polygon.specs.Polygon.{Edge, _—_}
 use Rattle.polygon.specs.Tree.{piece}
 use Rattle.codec.specs.Numbers.{bytes16}
-use Rattle.codec.specs.Answer.{Answer, write, written}
-use Rattle.sheet.specs.Sheet.{Reading, refused, held, readSheet, pairBytes, ordered}
+use Rattle.codec.specs.Answer.{Answer, refusal, write, written}
+use Rattle.sheet.specs.Sheet.{Reading, refused, held, readSheet, pairBytes, normalSheet, ordered}
 use Rattle.edit.specs.Rules.{Edit, addEar, removeEar, flip}
 use Rattle.edit.specs.Calls.{edited}
 use Rattle.umbrella.specs.Values.{values}
+use Rattle.umbrella.specs.Tight.{tightPart}
 use Rattle.plan.specs.Answer.{planned}
 use Rattle.chart.specs.Chart.{Bar, barsOf, chartOf}
 use Rattle.chart_reader.specs.declared.Cell.{Cell}
@@ -21,6 +23,7 @@ use Rattle.chart_reader.specs.Nearest.{Found, none, nearest}
 use Rattle.chart_reader.specs.Reader.{chartRead}
 use Rattle.chart_reader.specs.Follow.{FollowAnswer, followRefusal, nearestBar}
 use Rattle.draw.specs.Answer.{drawn}
+use Rattle.draw.specs.Label.{tape, label, chartedWithin}
 use Rattle.draw.specs.Printed.{printed}
 
 -- a sheet without bit 2: its corner count, and its pairs as they are listed
@@ -69,7 +72,8 @@ bar r l s = record { row = r; left = l; right = s }
 
 -- a case: a sheet refused by a number; one with these levels, umbrellas and stems; with these chart bytes; with these bars; with so many rows; with so many columns; a sheet whose diagonal is turned; one that is edited; one with this line;
 -- a sheet and an output, and the answer of setting in order; a sheet with these six values at the edge (a,b); a chart that is read as a sheet;
--- bars, two cells, and what is found between them; the same for a chart's bytes
+-- bars, two cells, and what is found between them; the same for a chart's bytes;
+-- a limit of rows, a sheet and an output, and the answer of drawing; the sheet of the part of so many levels that has the fewest corners
 pub data Case : Type 0 where
   refusedBy : List ℕ → ℕ → Case
   counted : List ℕ → ℕ → ℕ → ℕ → Case
@@ -85,6 +89,8 @@ pub data Case : Type 0 where
   readAs : List ℕ → List ℕ → Case
   found : List Bar → Cell × Cell → Found → Case
   followed : List ℕ → Cell × Cell → FollowAnswer → Case
+  limited : Option ℕ → List ℕ → List ℕ → Answer → Case
+  tightest : ℕ → List ℕ → Case
 
 abbrev pub Holds : Case → Type 0
 Holds (refusedBy s k) = readSheet s ≡ refused k
@@ -101,6 +107,8 @@ Holds (valued s a b xs) = valuesIn (readSheet s) a b ≡ xs
 Holds (readAs c s) = chartRead c ≡ write s
 Holds (found bs e f) = nearest (λ x. getD bs x (bar 0 0 0)) (length bs) e ≡ f
 Holds (followed c e a) = nearestBar c e ≡ a
+Holds (limited l s out a) = written (chartedWithin l (readSheet s)) out ≡ a
+Holds (tightest D s) = normalSheet (tightPart D) ≡ s
 
 -- the triangle's chart with h rows and corner 1 on row r
 abbrev pub triangleChart : ℕ → ℕ → List ℕ
@@ -128,6 +136,14 @@ sideBySide = sheet 12 ((0 — 6) ∷ (0 — 10) ∷ (1 — 3) ∷ (1 — 5) ∷ 
 
 abbrev pub manyHung : List ℕ
 manyHung = sheet 11 ((0 — 3) ∷ (0 — 9) ∷ (1 — 3) ∷ (3 — 6) ∷ (3 — 9) ∷ (4 — 6) ∷ (6 — 8) ∷ (6 — 9) ∷ [])
+
+-- the tightest parts of 2 and 3 levels
+abbrev pub sevenCorners : List ℕ
+sevenCorners = sheet 7 ((0 — 3) ∷ (1 — 3) ∷ (3 — 5) ∷ (3 — 6) ∷ [])
+
+abbrev pub fifteenCorners : List ℕ
+fifteenCorners =
+    sheet 15 ((0 — 7) ∷ (1 — 4) ∷ (1 — 7) ∷ (2 — 4) ∷ (4 — 6) ∷ (4 — 7) ∷ (7 — 10) ∷ (7 — 13) ∷ (7 — 14) ∷ (8 — 10) ∷ (10 — 12) ∷ (10 — 13) ∷ [])
 
 abbrev pub cases : List Case
 cases =
@@ -255,4 +271,23 @@ cases =
     ∷ followed (triangleChart 3 3) (line 0 0 9 9) (followRefusal 15)
     ∷ followed (triangleChart 3 1) (line 0 0 3 0) (followRefusal 9)
     ∷ followed (triangleChart 3 1) (line 0 0 2 1) (followRefusal 9)
+    -- Request (ii), "for each D .. some part has exactly that many": 3, 7 and 15 corners have 1, 2 and 3 levels, and a row more
+    ∷ tightest 1 (sheet 3 [])
+    ∷ tightest 2 sevenCorners
+    ∷ counted sevenCorners 2 3 0
+    ∷ tall sevenCorners 3
+    ∷ tightest 3 fifteenCorners
+    ∷ counted fifteenCorners 3 7 0
+    ∷ tall fifteenCorners 4
+    -- "The printer calls the same drawing with its own limit": the triangle's chart on a label, in all the room there must be, and in a byte less
+    ∷ limited label (sheet 3 []) (triangleChart 9 9) (record { number = 0; size = 43; bytes = triangleChart 2 1 })
+    ∷ limited label (sheet 3 []) [] (refusal 8 [])
+    -- "after 7 and before 8": of the hexagon's three rows two are too few, also where the output is too short; three are not, and no limit refuses it; a sheet that is refused has its own number
+    ∷ limited (some 2) (sheet 6 ((0 — 2) ∷ (2 — 4) ∷ (0 — 4) ∷ [])) [] (refusal 19 [])
+    ∷ limited (some 3) (sheet 6 ((0 — 2) ∷ (2 — 4) ∷ (0 — 4) ∷ [])) [] (refusal 8 [])
+    ∷ limited tape (sheet 6 ((0 — 2) ∷ (2 — 4) ∷ (0 — 4) ∷ [])) [] (refusal 8 [])
+    ∷ limited (some 0) (sheet 5 ((0 — 2) ∷ (1 — 3) ∷ [])) [] (refusal 7 [])
+    -- "counts closed rows" (request (v)): rows 0, 2 and 4 of document 01's are three
+    ∷ limited (some 3) oneHung [] (refusal 8 [])
+    ∷ limited (some 2) oneHung [] (refusal 19 [])
     ∷ []

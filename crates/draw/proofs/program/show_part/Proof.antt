@@ -1,11 +1,12 @@
 -- The part's tables, then its chart and its line: by the laws of Inputs.antt.
-use mathlib.Core.Path.{_≡_, sym, ap}
+use mathlib.Core.Path.{_≡_, sym, ap, _∙_}
 use Prim.Native.Nat.{ℕ, _≤_}
+use native.Mathlib.Nat.{le-refl}
 use native.Mathlib.Omega.{arith}
 use borrow.Author.Needs.{needs}
 use lib.ListN.{length, length-replicate}
 use Rattle.polygon.specs.Polygon.{Polygon}
-use Rattle.codec.specs.Answer.{answered, written, write}
+use Rattle.codec.specs.Answer.{Outcome, answered, written, write}
 use Rattle.sheet.specs.Held.{polygonOf}
 use Rattle.sheet.proofs.Hand.{keys-count}
 use Rattle.lists.proofs.Places.{blank}
@@ -16,6 +17,7 @@ use Rattle.log_line.specs.Put.{Put}
 use Rattle.log_line.proofs.Size.{line-size}
 use Rattle.draw.specs.Told.{told}
 use Rattle.draw.specs.Printed.{factsOf}
+use Rattle.draw.proofs.Answers.{tape-fits}
 use Rattle.draw.proofs.Inputs.{part-fits, chart-short, part-shown}
 use Rattle.draw.proofs.program.show_part.Statement.{statement}
 use Rattle.draw.proofs.program.show_part.Tie as tie
@@ -30,9 +32,12 @@ abbrev part : tie.After-counts-line → Polygon
 part c = polygonOf (start c .args .h) (start c .args .keys .now)
 
 -- the chart and the line that were written are those of the part
-wrote : (c : tie.After-counts-line) → answered (at-chart c .write-part .result .written) (at-chart c .write-part .last .1 .1 .1 .1 .0) ≡ written (write (bytesOf (chartOf (part c)))) (start c .args .chart .now)
+wrote : (c : tie.After-counts-line) → answered (at-chart c .write-part .result .written) (at-chart c .write-part .last .1 .1 .1 .1 .1 .1 .0) ≡ written (write (bytesOf (chartOf (part c)))) (start c .args .chart .now)
 unfolding chartOf
-wrote c = at-chart c .write-part .ensures _ (at-chart c .before .before .before .before .fill .ensures) .answer
+wrote c =
+    let p = part c in
+    at-chart c .write-part .ensures _ (at-chart c .before .before .before .before .fill .ensures) .answer
+    ∙ ap (λ (o : Outcome). written o (start c .args .chart .now)) (tape-fits p (start c .pre .0 .valid .triangulated) (p .n) (le-refl _))
 
 said : (c : tie.After-counts-line) → Put (line (factsOf (part c))) (start c .args .text .now) 0 (c .counts-line .last .1 .1 .1 .1 .0) (c .counts-line .result)
 unfolding chartOf
@@ -70,7 +75,7 @@ returns-2 c =
     let (P, (fits, room)) = start at .pre in
     let is = c .before .w .given .1 in (
       part-shown (part at) (P .valid) _ _ _ fits (wrote at) _ is room (said at),
-      (omega (arith, chart-short (part at) (P .valid) _ _ _ fits (wrote at) _ is, at-chart at .write-part .kept .1 .1 .1 .1 .0, fits), within at),
+      (omega (arith, chart-short (part at) (P .valid) _ _ _ fits (wrote at) _ is, at-chart at .write-part .kept .1 .1 .1 .1 .1 .1 .0, fits), within at),
     )
 
 pub show-part-spec : {M : Type 1} → statement M
