@@ -3,10 +3,10 @@
 
 #[cfg(feature = "read_chart")]
 use crate::charts;
+#[cfg(feature = "draw")]
+use crate::drawings;
 #[allow(unused_imports)] // unused if charts alone are timed
 use crate::library;
-#[cfg(feature = "draw")]
-use bend_tests::draw::draw_sheet;
 #[cfg(feature = "edits")]
 use bend_tests::edit::{edit_sheet, Edit};
 #[cfg(feature = "run_edits")]
@@ -53,7 +53,7 @@ pub fn parts(corners: Corner) -> Vec<Part> {
 
 /// The parts' sheets in normal order.
 #[cfg(any(feature = "normalize", feature = "plan", feature = "draw"))]
-fn normal_sheets(corners: Corner) -> Vec<Vec<u8>> {
+pub fn normal_sheets(corners: Corner) -> Vec<Vec<u8>> {
     parts(corners).iter().map(sheet::normal).collect()
 }
 
@@ -274,15 +274,7 @@ pub fn all() -> Vec<Case> {
         )
     }));
     #[cfg(feature = "draw")]
-    cases.extend(sizes.map(|n| {
-        case(
-            "draw",
-            n,
-            normal_sheets(n),
-            |sheet, out| library::draw(sheet, out),
-            |sheet, out| draw_sheet(sheet, out),
-        )
-    }));
+    cases.extend(drawings::all(sizes));
     #[cfg(feature = "read_chart")]
     cases.extend(charts::all(sizes));
     cases

@@ -6,6 +6,8 @@
 mod cases;
 #[cfg(feature = "read_chart")]
 mod charts;
+#[cfg(feature = "draw")]
+mod drawings;
 #[path = "../../tests/src/library.rs"]
 mod library;
 

@@ -1,8 +1,8 @@
 /*
  * Calls every function on the sheets that the arguments name, each sheet in a
- * thread with 128 KiB of stack: sets it in order, plans, draws, reads the chart
- * back, asks it for the nearest bar, and edits it. The last line is `N passed, M
- * failed`; the exit status is 1 if any check failed. A stack that is too small ends
+ * thread with 128 KiB of stack: sets it in order, plans, draws, also on a label, reads
+ * the chart back, asks it for the nearest bar, and edits it. The last line is `N passed,
+ * M failed`; the exit status is 1 if any check failed. A stack that is too small ends
  * the program.
  */
 #include "bend.h"
@@ -51,6 +51,7 @@ static void *call_all(void *unused)
     unsigned b = number16(sheet + 5);
     uint64_t drawn = bend_draw(sheet, sheet_len, chart, sizeof chart);
     int holds = bend_number(drawn) == 0;
+    holds = holds && bend_number(bend_draw_label(sheet, sheet_len, chart, sizeof chart)) == (number16(chart) > 15 ? 19 : 0);
     holds = holds && bend_number(bend_read_chart(chart, bend_length(drawn), out, sizeof out)) == 0;
     holds = holds && memcmp(out + 1, sheet + 1, 2) == 0;
     holds = holds && bend_number(bend_nearest_bar(chart, bend_length(drawn), 0, 0, 0, number16(chart + 2) - 1)) == 0;

@@ -4,26 +4,15 @@
  * edits is run on it, refused, and run with no edit taken. It is drawn, and charts
  * of it are read, with an empty row and without. A square with an angle is set in
  * order, turned, planned, drawn and edited. On the chart of a part with 7 corners
- * the nearest bar is asked for. The last line is `N passed, M failed`; the exit
- * status is 1 if any check failed.
+ * the nearest bar is asked for. Parts are drawn on labels. The last line is `N passed,
+ * M failed`; the exit status is 1 if any check failed.
  */
 #include "bend.h"
+#include "check.h"
+#include "label.h"
 
 #include <stdio.h>
 #include <string.h>
-
-static int passed;
-static int failed;
-
-static void check(const char *name, int holds)
-{
-    if (holds) {
-        passed++;
-    } else {
-        failed++;
-        printf("FAILED %s\n", name);
-    }
-}
 
 /* Sets the sheet in order into four bytes of 0xaa, of which `lent` are lent. */
 static void normalize(const char *name, const uint8_t *sheet, size_t sheet_len,
@@ -258,6 +247,7 @@ int main(void)
     same_chart();
     rows();
     nearest_bars();
+    labels();
     through_a_triangle();
 
     memset(not_run, 0xaa, sizeof not_run);

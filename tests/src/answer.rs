@@ -1,6 +1,6 @@
 //! Refusals and their numbers.
 //! Follows "Operations and their refusals" of document 01; by request (xi) "refusal
-//! 1 now covers bits 4 to 7", and there is refusal 23.
+//! 1 now covers bits 4 to 7", and there is refusal 23; by request (ii) there is 19.
 
 /// Why an operation refuses; the value is the number that it gives.
 #[derive(Clone, Copy, Debug, PartialEq, Eq, PartialOrd, Ord)]
@@ -44,6 +44,8 @@ pub enum Refusal {
     Gap = 17,
     /// The strokes lack a side, or diagonals cross.
     NotAPart = 18,
+    /// The chart has more than fifteen rows and is to be drawn on a label.
+    LabelRows = 19,
     /// An angle is outside -1,800 to 1,800, or bit 3 stands with 3 corners.
     Angle = 23,
 }

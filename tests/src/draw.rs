@@ -249,7 +249,11 @@ pub fn draw_sheet(sheet: &[u8], out: &mut [u8]) -> Written {
 /// Draw with the bar list: the chart's bytes, and its bars from the start of
 /// the list. If either is too short, neither is written.
 pub fn draw_with_bars(sheet: &[u8], out: &mut [u8], bars: &mut [Bar]) -> Written {
-    let chart = chart_of(&sheet::read(sheet)?);
+    write_with_bars(&chart_of(&sheet::read(sheet)?), out, bars)
+}
+
+/// Writes a chart's bytes and its bars, or neither.
+pub fn write_with_bars(chart: &Chart, out: &mut [u8], bars: &mut [Bar]) -> Written {
     let first = bars
         .get_mut(..chart.bars.len())
         .ok_or(Refusal::OutputShort)?;

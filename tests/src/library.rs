@@ -46,6 +46,8 @@ extern "C" {
     fn bend_plan(sheet: *const u8, sheet_len: usize) -> u64;
     #[cfg(feature = "draw")]
     fn bend_draw(sheet: *const u8, sheet_len: usize, out: *mut u8, out_len: usize) -> u64;
+    #[cfg(feature = "draw")]
+    fn bend_draw_label(sheet: *const u8, sheet_len: usize, out: *mut u8, out_len: usize) -> u64;
     #[cfg(feature = "read_chart")]
     fn bend_read_chart(chart: *const u8, chart_len: usize, out: *mut u8, out_len: usize) -> u64;
     #[cfg(feature = "read_chart")]
@@ -139,6 +141,11 @@ pub fn plan(sheet: &[u8]) -> u64 {
 #[cfg(feature = "draw")]
 pub fn draw(sheet: &[u8], out: &mut [u8]) -> u64 {
     unsafe { bend_draw(sheet.as_ptr(), sheet.len(), out.as_mut_ptr(), out.len()) }
+}
+
+#[cfg(feature = "draw")]
+pub fn draw_label(sheet: &[u8], out: &mut [u8]) -> u64 {
+    unsafe { bend_draw_label(sheet.as_ptr(), sheet.len(), out.as_mut_ptr(), out.len()) }
 }
 
 #[cfg(feature = "read_chart")]

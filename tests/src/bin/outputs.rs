@@ -1,8 +1,8 @@
 //! Writes what the library answers to the sheets of the folder that the argument
 //! names, and to the sheets of parts that the comparison plans and draws: a line for
-//! each call of Plan, Set in order, Draw, and Read a chart on the chart drawn; at the
-//! end, on charts drawn, for calls of the nearest bar. (Draw with the bar list and the
-//! log line are no exports for C.)
+//! each call of Plan, Set in order, Draw, and Read a chart on the chart drawn; behind
+//! these, on charts drawn, for calls of the nearest bar; at the end for Draw on a label.
+//! (Draw with the bar list and the log line are no exports for C.)
 //!
 //! A line has the sheet's digest, the operation, the number and the values of the
 //! answer and, if the operation writes, a digest of the lent bytes and of those round
@@ -23,6 +23,7 @@ mod library;
 mod sheets;
 
 use bend_tests::draw::chart_of;
+use bend_tests::label_parts::{any_fewest, with_rows, EITHER_SIDE};
 use bend_tests::part::Part;
 use bend_tests::random::Random;
 use bend_tests::shapes::{all_parts, part, Shape, HUNG, SHAPES};
@@ -144,6 +145,28 @@ fn nearest_bars(part: &Part) {
     }
 }
 
+/// Draw on a label, for small parts, parts of every shape, and parts on either side of
+/// the limit: with an output that is long enough, and with none.
+fn labels(tests: &mut Tests) {
+    tests.test("on a label", || {
+        let mut random = Random::new(106);
+        let mut parts: Vec<Part> = (3..=6).flat_map(all_parts).collect();
+        for n in [40, 300, 1023, 1024] {
+            parts.extend(SHAPES.map(|shape| part(shape, n, &mut random)));
+        }
+        parts.extend(EITHER_SIDE.map(|(levels, more, rows)| with_rows(levels, more, rows)));
+        parts.extend((0..200).map(|_| any_fewest(8, 500, &mut random)));
+        for part in parts {
+            let sheet = any_sheet(&part, &mut random);
+            for lent in [CHART, 0] {
+                let call = |out: &mut [u8]| library::draw_label(&sheet, out);
+                written(digest(&sheet), "draw_label", lent, call);
+            }
+        }
+        Ok(())
+    });
+}
+
 fn main() -> io::Result<()> {
     let folder = env::args().nth(1).expect("a folder of sheets");
     let tests = &mut Tests;
@@ -163,5 +186,6 @@ fn main() -> io::Result<()> {
         parts.for_each(|part| nearest_bars(&part));
         Ok(())
     });
+    labels(tests);
     Ok(())
 }

@@ -132,11 +132,10 @@ fn map_bytes_and_lengths<C: Call>(
     }
 }
 
-/// The number for a sheet that only an angle or a short output can spoil.
-fn by_angle(angle: Angle, short: bool) -> u16 {
+/// The number for a sheet that gets `valid` unless the angle spoils it.
+fn by_angle(angle: Angle, valid: u16) -> u16 {
     match angle {
-        -1800..=1800 if short => 8,
-        -1800..=1800 => 0,
+        -1800..=1800 => valid,
         _ => 23,
     }
 }
@@ -168,7 +167,7 @@ fn values_and_places<C: Call>(
                     let sheet = fields.bytes();
                     for &(call, room) in &calls {
                         for lent in [0, room.saturating_sub(1), room, room + 5] {
-                            call.gives(by_angle(angle, lent < room), &sheet, lent)?;
+                            call.gives(by_angle(angle, call.on_valid(lent, room)), &sheet, lent)?;
                         }
                     }
                 }
@@ -183,7 +182,7 @@ fn values_and_places<C: Call>(
         for (call, room) in calls(&square, &one_of_each_kind(&square, &mut Random::new(512))) {
             for angle in Angle::MIN..=Angle::MAX {
                 let sheet = [&[11, 0, 4, 0, 3, 0, 1], &angle.to_be_bytes()[..]].concat();
-                call.gives(by_angle(angle, false), &sheet, room)?;
+                call.gives(by_angle(angle, call.on_valid(room, room)), &sheet, room)?;
             }
         }
         Ok(())
@@ -246,7 +245,11 @@ fn damaged_behind_the_pairs<C: Call>(
                 _ => {}
             }
             for (call, room) in calls(&part, &one_of_each_kind(&part, &mut random)) {
-                call.gives(number_due(part.n, &sheet), &sheet, room)?;
+                let due = match number_due(part.n, &sheet) {
+                    0 => call.on_valid(room, room),
+                    number => number,
+                };
+                call.gives(due, &sheet, room)?;
             }
         }
         Ok(())
@@ -269,11 +272,10 @@ pub fn output_lengths<C: Call>(
             let sheet = any_sheet(&part, &mut random);
             for (call, room) in calls(&part, &one_of_each_kind(&part, &mut random)) {
                 let first = if n < 25 { 0 } else { room - 2 * usize::from(n) };
-                for lent in (first..=room + 1).step_by(1 + usize::from(n) / 300) {
-                    call.gives(if lent < room { 8 } else { 0 }, &sheet, lent)?;
+                let lengths = (first..=room + 1).step_by(1 + usize::from(n) / 300);
+                for lent in lengths.chain([room - 1, room]) {
+                    call.gives(call.on_valid(lent, room), &sheet, lent)?;
                 }
-                call.gives(8, &sheet, room - 1)?;
-                call.gives(0, &sheet, room)?;
             }
         }
         Ok(())

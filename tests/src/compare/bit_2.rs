@@ -155,7 +155,7 @@ pub fn output_lengths<C: Call>(
             let sheet = any_order(&part, skipped, &mut random);
             for (call, room) in calls(&part, &one_of_each_kind(&part, &mut random)) {
                 for lent in room.saturating_sub(6)..=room + 6 {
-                    call.gives(if lent < room { 8 } else { 0 }, &sheet, lent)?;
+                    call.gives(call.on_valid(lent, room), &sheet, lent)?;
                 }
             }
         }

@@ -13,6 +13,16 @@ pub trait Call: Copy + Debug {
     /// Both sides on one sheet with `lent` bytes of output.
     fn same(self, sheet: &[u8], lent: usize) -> Outcome;
 
+    /// The number for a valid sheet with `lent` bytes of output, of which the result
+    /// needs `room`.
+    fn on_valid(self, lent: usize, room: usize) -> u16 {
+        if lent < room {
+            8
+        } else {
+            0
+        }
+    }
+
     /// Both sides, and the number that the test was made to get.
     fn gives(self, number: u16, sheet: &[u8], lent: usize) -> Outcome {
         must_be(number, self.by_library(sheet, &mut vec![0; lent]), sheet)

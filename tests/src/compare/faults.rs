@@ -5,7 +5,7 @@ use super::checks::Outcome;
 use super::sheets::{any_angle, any_four, any_part, ordered, ENOUGH, ORDERS};
 use super::Tests;
 use bend_tests::fields::Fields;
-use bend_tests::part::{cross, is_diagonal, lower_first, Angle, Corner, Pair};
+use bend_tests::part::{cross, is_diagonal, lower_first, Angle, Corner, Pair, Part};
 use bend_tests::random::Random;
 use bend_tests::sheet::ANGLES_BIT;
 
@@ -37,10 +37,14 @@ impl Draft {
             1 => random.between(41, 1023),
             _ => random.between(11, 40),
         };
-        let part = any_part(n as Corner, random);
+        Draft::of(&any_part(n as Corner, random), random)
+    }
+
+    /// A valid sheet of the part.
+    fn of(part: &Part, random: &mut Random) -> Draft {
         let order = *random.pick(&ORDERS);
         let skipped = (random.below(3) > 0).then(|| any_four(random));
-        let fields = ordered(&part, order, random);
+        let fields = ordered(part, order, random);
         let fields = Fields { skipped, ..fields };
         Draft {
             map: fields.bytes()[0],
@@ -225,6 +229,17 @@ fn spoiled(first: &Fault, second: Option<&Fault>, random: &mut Random) -> Vec<u8
     }
     (first.spoil)(&mut draft, random);
     draft.bytes()
+}
+
+/// Sheets of the part, which has at least eight pairs, one with each fault, and the
+/// numbers that are due.
+pub fn spoiled_sheets(part: &Part, random: &mut Random) -> Vec<(u16, Vec<u8>)> {
+    let spoiled = |fault: &Fault| {
+        let mut draft = Draft::of(part, random);
+        (fault.spoil)(&mut draft, random);
+        (fault.number, draft.bytes())
+    };
+    FAULTS.iter().map(spoiled).collect()
 }
 
 /// Calls `gives` on sheets with the fault: by itself with outputs long and short.

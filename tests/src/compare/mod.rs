@@ -12,6 +12,8 @@ mod draw;
 mod edit_lists;
 #[cfg(feature = "edits")]
 mod edits;
+#[cfg(feature = "draw")]
+mod label;
 #[cfg(feature = "run_edits")]
 mod list_faults;
 #[cfg(feature = "read_chart")]
@@ -90,6 +92,8 @@ pub fn run(tests: &mut Tests) {
     nearest_faults::run(tests);
     #[cfg(all(feature = "draw", feature = "read_chart"))]
     closing::run(tests);
+    #[cfg(feature = "draw")]
+    label::run(tests);
 }
 
 /// Runs tests by name and counts them.
