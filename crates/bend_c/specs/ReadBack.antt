@@ -12,7 +12,7 @@ use Rattle.edit_list.specs.Result.{resultOf, RunReadsBack}
 use Rattle.plan.specs.Answer.{planned, PlanReadsBack}
 use Rattle.draw.specs.Answer.{drawn}
 use Rattle.draw.specs.Label.{labelled}
-use Rattle.chart_reader.specs.declared.Cell.{Cell}
+use Rattle.nearest.specs.declared.Cell.{Cell}
 use Rattle.chart_reader.specs.Reader.{chartRead}
 use Rattle.chart_reader.specs.Follow.{nearestBar, FoundReadsBack}
 

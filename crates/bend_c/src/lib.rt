@@ -12,15 +12,15 @@ ghost use Rattle.edit.specs.Tables.{editOf};
 ghost use Rattle.edit_list.specs.Result.{ranOf, resultOf, packedRun, Tellable};
 ghost use Rattle.draw.specs.Answer.{drawn};
 ghost use Rattle.draw.specs.Label.{labelled};
-ghost use Rattle.chart_reader.specs.Cells.{cell};
+ghost use Rattle.nearest.specs.Cells.{cell};
 ghost use Rattle.chart_reader.specs.Reader.{chartRead};
 ghost use Rattle.chart_reader.specs.Follow.{nearestBar, followedOf, valueOf, packedFound};
 ghost use Rattle.plan.specs.Answer.{planned, plannedOf, packedPlan};
-use chart_reader::Cell;
 use chart_reader::Followed;
 use codec::Written;
 use edit::held::Edit;
 use edit_list::Ran;
+use nearest::Cell;
 use plan::Planned;
 
 // The answer in one number.

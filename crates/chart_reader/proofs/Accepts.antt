@@ -11,8 +11,9 @@ use Rattle.sheet.specs.Sheet.{Reading, refused, held}
 use Rattle.chart.specs.Chart.{Chart, True, Shows}
 use Rattle.chart.specs.Bytes.{bytesOf}
 use Rattle.chart.specs.Decode.{countIn, strokeAt, places, strokePlaces, chartIn}
+use Rattle.nearest.specs.BarRule.{BarRule}
 use Rattle.chart_reader.specs.Formed.{Formed}
-use Rattle.chart_reader.specs.Rules.{BarRule, StrokeRule, GapRule, PartRule, partIn}
+use Rattle.chart_reader.specs.Rules.{StrokeRule, GapRule, PartRule, partIn}
 use Rattle.chart_reader.specs.Reader.{readChart}
 use Rattle.chart_reader.specs.Charts.{Charts}
 use Rattle.chart_reader.proofs.Verdict.{Verdict, taken, by-14, by-15, by-16, by-17, by-18, read-by}

@@ -8,16 +8,16 @@ use Rattle.lists.specs.Lists.{choose}
 use Rattle.lists.proofs.Lists.{choose-yes, choose-no}
 use Rattle.chart.specs.Chart as chart
 use Rattle.chart.specs.Decode.{countIn, chartIn}
-use Rattle.chart_reader.specs.declared.Cell.{Cell}
+use Rattle.nearest.specs.declared.Cell.{Cell}
+use Rattle.nearest.specs.BarRule.{BarRule}
+use Rattle.nearest.specs.Nearest.{Found, none, bar, nearest}
+use Rattle.nearest.specs.Held.{SmallCell}
+use Rattle.nearest.proofs.Line.{of-nearest}
 use Rattle.chart_reader.specs.declared.Followed.{Followed}
 use Rattle.chart_reader.specs.declared.Followed.the-variants.{None, Bar, Refused}
 use Rattle.chart_reader.specs.Formed.{Formed, formed?}
-use Rattle.chart_reader.specs.Rules.{BarRule}
 use Rattle.chart_reader.specs.Reader.{bars?}
-use Rattle.chart_reader.specs.Nearest.{Found, none, bar, nearest}
 use Rattle.chart_reader.specs.Follow.{FollowAnswer, followRefusal, Asked, asked?, nearestBar, followedOf, valueOf, packedFound, FoundReadsBack}
-use Rattle.chart_reader.specs.Held.{SmallCell}
-use Rattle.chart_reader.proofs.Line.{of-nearest}
 
 -- the answer with nothing refused
 abbrev pub nearestIs : Found → FollowAnswer

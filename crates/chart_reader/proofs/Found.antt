@@ -15,7 +15,8 @@ use Rattle.sheet.specs.Sheet.{held}
 use Rattle.sheet.specs.Held.{polygonOf, Reads, refuses, gives}
 use Rattle.chart.specs.Chart.{strokeEdge}
 use Rattle.chart.specs.Decode.{chartIn}
-use Rattle.chart_reader.specs.Rules.{BarRule, StrokeRule, GapRule, PartOf, edgesIn, diagonalsIn, partIn}
+use Rattle.nearest.specs.BarRule.{BarRule}
+use Rattle.chart_reader.specs.Rules.{StrokeRule, GapRule, PartOf, edgesIn, diagonalsIn, partIn}
 use Rattle.chart_reader.specs.Reader.{readChart}
 use Rattle.chart_reader.specs.Held.{StrokesFound, EdgesOf}
 use Rattle.chart_reader.proofs.Accepts.{strokes-count}

@@ -11,10 +11,11 @@ use Rattle.lists.proofs.Lists.{all-mem, all-of}
 use Rattle.lists.proofs.Places.{below-at, stored}
 use Rattle.polygon.specs.Polygon.{Edge}
 use Rattle.chart.specs.Chart.{Bar, Stroke, upright, level, strokeEdge, Chart}
-use Rattle.chart_reader.specs.declared.Cell.{Cell}
-use Rattle.chart_reader.specs.Cells.{cell, Inside, HasCell}
-use Rattle.chart_reader.specs.Rules.{ends, BarRule, Named, StrokeRule, BarsFit}
-use Rattle.chart_reader.specs.Order.{address, endOf, spanAt, Cut, InOrder, Ordered}
+use Rattle.nearest.specs.declared.Cell.{Cell}
+use Rattle.nearest.specs.Cells.{cell, Inside, HasCell}
+use Rattle.nearest.specs.BarRule.{BarRule}
+use Rattle.nearest.specs.Order.{address, endOf, spanAt, Cut, InOrder, Ordered}
+use Rattle.chart_reader.specs.Rules.{ends, Named, StrokeRule, BarsFit}
 use Rattle.chart_reader.specs.Gaps.{InGap, Gapped, GapPut, GapAt, GapsIn}
 use Rattle.chart_reader.proofs.Truth.{apart-of}
 

@@ -13,10 +13,10 @@ use Rattle.sheet.specs.Sheet.{Reading, refused, held, ask, count?}
 use Rattle.chart.specs.Chart.{Bar, Stroke, upright, level, strokeEdge, barsOf}
 use Rattle.chart.specs.Bytes.{barBytes, strokeBytes, bytesOf}
 use Rattle.chart.specs.Decode.{barOn, shaped, places, behind}
+use Rattle.nearest.specs.Areas.{common?, common-of, between, stands?, shares?, crosses?}
 use Rattle.chart_reader.specs.Formed.{formed?}
 use Rattle.chart_reader.specs.Rules.{partSides}
 use Rattle.chart_reader.specs.Reader.{bars?, free?, joins?, strokes?, passes?, gaps?, part?, readChart}
-use Rattle.chart_reader.specs.Areas.{common?, common-of, between, stands?, shares?, crosses?}
 
 -- the bytes of the triangle's chart in document 01
 abbrev pub triangle : List ℕ

@@ -1,9 +1,4 @@
-pub mod Line
 pub mod Standing
-pub mod Spans
-pub mod Columns
-pub mod TwoSorts
-pub mod Ordering
 pub mod Known
 pub mod Placing
 pub mod Stroked

@@ -13,16 +13,17 @@ use Rattle.chart.specs.declared.Stroke as code
 use Rattle.polygon.specs.Polygon.{_—_}
 use Rattle.chart.specs.Chart.{Bar, Stroke, upright, level, Chart}
 use Rattle.chart.specs.Decode.{chartIn, strokeAt, strokeOf}
-use Rattle.chart_reader.specs.declared.Cell.{Cell}
+use Rattle.nearest.specs.declared.Cell.{Cell}
+use Rattle.nearest.specs.Cells.{HasCell, Inside}
+use Rattle.nearest.specs.BarRule.{BarRule}
+use Rattle.nearest.specs.Nearest.{none, bar, nearest}
+use Rattle.nearest.specs.Order.{address, endOf, spanAt, Cut, InOrder, Whole, Ordered}
+use Rattle.nearest.proofs.Line.{of-nearest, of-none}
+use Rattle.nearest.proofs.Spans.{has-address, address-has}
 use Rattle.chart_reader.specs.declared.Ends.{Ends}
-use Rattle.chart_reader.specs.Cells.{HasCell, Inside}
-use Rattle.chart_reader.specs.Rules.{ends, BarRule, Passes, GapRule}
+use Rattle.chart_reader.specs.Rules.{ends, Passes, GapRule}
 use Rattle.chart_reader.specs.Held.{StrokesFound, EndsOf}
-use Rattle.chart_reader.specs.Nearest.{none, bar, nearest}
-use Rattle.chart_reader.specs.Order.{address, endOf, spanAt, Cut, InOrder, Whole, Ordered}
 use Rattle.chart_reader.specs.Gaps.{InGap, Gapped, Clear, GapPut, GapAt, GapsIn}
-use Rattle.chart_reader.proofs.Line.{of-nearest, of-none}
-use Rattle.chart_reader.proofs.Spans.{has-address, address-has}
 use Rattle.chart_reader.proofs.Stroked.{strokes-all, strokes-at}
 
 -- two cells with one address are the same

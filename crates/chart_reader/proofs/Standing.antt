@@ -3,10 +3,10 @@ use mathlib.Core.Path.{_≡_}
 use Prim.Native.Nat.{ℕ}
 use Rattle.lists.proofs.Places.{below-all, below-at}
 use Rattle.chart.specs.Chart.{Chart}
-use Rattle.chart_reader.specs.declared.Cell.{Cell}
+use Rattle.nearest.specs.declared.Cell.{Cell}
+use Rattle.nearest.specs.Nearest.{none, bar, nearest}
+use Rattle.nearest.proofs.Line.{of-nearest, of-none}
 use Rattle.chart_reader.specs.Rules.{Free}
-use Rattle.chart_reader.specs.Nearest.{none, bar, nearest}
-use Rattle.chart_reader.proofs.Line.{of-nearest, of-none}
 
 module _ (c : Chart) (n : ℕ) (count : n ≡ c .n) (e : Cell × Cell) where
   pub none-free : nearest (c .bar) n e ≡ none → Free c e

@@ -13,11 +13,12 @@ use Rattle.chart.specs.declared.Bar.{Bar}
 use Rattle.chart.specs.declared.Stroke as code
 use Rattle.chart.specs.Chart.{Stroke, strokeEdge, Chart}
 use Rattle.chart.specs.Decode.{countIn, strokeSize, strokeAt, places, behind, strokePlaces, chartIn, barOf, drawnAs, strokeOf}
-use Rattle.chart_reader.specs.declared.Cell.{Cell}
+use Rattle.nearest.specs.declared.Cell.{Cell}
+use Rattle.nearest.specs.Cells.{cell}
+use Rattle.nearest.specs.Held.{SmallCell, Bars}
 use Rattle.chart_reader.specs.declared.Ends.{Ends}
-use Rattle.chart_reader.specs.Cells.{cell}
 use Rattle.chart_reader.specs.Rules.{Named, Joins, ends}
-use Rattle.chart_reader.specs.Held.{SmallCell, Bars, StrokesFound, HasColumn, StrokeIn, EndsOf}
+use Rattle.chart_reader.specs.Held.{StrokesFound, HasColumn, StrokeIn, EndsOf}
 use Rattle.chart_reader.proofs.Accepts.{places-count}
 use Rattle.chart_reader.proofs.Encoded.{behind-up}
 

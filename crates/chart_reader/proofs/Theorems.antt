@@ -1,10 +1,9 @@
 -- What this crate proves of reading a chart, each theorem with its statement in plain words. The proofs are in the files beside this one.
--- To be read with specs/Reader.antt, specs/Rules.antt, specs/Formed.antt, specs/Charts.antt, specs/Nearest.antt, and specs/Decode.antt of the crate chart.
+-- To be read with specs/Reader.antt, specs/Rules.antt, specs/Formed.antt, specs/Charts.antt, specs/Follow.antt, specs/Nearest.antt of the crate nearest, and specs/Decode.antt of the crate chart.
 use mathlib.Core.Path.{_≡_, refl, ap}
-use mathlib.Core.Logic.{_↔_, inl, inr}
+use mathlib.Core.Logic.{_↔_}
 use mathlib.Core.List.{List}
-use Prim.Native.Nat.{ℕ, _≤_, _<_}
-use native.Mathlib.Omega.{arith}
+use Prim.Native.Nat.{ℕ, _<_}
 use Rattle.lists.specs.Lists.{All}
 use Rattle.lists.proofs.Lists.{all-imp}
 use Rattle.lists.proofs.Places.{below-at}
@@ -12,20 +11,19 @@ use Rattle.polygon.specs.Polygon.{Polygon, bare, Valid}
 use Rattle.polygon.proofs.Reading.{bare-valid}
 use Rattle.codec.specs.Answer.{write}
 use Rattle.sheet.specs.Sheet.{Reading, held, normalSheet, outcome}
-use Rattle.chart.specs.Chart.{Bar, Chart, chartOf}
+use Rattle.chart.specs.Chart.{Chart, chartOf}
 use Rattle.chart.specs.Bytes.{bytesOf}
 use Rattle.chart.specs.Decode.{chartIn}
 use Rattle.chart.proofs.Theorems.{chart-bare, chart-is-true, chart-shows}
-use Rattle.chart_reader.specs.declared.Cell.{Cell}
-use Rattle.chart_reader.specs.Cells.{Inside, Stands}
+use Rattle.nearest.specs.declared.Cell.{Cell}
+use Rattle.nearest.specs.Nearest.{none, nearest}
+use Rattle.nearest.proofs.Line.{none-of}
 use Rattle.chart_reader.specs.Rules.{ends, Free}
 use Rattle.chart_reader.specs.Reader.{readChart, chartRead}
 use Rattle.chart_reader.specs.Charts.{Charts}
-use Rattle.chart_reader.specs.Nearest.{none, bar, away, IsNearest, nearest}
 use Rattle.chart_reader.specs.Follow.{FollowAnswer, Asked, nearestBar}
 use Rattle.chart_reader.proofs.Verdict.{Verdict, read-by, by-reading}
 use Rattle.chart_reader.proofs.Accepts.{held-keeps, held-charts, charts-held}
-use Rattle.chart_reader.proofs.Line.{nearest-of, of-nearest, none-of, of-none}
 use Rattle.chart_reader.proofs.Standing.{none-free}
 use Rattle.chart_reader.proofs.Following.{Follows, found, by-answer, followed-by}
 
@@ -51,23 +49,7 @@ chart-charts p v =
 pub reads-back : (p : Polygon) → Valid p → readChart (bytesOf (chartOf p)) ≡ held (bare p)
 reads-back p v = charts-held (chart-charts p v)
 
--- Request (x). The question behind the reader is answered by the corner of the bar nearest the first cell, the lowest if bars share its cell; there is one such corner at most.
-pub nearest-answers : (bars : ℕ → Bar) (n : ℕ) (e : Cell × Cell) (x : ℕ) → (nearest bars n e ≡ bar x) ↔ IsNearest bars n e x
-nearest-answers bars n e x = (of-nearest bars n e x, nearest-of bars n e x)
-
--- It is answered by none exactly if no bar stands between the two cells.
-pub nearest-none : (bars : ℕ → Bar) (n : ℕ) (e : Cell × Cell) → (nearest bars n e ≡ none) ↔ ((y : ℕ) → y < n → ¬ Stands e (bars y))
-nearest-none bars n e = (of-none bars n e, none-of bars n e)
-
--- Between a cell and itself, or its neighbour, there is none.
-pub neighbours-none : (bars : ℕ → Bar) (n : ℕ) (e : Cell × Cell) → away (e .0) (e .1) ≤ 1 → nearest bars n e ≡ none
-neighbours-none bars n e h = none-of bars n e (λ y k w. far (w .1))
-  where
-    far : {d : Cell} → Inside e d → ⊥
-    far (inl w) = omega (arith, w)
-    far (inr w) = omega (arith, w)
-
--- What test 16 asks of two cells is that answer: no bar stands between them exactly if it is none. So both ends of a stroke of a chart that is taken can be joined with a finger.
+-- Request (x). What test 16 asks of two cells is the answer of `nearest`: no bar stands between them exactly if it is none. So both ends of a stroke of a chart that is taken can be joined with a finger.
 pub free-answer : (c : Chart) (e : Cell × Cell) → Free c e ↔ (nearest (c .bar) (c .n) e ≡ none)
 free-answer c e = (λ F. none-of (c .bar) (c .n) e (below-at F), none-free c (c .n) refl e)
 

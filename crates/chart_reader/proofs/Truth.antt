@@ -10,9 +10,10 @@ use Rattle.lists.proofs.Lists.{all-mem, all-of}
 use Rattle.lists.proofs.Places.{below-all, below-at, below-sorted-by, below-two}
 use Rattle.polygon.specs.Polygon.{Edge, Ascending}
 use Rattle.chart.specs.Chart.{Stroke, upright, level, strokeEdge, Chart, Gap, Between, True}
-use Rattle.chart_reader.specs.declared.Cell.{Cell}
-use Rattle.chart_reader.specs.Cells.{cell, Amid, Inside}
-use Rattle.chart_reader.specs.Rules.{Lies, Apart, BarRule, Named, ends, BarsFit, StrokeRule, Passes, GapRule}
+use Rattle.nearest.specs.declared.Cell.{Cell}
+use Rattle.nearest.specs.Cells.{cell, Amid, Inside}
+use Rattle.nearest.specs.BarRule.{Lies, Apart, BarRule}
+use Rattle.chart_reader.specs.Rules.{Named, ends, BarsFit, StrokeRule, Passes, GapRule}
 
 -- strictly between, said in two ways
 amid-of : {a b x : ℕ} → Between a b x → Amid a b x

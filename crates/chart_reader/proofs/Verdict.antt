@@ -5,8 +5,9 @@ use Prim.Native.Nat.{ℕ}
 use Rattle.sheet.specs.Sheet.{Reading, refused, held, ask}
 use Rattle.sheet.proofs.Asks.{ask-yes, ask-no, past}
 use Rattle.chart.specs.Decode.{chartIn}
+use Rattle.nearest.specs.BarRule.{BarRule}
 use Rattle.chart_reader.specs.Formed.{Formed, formed?}
-use Rattle.chart_reader.specs.Rules.{BarRule, StrokeRule, GapRule, PartRule, partIn}
+use Rattle.chart_reader.specs.Rules.{StrokeRule, GapRule, PartRule, partIn}
 use Rattle.chart_reader.specs.Reader.{bars?, strokes?, gaps?, part?, readChart}
 
 -- a chart is refused by the number of the first rule that it breaks, or its part is held

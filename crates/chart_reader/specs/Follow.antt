@@ -9,12 +9,12 @@ use Rattle.lists.specs.Lists.{choose, either?, three?}
 use Rattle.codec.specs.Unpacked.{numberIn, cornerIn, OneNumber}
 use Rattle.chart.specs.Chart.{Chart}
 use Rattle.chart.specs.Decode.{chartIn}
-use Rattle.chart_reader.specs.declared.Cell.{Cell}
+use Rattle.nearest.specs.declared.Cell.{Cell}
+use Rattle.nearest.specs.Nearest.{Found, none, bar, nearest}
 use Rattle.chart_reader.specs.declared.Followed as code
 use Rattle.chart_reader.specs.declared.Followed.the-variants as variants
 use Rattle.chart_reader.specs.Formed.{formed?}
 use Rattle.chart_reader.specs.Reader.{bars?}
-use Rattle.chart_reader.specs.Nearest.{Found, none, bar, nearest}
 
 -- the answer: the number, and what is found
 pub record FollowAnswer : Type 0 where

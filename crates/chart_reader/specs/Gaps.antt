@@ -5,10 +5,10 @@ use Prim.Native.Nat.{ℕ, _+_, _/_, _≤_, _<_}
 use lib.ListN.{length, getD, set}
 use Rattle.polygon.specs.Polygon.{Edge}
 use Rattle.chart.specs.Chart.{Stroke, upright, level, Chart}
-use Rattle.chart_reader.specs.declared.Cell.{Cell}
-use Rattle.chart_reader.specs.Cells.{HasCell, Inside, CommonCell}
+use Rattle.nearest.specs.declared.Cell.{Cell}
+use Rattle.nearest.specs.Cells.{HasCell, Inside, CommonCell}
+use Rattle.nearest.specs.Order.{address, spanAt, Cut}
 use Rattle.chart_reader.specs.Rules.{ends}
-use Rattle.chart_reader.specs.Order.{address, spanAt, Cut}
 
 module _ (c : Chart) where
   -- the cell lies in the stroke's gap

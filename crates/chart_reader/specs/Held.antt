@@ -11,14 +11,10 @@ use Rattle.sheet.specs.declared.Read.the-variants.{Refused, Held}
 use Rattle.chart.specs.Chart.{Bar, Stroke, Chart}
 use Rattle.chart.specs.Decode.{countIn, places, behind, strokePlaces, strokeOf}
 use Rattle.chart.specs.declared.Stroke as code
-use Rattle.chart_reader.specs.declared.Cell.{Cell}
+use Rattle.nearest.specs.Held.{SmallCell}
 use Rattle.chart_reader.specs.declared.Ends.{Ends}
 use Rattle.chart_reader.specs.Formed.{Formed}
 use Rattle.chart_reader.specs.Rules.{ends}
-
--- numbers of a cell of two bytes
-abbrev pub SmallCell : Cell → Type 0
-SmallCell p = (p .row < 65536) × (p .column < 65536)
 
 -- the map bytes of k strokes have at most bit 0, and the strokes end where the bytes end
 pub record Ending (s : List ℕ) (from k : ℕ) : Type 0 where
@@ -30,11 +26,6 @@ pub record StrokesFound (s : List ℕ) (n : ℕ) (at : List ℕ) : Type 0 where
   pub formed : Formed s
   pub count : n ≡ countIn s
   pub strokes : at ≡ strokePlaces s
-
--- there is room for the bars of n corners
-pub record Bars (s : List ℕ) (n : ℕ) : Type 0 where
-  pub count : n ≡ countIn s
-  pub room : 6 + 6 * n ≤ length s
 
 -- the bar has a cell in column j
 abbrev pub HasColumn : Bar → ℕ → Type 0

@@ -10,10 +10,11 @@ use Rattle.codec.specs.Answer.{Outcome}
 use Rattle.sheet.specs.Sheet.{Reading, held, ask, outcome}
 use Rattle.chart.specs.Chart.{Stroke, upright, level, strokeEdge, Chart}
 use Rattle.chart.specs.Decode.{chartIn}
-use Rattle.chart_reader.specs.declared.Cell.{Cell}
-use Rattle.chart_reader.specs.Areas.{shares?, stands?, crosses?}
+use Rattle.nearest.specs.declared.Cell.{Cell}
+use Rattle.nearest.specs.BarRule.{BarRule}
+use Rattle.nearest.specs.Areas.{shares?, stands?, crosses?}
 use Rattle.chart_reader.specs.Formed.{formed?}
-use Rattle.chart_reader.specs.Rules.{partSides, BarRule, Joins, ends, Free, StrokeRule, Passes, GapRule, edgesIn, diagonalsIn, PartRule, partIn}
+use Rattle.chart_reader.specs.Rules.{partSides, Joins, ends, Free, StrokeRule, Passes, GapRule, edgesIn, diagonalsIn, PartRule, partIn}
 
 -- the decisions; what each decides is its type
 module _ (c : Chart) where

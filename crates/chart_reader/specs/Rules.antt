@@ -1,15 +1,15 @@
--- Document 01, "A chart is true when ..", as the rules that "Read a chart" tests, and the part that a chart shows.
+-- Document 01, "A chart is true when ..", as the rules that "Read a chart" tests, and the part that a chart shows. The rule of bars is in crate nearest, specs/BarRule.antt.
 use mathlib.Core.Path.{_≡_}
 use mathlib.Core.Logic.{_≢_}
 use mathlib.Core.List.{List, _∷_, map}
-use Prim.Native.Nat.{ℕ, suc, _-_, _≤_, _<_, min, max}
-use Rattle.lists.specs.Lists.{All, Mem, Sorted, below, keep, numbers}
+use Prim.Native.Nat.{ℕ, suc, _-_, _<_, min, max}
+use Rattle.lists.specs.Lists.{All, Mem, below, keep, numbers}
 use Rattle.polygon.specs.Angles.{none}
 use Rattle.polygon.specs.Polygon.{Edge, _—_, Ascending, NoneCross, Polygon}
 use Rattle.polygon.specs.Order.{diagonal?}
-use Rattle.chart.specs.Chart.{Bar, Stroke, upright, level, strokeEdge, Chart, Covers}
-use Rattle.chart_reader.specs.declared.Cell.{Cell}
-use Rattle.chart_reader.specs.Cells.{cell, HasCell, Inside, CommonCell, Stands}
+use Rattle.chart.specs.Chart.{Stroke, upright, level, strokeEdge, Chart, Covers}
+use Rattle.nearest.specs.declared.Cell.{Cell}
+use Rattle.nearest.specs.Cells.{cell, Inside, CommonCell, Stands}
 
 -- "side i joins corner i to i+1, and side n-1, the root, joins n-1 to 0": the sides of n corners, ascending
 unfoldable pub partSides : ℕ → List Edge
@@ -19,21 +19,7 @@ partSides n = (0 — 1) ∷ (0 — (n - 1)) ∷ map (λ i. i — suc i) (numbers
 abbrev pub PartOf : ℕ → List Edge → Type 0
 PartOf n es = All (λ e. Mem e es) (partSides n) × NoneCross (keep (diagonal? n) es)
 
--- 15: "a bar breaks its rule". "Each bar's left column is at most its right, and bars lie within rows and columns .."
-abbrev pub LiesIn : ℕ → ℕ → Bar → Type 0
-LiesIn rows columns b = (b .left ≤ b .right) × (b .right < columns) × (b .row < rows)
-
 module _ (c : Chart) where
-  abbrev pub Lies : ℕ → Type 0
-  Lies x = LiesIn (c .rows) (c .columns) (c .bar x)
-
-  -- ".. without sharing a cell"
-  abbrev pub Apart : ℕ → ℕ → Type 0
-  Apart x y = ¬ CommonCell (HasCell (c .bar x)) (HasCell (c .bar y))
-
-  abbrev pub BarRule : Type 0
-  BarRule = All Lies (below (c .n)) × Sorted Apart (below (c .n))
-
   -- 16: "a stroke's corners or order wrong": strokes come "ascending by (a,b), a < b"
   abbrev pub Named : Stroke → Type 0
   Named s = (strokeEdge s .0 < strokeEdge s .1) × (strokeEdge s .1 < c .n)

@@ -3,18 +3,18 @@ ghost use mathlib.Core.Path.{_≡_};
 ghost use mathlib.Core.Bool.{true, false};
 ghost use lib.ListN.{length};
 ghost use Rattle.chart.specs.Decode.{chartIn};
+ghost use Rattle.nearest.specs.Held.{Bars};
 ghost use Rattle.chart_reader.specs.Formed.{Formed};
-ghost use Rattle.chart_reader.specs.Held.{Bars};
 ghost use Rattle.chart_reader.specs.Follow.{Asked, nearestBar, followedOf};
-use crate::Cell;
 use crate::Followed;
-use crate::Nearest;
-use crate::bars::bars_keep;
 use crate::frame::frame;
-use crate::question::nearest_corner;
 use codec::get16;
 use keys::CORNERS;
 use keys::EDGES;
+use nearest::Cell;
+use nearest::Nearest;
+use nearest::bars::bars_keep;
+use nearest::question::nearest_corner;
 
 // Whether both cells are of the chart, and of one row or column.
 fn asked(chart: &[u8], n: usize, p: Cell, q: Cell) -> bool

@@ -7,19 +7,21 @@ ghost use Prim.Native.Nat.{ℕ, _+_, _<_};
 ghost use lib.ListN.{length, getD};
 ghost use Rattle.lists.specs.Lists.{All};
 ghost use Rattle.chart.specs.Decode.{chartIn, strokeAt, strokeOf};
-ghost use Rattle.chart_reader.specs.declared.Cell.{Cell};
-ghost use Rattle.chart_reader.specs.Rules.{BarRule, Named, StrokeRule, GapRule};
-ghost use Rattle.chart_reader.specs.Held.{Bars, StrokesFound, StrokeIn};
-ghost use Rattle.chart_reader.specs.Order.{InOrder, Ordered};
+ghost use Rattle.nearest.specs.declared.Cell.{Cell};
+ghost use Rattle.nearest.specs.BarRule.{BarRule};
+ghost use Rattle.nearest.specs.Held.{Bars};
+ghost use Rattle.nearest.specs.Order.{InOrder, Ordered};
+ghost use Rattle.chart_reader.specs.Rules.{Named, StrokeRule, GapRule};
+ghost use Rattle.chart_reader.specs.Held.{StrokesFound, StrokeIn};
 ghost use Rattle.chart_reader.specs.Gaps.{InGap, Gapped, Clear, GapPut, GapsIn};
-use crate::Nearest;
-use crate::question::address;
-use crate::question::in_column;
-use crate::question::seek;
 use crate::strokes::stroke_ends;
 use chart::Stroke;
 use chart::stroke_at;
 use keys::CORNERS;
+use nearest::Nearest;
+use nearest::question::address;
+use nearest::question::in_column;
+use nearest::question::seek;
 
 // Copies numbers, each with x added.
 fn copy_plus(xs: &[u32], x: u32, out: &mut [u32])

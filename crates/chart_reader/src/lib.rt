@@ -1,15 +1,14 @@
 // Read a chart: the bytes of a chart, ours or another's, to the normal sheet of the part that it shows.
-// frame.rt finds the strokes in the bytes, order.rt puts the bars in order, question.rt asks for the bar nearest a cell, bars.rt, strokes.rt, gaps.rt and part.rt test the rules;
-// follow.rt asks the same for others.
-// The definitions that the contracts cite are in specs/: Reader.antt has the tests in their order, Rules.antt the rules, crate chart's Decode.antt the bytes, Nearest.antt and Follow.antt the nearest bar,
-// Held.antt, Order.antt and Gaps.antt how the code holds a chart.
+// frame.rt finds the strokes in the bytes; the crate nearest tests the bars, puts them in order and asks for the bar nearest a cell;
+// strokes.rt, gaps.rt and part.rt test the other rules; follow.rt asks the same question for others.
+// The definitions that the contracts cite are in specs/: Reader.antt has the tests in their order, Rules.antt the rules,
+// crate chart's Decode.antt the bytes, Follow.antt the nearest bar, Held.antt and Gaps.antt how the code holds a chart.
 ghost use mathlib.Core.Path.{_≡_};
 ghost use lib.ListN.{length};
 ghost use Rattle.codec.specs.Answer.{answered, written};
 ghost use Rattle.sheet.specs.Held.{Reads};
 ghost use Rattle.chart_reader.specs.Reader.{readChart, chartRead};
 ghost use Rattle.chart_reader.specs.Held.{StrokesFound, NoAngles};
-use crate::bars::bars_keep;
 use crate::frame::frame;
 use crate::gaps::gaps_keep;
 use crate::part::part;
@@ -17,24 +16,17 @@ use crate::strokes::strokes_keep;
 use codec::Written;
 use keys::CORNERS;
 use keys::EDGES;
+use nearest::Cell;
+use nearest::bars::bars_keep;
 use sheet::Head;
 use sheet::Read;
 use sheet::writer::write_keys;
 
-pub mod bars;
 pub mod follow;
 pub mod frame;
 pub mod gaps;
-pub mod order;
 pub mod part;
-pub mod question;
 pub mod strokes;
-
-// A cell of a chart.
-pub struct Cell {
-    pub row: usize,
-    pub column: usize,
-}
 
 // The two cells that a stroke runs between.
 pub struct Ends {
@@ -42,13 +34,7 @@ pub struct Ends {
     pub last: Cell,
 }
 
-// The answer to the question which bar is nearest: that of a corner, or none.
-pub enum Nearest {
-    None,
-    Bar(usize),
-}
-
-// The same for the bytes of a chart, which may be refused.
+// The answer of the crate nearest, that of a corner or none, for the bytes of a chart, which may be refused.
 pub enum Followed {
     None,
     Bar(usize),

@@ -6,15 +6,12 @@ ghost use lib.ListN.{length, take};
 ghost use Rattle.lists.specs.Lists.{All};
 ghost use Rattle.keys.specs.Keys.{edgesOf};
 ghost use Rattle.chart.specs.Decode.{chartIn, barOf, strokeOf};
-ghost use Rattle.chart_reader.specs.Cells.{cell};
+ghost use Rattle.nearest.specs.Cells.{cell};
+ghost use Rattle.nearest.specs.Held.{Bars};
+ghost use Rattle.nearest.specs.Order.{Ordered};
 ghost use Rattle.chart_reader.specs.Rules.{Named, Joins, BarsFit, StrokeRule, edgesIn};
-ghost use Rattle.chart_reader.specs.Held.{Bars, StrokesFound, StrokeIn, EndsOf, HasColumn};
-ghost use Rattle.chart_reader.specs.Order.{Ordered};
-use crate::Cell;
+ghost use Rattle.chart_reader.specs.Held.{StrokesFound, StrokeIn, EndsOf, HasColumn};
 use crate::Ends;
-use crate::Nearest;
-use crate::question::greater;
-use crate::question::nearest_corner;
 use chart::Bar;
 use chart::Stroke;
 use chart::corner_bar;
@@ -22,6 +19,10 @@ use chart::stroke_at;
 use codec::least;
 use keys::key;
 use keys::sort::ascends;
+use nearest::Cell;
+use nearest::Nearest;
+use nearest::question::greater;
+use nearest::question::nearest_corner;
 
 // Reads the edges of the strokes, as keys, if each is of two corners, the lower first.
 fn edge_keys(chart: &[u8], at: &[usize], n: usize, keys: &mut [u32]) -> bool

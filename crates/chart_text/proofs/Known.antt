@@ -15,7 +15,7 @@ use Rattle.chart.specs.Chart.{strokeEdge, barsOf}
 use Rattle.chart.specs.Bytes.{barBytes, strokeBytes, bytesOf}
 use Rattle.chart.specs.Decode.{shaped, places, behind}
 use Rattle.log_line.specs.Line.{digits, decimal, line}
-use Rattle.chart_reader.specs.Areas.{common?, common-of, between, stands?, shares?, crosses?}
+use Rattle.nearest.specs.Areas.{common?, common-of, between, stands?, shares?, crosses?}
 use Rattle.chart_reader.specs.Formed.{formed?}
 use Rattle.chart_reader.specs.Rules.{partSides}
 use Rattle.chart_reader.specs.Reader.{bars?, free?, joins?, strokes?, passes?, gaps?, part?, readChart}

@@ -17,7 +17,7 @@ use Rattle.chart.specs.Decode.{strokeOf}
 use Rattle.log_line.specs.Line.{decimal, cornersWord}
 use Rattle.log_line.specs.Put.{Put}
 use Rattle.log_line.proofs.Putting.{put-then}
-use Rattle.chart_reader.specs.declared.Cell.{Cell}
+use Rattle.nearest.specs.declared.Cell.{Cell}
 use Rattle.chart_reader.specs.declared.Ends.{Ends}
 use Rattle.chart_reader.specs.Held.{EndsOf}
 use Rattle.chart_reader.proofs.Stroked.{edge-of}

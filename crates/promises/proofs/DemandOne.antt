@@ -28,7 +28,7 @@ use Rattle.plan.specs.Answer.{answer, planned}
 use Rattle.chart.specs.Chart.{barsOf, chartOf}
 use Rattle.chart.specs.Bytes.{bytesOf}
 use Rattle.chart.specs.Decode.{chartIn}
-use Rattle.chart_reader.specs.declared.Cell.{Cell}
+use Rattle.nearest.specs.declared.Cell.{Cell}
 use Rattle.chart_reader.specs.Follow.{FollowAnswer}
 use Rattle.chart_reader.proofs.Following.{Follows, by-14, by-15, by-9, found, by-answer}
 use Rattle.chart_reader.proofs.Refusals.{chart-settled}

@@ -23,10 +23,10 @@ use Rattle.polygon.specs.Edges.{edges, edgesAt, edgesPast}
 use Rattle.chart.specs.Chart.{strokeEdge, barsOf, meets?, first, last, stroke, layout, chart, barRows, closedRow, closed, chartOf}
 use Rattle.chart.specs.Bytes.{barBytes, strokeBytes, bytesOf}
 use Rattle.chart.specs.Decode.{shaped, places, behind}
-use Rattle.chart_reader.specs.Areas.{common?, common-of, between, stands?, shares?, crosses?}
+use Rattle.nearest.specs.Nearest as near
+use Rattle.nearest.specs.Areas.{common?, common-of, between, stands?, shares?, crosses?}
 use Rattle.chart_reader.specs.Formed.{formed?}
 use Rattle.chart_reader.specs.Rules.{partSides}
-use Rattle.chart_reader.specs.Nearest as near
 use Rattle.chart_reader.specs.Follow.{on-chart?, asked?, nearestBar}
 use Rattle.chart_reader.specs.Reader.{bars?, free?, joins?, strokes?, passes?, gaps?, part?, readChart, chartRead}
 use Rattle.log_line.specs.Line.{digits, decimal, line, refusedLine}

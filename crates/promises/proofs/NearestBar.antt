@@ -1,5 +1,6 @@
--- Request (x) is proved, from the theorems of the crate chart_reader.
-use Rattle.chart_reader.proofs.Theorems.{accepts, nearest-answers, nearest-none, neighbours-none, free-answer, strokes-free, taken-followed}
+-- Request (x) is proved, from the theorems of the crates nearest and chart_reader.
+use Rattle.nearest.proofs.Theorems.{nearest-answers, nearest-none, neighbours-none}
+use Rattle.chart_reader.proofs.Theorems.{accepts, free-answer, strokes-free, taken-followed}
 use Rattle.promises.specs.NearestBar.{NearestBar}
 
 pub nearest-bar : NearestBar

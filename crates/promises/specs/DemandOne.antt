@@ -24,9 +24,9 @@ use Rattle.plan.specs.Answer.{PlanAnswer, countsOf, planned}
 use Rattle.chart.specs.Chart.{Bar, Chart, barsOf, chartOf}
 use Rattle.chart.specs.Bytes.{bytesOf}
 use Rattle.chart.specs.Decode.{chartIn}
-use Rattle.chart_reader.specs.declared.Cell.{Cell}
+use Rattle.nearest.specs.declared.Cell.{Cell}
+use Rattle.nearest.specs.Nearest.{none, nearest}
 use Rattle.chart_reader.specs.Reader.{chartRead}
-use Rattle.chart_reader.specs.Nearest.{none, nearest}
 use Rattle.chart_reader.specs.Follow.{FollowAnswer, nearestBar}
 use Rattle.draw.specs.Answer.{drawn, drawnWithBars}
 use Rattle.draw.specs.Label.{labelled, labelledWithBars}

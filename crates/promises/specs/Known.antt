@@ -16,10 +16,10 @@ use Rattle.umbrella.specs.Values.{values}
 use Rattle.umbrella.specs.Tight.{tightPart}
 use Rattle.plan.specs.Answer.{planned}
 use Rattle.chart.specs.Chart.{Bar, barsOf, chartOf}
-use Rattle.chart_reader.specs.declared.Cell.{Cell}
-use Rattle.chart_reader.specs.Cells.{cell}
-use Rattle.chart_reader.specs.Nearest as near
-use Rattle.chart_reader.specs.Nearest.{Found, none, nearest}
+use Rattle.nearest.specs.declared.Cell.{Cell}
+use Rattle.nearest.specs.Cells.{cell}
+use Rattle.nearest.specs.Nearest as near
+use Rattle.nearest.specs.Nearest.{Found, none, nearest}
 use Rattle.chart_reader.specs.Reader.{chartRead}
 use Rattle.chart_reader.specs.Follow.{FollowAnswer, followRefusal, nearestBar}
 use Rattle.draw.specs.Answer.{drawn}

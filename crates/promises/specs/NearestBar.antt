@@ -1,5 +1,5 @@
--- Request (x), "The nearest bar", sentence by sentence. "Readers of foreign charts want to follow a line with a finger." `nearest` is in crate chart_reader, specs/Nearest.antt, for any bars; specs/Follow.antt
--- asks it of a chart's bytes.
+-- Request (x), "The nearest bar", sentence by sentence. "Readers of foreign charts want to follow a line with a finger." `nearest` is in crate nearest, specs/Nearest.antt, for any bars;
+-- specs/Follow.antt of crate chart_reader asks it of a chart's bytes.
 use mathlib.Core.Path.{_≡_}
 use mathlib.Core.Logic.{_↔_}
 use mathlib.Core.List.{List}
@@ -9,12 +9,12 @@ use Rattle.polygon.specs.Polygon.{Polygon}
 use Rattle.sheet.specs.Sheet.{held}
 use Rattle.chart.specs.Chart.{Bar, Chart}
 use Rattle.chart.specs.Decode.{chartIn}
-use Rattle.chart_reader.specs.declared.Cell.{Cell}
-use Rattle.chart_reader.specs.Cells.{Stands}
+use Rattle.nearest.specs.declared.Cell.{Cell}
+use Rattle.nearest.specs.Cells.{Stands}
+use Rattle.nearest.specs.Nearest.{none, bar, away, IsNearest, nearest}
 use Rattle.chart_reader.specs.Rules.{ends, Free}
 use Rattle.chart_reader.specs.Charts.{Charts}
 use Rattle.chart_reader.specs.Reader.{readChart}
-use Rattle.chart_reader.specs.Nearest.{none, bar, away, IsNearest, nearest}
 use Rattle.chart_reader.specs.Follow.{Asked, nearestBar}
 
 pub record NearestBar : Type 0 where

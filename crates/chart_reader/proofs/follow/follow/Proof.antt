@@ -4,10 +4,10 @@ use borrow.Author.Needs.{needs}
 use borrow.Author.Tests.{not-true, not-false}
 use native.Mathlib.Omega.{arith}
 use Rattle.chart.specs.Decode.{chartIn}
-use Rattle.chart_reader.specs.Nearest.{foundOf}
+use Rattle.nearest.specs.BarRule.{BarRule}
+use Rattle.nearest.specs.Nearest.{foundOf}
+use Rattle.nearest.specs.Order.{Ordered}
 use Rattle.chart_reader.specs.Follow.{Asked, nearestBar}
-use Rattle.chart_reader.specs.Rules.{BarRule}
-use Rattle.chart_reader.specs.Order.{Ordered}
 use Rattle.chart_reader.proofs.Following.{by-15, by-9, followed-by, nearestIs, answer-is, asked-small}
 use Rattle.chart_reader.proofs.follow.follow.Statement.{statement}
 use Rattle.chart_reader.proofs.follow.follow.Tie as tie

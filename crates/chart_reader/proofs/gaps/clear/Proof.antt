@@ -4,7 +4,7 @@ use mathlib.Core.Path.{ap, sym, _∙_}
 use borrow.Author.Tests.{not-true, not-false}
 use borrow.Author.Needs.{needs}
 use Rattle.chart.specs.Decode.{chartIn}
-use Rattle.chart_reader.specs.Nearest.{foundOf}
+use Rattle.nearest.specs.Nearest.{foundOf}
 use Rattle.chart_reader.proofs.Passing.{level-clear, same-column, upright-clear, upright-met}
 use Rattle.chart_reader.proofs.gaps.clear.Statement.{statement}
 use Rattle.chart_reader.proofs.gaps.clear.Tie as tie

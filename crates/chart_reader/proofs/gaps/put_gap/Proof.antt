@@ -5,7 +5,7 @@ use borrow.Author.Needs.{needs}
 use native.Mathlib.Omega.{arith}
 use lib.ListN.{length-set}
 use Rattle.chart.specs.Decode.{chartIn}
-use Rattle.chart_reader.proofs.Spans.{ends-climb}
+use Rattle.nearest.proofs.Spans.{ends-climb}
 use Rattle.chart_reader.proofs.Gapping.{end-found}
 use Rattle.chart_reader.proofs.Passing.{upright-gap, narrow-gap, first-before, gap-put}
 use Rattle.chart_reader.proofs.gaps.put_gap.Statement.{statement}

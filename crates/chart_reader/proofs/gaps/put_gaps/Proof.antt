@@ -9,7 +9,7 @@ use native.Mathlib.Omega.{arith}
 use lib.ListN.{length, getD}
 use Rattle.chart.specs.Chart.{Stroke}
 use Rattle.chart.specs.Decode.{strokeAt, strokeOf, chartIn}
-use Rattle.chart_reader.specs.declared.Cell.{Cell}
+use Rattle.nearest.specs.declared.Cell.{Cell}
 use Rattle.chart_reader.specs.Rules.{Named, BarsFit}
 use Rattle.chart_reader.specs.Gaps.{InGap, Gapped, GapsIn}
 use Rattle.chart_reader.proofs.Stroked.{strokes-at, bars-room, place-room, stroke-in}

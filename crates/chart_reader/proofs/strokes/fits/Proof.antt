@@ -4,8 +4,8 @@ use mathlib.Core.Path.{ap, sym, subst, _∙_}
 use borrow.Author.Tests.{not-true, not-false}
 use borrow.Author.Needs.{needs}
 use Rattle.chart.specs.Decode.{chartIn}
+use Rattle.nearest.specs.Nearest.{foundOf}
 use Rattle.chart_reader.specs.Rules.{Free}
-use Rattle.chart_reader.specs.Nearest.{foundOf}
 use Rattle.chart_reader.proofs.Standing.{none-free, some-stands}
 use Rattle.chart_reader.proofs.strokes.fits.Statement.{statement}
 use Rattle.chart_reader.proofs.strokes.fits.Tie as tie
