@@ -2,7 +2,7 @@
 use mathlib.Core.Path.{_≡_, refl, ap}
 use mathlib.Core.Logic.{_↔_}
 use mathlib.Core.List.{List}
-use Prim.Native.Nat.{ℕ, _+_, _≤_, _<_}
+use Prim.Native.Nat.{ℕ, suc, _+_, _*_, _^_, _≤_, _<_}
 use native.Mathlib.Decide.{decLe}
 use native.Mathlib.Omega.{arith}
 use Rattle.polygon.specs.Polygon.{Polygon, Valid}
@@ -10,7 +10,7 @@ use Rattle.codec.specs.Answer.{refuse, written}
 use Rattle.codec.specs.TwoOutputs.{BothOutcome, refusalBoth, writtenBoth}
 use Rattle.sheet.specs.Sheet.{Reading, refused, held, readSheet}
 use Rattle.umbrella.specs.Tight.{tightPart}
-use Rattle.umbrella.proofs.Theorems.{at-most-seven, tight-part}
+use Rattle.umbrella.proofs.Theorems.{levels-below, tight-part}
 use Rattle.chart.specs.Chart.{Bar, chartOf}
 use Rattle.chart.proofs.Theorems.{chart-rows-most, chart-rows-no-stem}
 use Rattle.draw.specs.Answer.{charted, drawn, chartedBoth, drawnWithBars}
@@ -74,9 +74,9 @@ pub tape-never-bars : (s out : List ℕ) (bars : List Bar) → ¬ (drawnWithBars
 unfolding drawnWithBars
 tape-never-bars s out bars e = both-nineteen tape s out bars .0 (rw (tape-both (readSheet s)) e) .2 tt
 
--- The chart of a part under 511 corners has at most fifteen rows.
-pub rows-under-511 : (p : Polygon) → Valid p → p .n < 511 → chartOf p .rows ≤ 15
-rows-under-511 p v h = omega (arith, chart-rows-most p v, at-most-seven p v h)
+-- The chart of a part with fewer corners than D levels need has fewer rows than two a level: with D = 8, under 511 corners, at most fifteen.
+pub rows-below : (p : Polygon) → Valid p → (D : ℕ) → p .n + 1 < 2 ^ suc D → chartOf p .rows < 2 * D
+rows-below p v D h = omega (arith, chart-rows-most p v, levels-below p v D h)
 
 -- The part of D levels with the fewest corners has a row a level and one more, so that the label takes it for every D.
 pub tight-rows : (D : ℕ) → 1 ≤ D → D ≤ 9 → chartOf (tightPart D) .rows ≡ D + 1

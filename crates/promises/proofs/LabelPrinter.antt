@@ -14,7 +14,7 @@ use Rattle.plan.specs.Answer.{answer, planned}
 use Rattle.chart.specs.Chart.{chartOf}
 use Rattle.chart.specs.Bytes.{bytesOf}
 use Rattle.draw.specs.Answer.{charted, drawn}
-use Rattle.draw.proofs.Theorems.{label-sheet-refused, label-as-tape, label-refuses, label-nineteen, label-nineteen-bars, label-else, tape-never, tape-never-bars, rows-under-511, tight-rows}
+use Rattle.draw.proofs.Theorems.{label-sheet-refused, label-as-tape, label-refuses, label-nineteen, label-nineteen-bars, label-else, tape-never, tape-never-bars, rows-below, tight-rows}
 use Rattle.promises.specs.LabelPrinter.{AsTape, LabelRefuses, Tightest, LabelPrinter}
 
 as-tape : (s : List ℕ) (p : Polygon) → readSheet s ≡ held p → chartOf p .rows ≤ 15 → AsTape s
@@ -54,7 +54,7 @@ label-printer = record {
   tape = on-tape;
   fewest = part-corners;
   reached = tightest;
-  small = λ s p e h. as-tape s p e (rows-under-511 p (read-valid s p e) h);
+  small = λ s p e h. as-tape s p e (omega (arith, rows-below p (read-valid s p e) 8 (omega (arith, h))));
   tall = refused-tall;
   then-only = label-nineteen;
   then-only-bars = label-nineteen-bars;

@@ -112,13 +112,13 @@ part-corners p v =
     let e : levels (planOf p) ≡ ud t = best-levels t in
     rw e (omega (arith, corners-of-levels t, tree-of (p .n) (p .ds) (v .triangulated) .size))
 
--- One under 511 corners has at most 7.
-pub at-most-seven : (p : Polygon) → Valid p → p .n < 511 → levels (planOf p) ≤ 7
-at-most-seven p v h = go (decLe (levels (planOf p)) 7)
+-- One with fewer corners than D levels need has fewer levels.
+pub levels-below : (p : Polygon) → Valid p → (D : ℕ) → p .n + 1 < 2 ^ suc D → levels (planOf p) < D
+levels-below p v D h = go (decLe D (levels (planOf p)))
   where
-    go : Dec (levels (planOf p) ≤ 7) → levels (planOf p) ≤ 7
-    go (yes k) = k
-    go (no k) = let q : 9 ≤ suc (levels (planOf p)) = omega (arith, k) in absurd (omega (arith, pow-mono q, part-corners p v, h))
+    go : Dec (D ≤ levels (planOf p)) → levels (planOf p) < D
+    go (yes k) = let q : suc D ≤ suc (levels (planOf p)) = omega (arith, k) in absurd (omega (arith, pow-mono q, part-corners p v, h))
+    go (no k) = omega (arith, k)
 
 -- "and for each D from 1 .. some part has exactly that many": for every D from 1 on a piece of D levels has them,
 pub tight-has : (D : ℕ) → 1 ≤ D → (ud (tight D) ≡ D) × (suc (span (tight D)) + 1 ≡ 2 ^ suc D) × (stems (best (tight D)) ≡ 0)
