@@ -1,7 +1,7 @@
--- What the code answers of a chart: how many rows and columns it has, besides what is written of it. For the contracts.
+-- What stops a chart, by the code's limit of rows and the room for its bars; and what the code answers of it: how many rows and columns it has, besides what is written of it. For the contracts.
 use mathlib.Core.Path.{_≡_}
 use mathlib.Core.List.{List}
-use mathlib.Core.Option.{Option}
+use mathlib.Core.Option.{Option, none, some}
 use Prim.Native.Nat.{ℕ, zero, suc}
 use native.Mathlib.Decide.{decLe}
 use Rattle.lists.specs.Lists.{choose}
@@ -9,7 +9,14 @@ use Rattle.codec.specs.Answer.{Outcome, refuse, write, answered, written}
 use Rattle.chart.specs.Chart.{Chart}
 use Rattle.chart.specs.Bytes.{bytesOf}
 use Rattle.draw.specs.declared.Charted.{Charted}
+use Rattle.draw.specs.declared.Limit.{Limit}
+use Rattle.draw.specs.declared.Limit.the-variants.{Any, Rows}
 use Rattle.draw.specs.Label.{within?}
+
+-- the limit that the code's value stands for
+abbrev pub limitOf : Limit → Option ℕ
+limitOf Any = none
+limitOf (Rows most) = some most
 
 -- what refuses a chart of so many rows and n bars before its bytes are written, or 0: 19, then 8 for the bars' records
 unfoldable pub stopped : Option ℕ → ℕ → ℕ → ℕ → ℕ

@@ -12,8 +12,6 @@ use Rattle.codec.specs.TwoOutputs.{BothOutcome, refuseBoth, writeBoth, BothAnsw
 use Rattle.sheet.specs.Sheet.{Reading, refused, held, readSheet}
 use Rattle.chart.specs.Chart.{Bar, barsOf, chartOf}
 use Rattle.chart.specs.Bytes.{bytesOf}
-use Rattle.draw.specs.declared.Limit as code
-use Rattle.draw.specs.declared.Limit.the-variants.{Any, Rows}
 
 -- the most rows that a chart may have; the tape has no such limit
 abbrev pub tape : Option ℕ
@@ -49,8 +47,3 @@ labelledWithBars s out bars = writtenBoth (chartedBothWithin label (readSheet s)
 -- "the chart has more than fifteen rows"
 abbrev pub Tall : List ℕ → Type 0
 Tall s = (p : Polygon) × (readSheet s ≡ held p) × (15 < chartOf p .rows)
-
--- the limit that the code's value stands for
-abbrev pub limitOf : code.Limit → Option ℕ
-limitOf Any = none
-limitOf (Rows most) = some most

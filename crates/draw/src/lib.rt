@@ -1,5 +1,6 @@
-// The operation Draw, for a tape and for a label: the chart of a sheet's part, and its bars in a lent list of records; and what the program does with its input (program.rt, line.rt).
-// The columns and rows come from the crate drawing, the bytes from chart_writer, the records from bar_list. specs/Answer.antt says what the operation answers, specs/Label.antt the same with a limit of rows.
+// The operation Draw, for a tape and for a label: the chart of a sheet's part, and its bars in a lent list of records; and what the program does with its
+// input (program.rt, line.rt). The columns and rows come from the crate drawing, the bytes from chart_writer, the records from bar_list.
+// specs/Answer.antt says what the operation answers, specs/Label.antt the same with a limit of rows.
 ghost use mathlib.Core.Path.{_≡_};
 ghost use mathlib.Core.Bool.{true, false};
 ghost use mathlib.Core.List.{List, map};
@@ -16,9 +17,9 @@ ghost use Rattle.chart.specs.Chart.{chart, closed, chartOf};
 ghost use Rattle.chart.specs.declared.Bar.{Bar};
 ghost use Rattle.chart.specs.Decode.{barOf};
 ghost use Rattle.draw.specs.Answer.{drawn, drawnWithBars};
-ghost use Rattle.draw.specs.Label.{Within, chartedBothWithin, labelled, labelledWithBars, limitOf};
+ghost use Rattle.draw.specs.Label.{Within, chartedBothWithin, labelled, labelledWithBars};
 ghost use Rattle.draw.specs.WithBars.{filledBy, RecordsFit};
-ghost use Rattle.draw.specs.Charted.{stopped, unlessStopped, Wrote};
+ghost use Rattle.draw.specs.Charted.{limitOf, stopped, unlessStopped, Wrote};
 use bar_list::fill_bars;
 use chart::Bar;
 use chart_writer::write_chart;
@@ -42,12 +43,12 @@ pub mod line;
 pub mod program;
 
 // The most rows that a chart may have: any number on a tape, LABEL_ROWS on a label.
-pub enum Limit {
+enum Limit {
     Any,
     Rows(usize),
 }
 
-pub const LABEL_ROWS: usize = 15;
+const LABEL_ROWS: usize = 15;
 
 // The answer for a chart, and how many columns and rows it has.
 struct Charted {

@@ -14,8 +14,8 @@ use Rattle.chart.specs.Chart as chart
 use Rattle.chart.specs.Chart.{chartOf}
 use Rattle.chart.specs.declared.Bar.{Bar}
 use Rattle.chart.specs.Decode.{barOf}
-use Rattle.draw.specs.Label.{chartedBothWithin, limitOf}
-use Rattle.draw.specs.Charted.{unlessStopped}
+use Rattle.draw.specs.Label.{chartedBothWithin}
+use Rattle.draw.specs.Charted.{limitOf, unlessStopped}
 use Rattle.draw.proofs.Answers.{for-none, for-chart, chart-fits}
 use Rattle.draw.proofs.Bare.{both-bare}
 use Rattle.draw.proofs.draw_within.Statement.{statement}

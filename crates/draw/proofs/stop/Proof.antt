@@ -5,8 +5,8 @@ use native.Mathlib.Omega.{arith}
 use borrow.Author.Needs.{needs}
 use borrow.Author.Tests.{leb-true, leb-false, not-true, not-false}
 use Rattle.lists.proofs.Lists.{choose-yes, choose-no}
-use Rattle.draw.specs.Label.{within?, limitOf}
-use Rattle.draw.specs.Charted.{stopped}
+use Rattle.draw.specs.Label.{within?}
+use Rattle.draw.specs.Charted.{limitOf, stopped}
 use Rattle.draw.proofs.stop.Statement.{statement}
 use Rattle.draw.proofs.stop.Tie as tie
 
