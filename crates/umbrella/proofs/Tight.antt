@@ -1,5 +1,5 @@
 -- The piece of specs/Tight.antt: how many levels and corners it has, and that the plan drawn of it has no stem.
-use mathlib.Core.Path.{_≡_, refl, ap}
+use mathlib.Core.Path.{_≡_, refl, ap, _∙_}
 use Prim.Native.Nat.{ℕ, zero, suc, _+_, _^_, _≤_}
 use native.Mathlib.Decide.{decLe}
 use native.Mathlib.Omega.{arith}
@@ -39,7 +39,7 @@ twice-stems t =
 pub tight-ud : (k : ℕ) → ud (tight (suc k)) ≡ suc k
 unfolding tight ud
 tight-ud zero = refl
-tight-ud (suc k) = omega (arith, twice-ud (tight (suc k)), tight-ud k)
+tight-ud (suc k) = twice-ud (tight (suc k)) ∙ ap suc (tight-ud k)
 
 pub tight-span : (k : ℕ) → span (tight (suc k)) + 2 ≡ 2 ^ suc (suc k)
 unfolding tight span
