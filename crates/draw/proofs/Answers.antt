@@ -22,7 +22,7 @@ use Rattle.chart.specs.Chart as chart
 use Rattle.chart.specs.Chart.{layout, closed, barsOf, chartOf}
 use Rattle.chart.specs.Bytes.{bytesOf}
 use Rattle.draw.specs.Answer.{chartedBoth}
-use Rattle.draw.specs.Label.{tape, Within, within?, chartedWithin, chartedBothWithin}
+use Rattle.draw.specs.Label.{tape, Keeps, keeps?, chartedWithin, chartedBothWithin}
 use Rattle.draw.specs.Charted.{stopped, unless, unlessStopped}
 use Rattle.draw.specs.WithBars.{filledBy, RecordsFit}
 use Rattle.draw.proofs.Label.{within-both}
@@ -48,9 +48,9 @@ module _ (limit : Option ℕ) (p : Polygon) (T : Triangulated (p .n) (p .ds)) (o
   -- nothing was written: the chart has too many rows, or there are too few records, or the output is too short
   pub for-none : refusal k after ≡ written (unlessStopped limit room (chartOf p)) out → For limit (held p) out room (Refused k) after
   unfolding chartedBothWithin chartedBoth writtenBoth written unlessStopped stopped unless choose
-  for-none a bars l = go (within? limit (chartOf p .rows)) (decLe (chartOf p .n) room) refl refl
+  for-none a bars l = go (keeps? limit (chartOf p .rows)) (decLe (chartOf p .n) room) refl refl
     where
-      go : (d : Dec (Within limit (chartOf p .rows))) (e : Dec (chartOf p .n ≤ room)) → within? limit (chartOf p .rows) ≡ d → decLe (chartOf p .n) room ≡ e
+      go : (d : Dec (Keeps limit (chartOf p .rows))) (e : Dec (chartOf p .n ≤ room)) → keeps? limit (chartOf p .rows) ≡ d → decLe (chartOf p .n) room ≡ e
           → refusalBoth k after (map barOf bars) ≡ writtenBoth (chartedBothWithin limit (held p)) out (map barOf bars)
       go (yes w) (yes h) i j = rw i (none-written (chartOf p) out bars (omega (arith, h, l)) after k (rw (i, j) at a))
       go (yes w) (no h) i j = rw i (refused-both k 8 after out (map barOf bars) (rw (i, j) at a) ∙ few-records (chartOf p) out bars (omega (arith, h, l)))
@@ -58,12 +58,12 @@ module _ (limit : Option ℕ) (p : Polygon) (T : Triangulated (p .n) (p .ds)) (o
 
   -- a chart was written: it is within the limit, and there are records enough
   module _ (a : answered (is.Bytes k) after ≡ written (unlessStopped limit room (chartOf p)) out) where
-    taken : Within limit (chartOf p .rows) × (chartOf p .n ≤ room) × (answered (is.Bytes k) after ≡ written (write (bytesOf (chartOf p))) out)
+    taken : Keeps limit (chartOf p .rows) × (chartOf p .n ≤ room) × (answered (is.Bytes k) after ≡ written (write (bytesOf (chartOf p))) out)
     unfolding written unlessStopped stopped unless choose
-    taken = go (within? limit (chartOf p .rows)) (decLe (chartOf p .n) room) refl refl
+    taken = go (keeps? limit (chartOf p .rows)) (decLe (chartOf p .n) room) refl refl
       where
-        go : (d : Dec (Within limit (chartOf p .rows))) (e : Dec (chartOf p .n ≤ room)) → within? limit (chartOf p .rows) ≡ d → decLe (chartOf p .n) room ≡ e
-            → Within limit (chartOf p .rows) × (chartOf p .n ≤ room) × (answered (is.Bytes k) after ≡ written (write (bytesOf (chartOf p))) out)
+        go : (d : Dec (Keeps limit (chartOf p .rows))) (e : Dec (chartOf p .n ≤ room)) → keeps? limit (chartOf p .rows) ≡ d → decLe (chartOf p .n) room ≡ e
+            → Keeps limit (chartOf p .rows) × (chartOf p .n ≤ room) × (answered (is.Bytes k) after ≡ written (write (bytesOf (chartOf p))) out)
         go (yes w) (yes h) i j = (w, h, rw (i, j) at a)
         go (yes w) (no h) i j = absurd (omega (arith, ap (λ (x : Answer). x .number) (rw (i, j) at a)))
         go (no w) e i j = absurd (omega (arith, ap (λ (x : Answer). x .number) (rw i at a)))
@@ -80,7 +80,7 @@ module _ (limit : Option ℕ) (p : Polygon) (T : Triangulated (p .n) (p .ds)) (o
 
 -- on a tape with records enough nothing stops a chart but the output
 pub tape-fits : (p : Polygon) (T : Triangulated (p .n) (p .ds)) (room : ℕ) → p .n ≤ room → unlessStopped tape room (chartOf p) ≡ write (bytesOf (chartOf p))
-unfolding unlessStopped stopped unless choose within?
+unfolding unlessStopped stopped unless choose keeps?
 tape-fits p T room h = ap (λ (k : ℕ). unless k (bytesOf (chartOf p))) (choose-yes (decLe (chartOf p .n) room) 8 (omega (arith, h, corners p T)))
 
 -- room for any part
@@ -89,14 +89,14 @@ room-enough : (limit : Option ℕ) (s out : List ℕ) (bars : List Bar) → leng
 unfolding chartedBothWithin writtenBoth chartedWithin written choose
 room-enough limit s out bars h = go (readSheet s) refl
   where
-    within : (p : Polygon) (d : Dec (Within limit (chartOf p .rows))) → chartOf p .n ≤ 1024
+    within : (p : Polygon) (d : Dec (Keeps limit (chartOf p .rows))) → chartOf p .n ≤ 1024
         → writtenBoth (choose d (writeBoth (bytesOf (chartOf p)) (barsOf (chartOf p))) (refuseBoth 19)) out (map barOf bars) .answer ≡ written (choose d (write (bytesOf (chartOf p))) (refuse 19)) out
     within p (yes w) few = enough-records (chartOf p) out (map barOf bars) (omega (arith, h, length-map bars barOf, few))
     within p (no w) few = refl
 
     go : (r : Reading) → readSheet s ≡ r → writtenBoth (chartedBothWithin limit (readSheet s)) out (map barOf bars) .answer ≡ written (chartedWithin limit (readSheet s)) out
     go (refused k) e = rw e
-    go (held p) e = let v = read-valid s p e in rw e (within p (within? limit (chartOf p .rows)) (omega (arith, corners p (v .triangulated), v .most)))
+    go (held p) e = let v = read-valid s p e in rw e (within p (keeps? limit (chartOf p .rows)) (omega (arith, corners p (v .triangulated), v .most)))
 
 pub without-bars : (limit : Option ℕ) (s out after : List ℕ) (r : BothWritten) → For limit (readSheet s) out 1024 r after
     → (a : Answer) → ((bars : List Bar) → a ≡ answeredBoth r after (map barOf bars) .answer) → a ≡ written (chartedWithin limit (readSheet s)) out

@@ -9,24 +9,24 @@ use Rattle.codec.specs.TwoOutputs.{refuseBoth}
 use Rattle.sheet.specs.Sheet.{Reading, refused, held}
 use Rattle.chart.specs.Chart.{chartOf}
 use Rattle.draw.specs.Answer.{charted, chartedBoth}
-use Rattle.draw.specs.Label.{tape, Within, within?, chartedWithin, chartedBothWithin}
+use Rattle.draw.specs.Label.{tape, Keeps, keeps?, chartedWithin, chartedBothWithin}
 
 module _ (limit : Option ℕ) (p : Polygon) where
-  pub within-charted : Within limit (chartOf p .rows) → chartedWithin limit (held p) ≡ charted (held p)
+  pub within-charted : Keeps limit (chartOf p .rows) → chartedWithin limit (held p) ≡ charted (held p)
   unfolding chartedWithin charted
-  within-charted h = choose-yes (within? limit (chartOf p .rows)) _ h
+  within-charted h = choose-yes (keeps? limit (chartOf p .rows)) _ h
 
-  pub within-both : Within limit (chartOf p .rows) → chartedBothWithin limit (held p) ≡ chartedBoth (held p)
+  pub within-both : Keeps limit (chartOf p .rows) → chartedBothWithin limit (held p) ≡ chartedBoth (held p)
   unfolding chartedBothWithin chartedBoth
-  within-both h = choose-yes (within? limit (chartOf p .rows)) _ h
+  within-both h = choose-yes (keeps? limit (chartOf p .rows)) _ h
 
-  pub over-charted : ¬ Within limit (chartOf p .rows) → chartedWithin limit (held p) ≡ refuse 19
+  pub over-charted : ¬ Keeps limit (chartOf p .rows) → chartedWithin limit (held p) ≡ refuse 19
   unfolding chartedWithin
-  over-charted h = choose-no (within? limit (chartOf p .rows)) _ h
+  over-charted h = choose-no (keeps? limit (chartOf p .rows)) _ h
 
-  pub over-both : ¬ Within limit (chartOf p .rows) → chartedBothWithin limit (held p) ≡ refuseBoth 19
+  pub over-both : ¬ Keeps limit (chartOf p .rows) → chartedBothWithin limit (held p) ≡ refuseBoth 19
   unfolding chartedBothWithin
-  over-both h = choose-no (within? limit (chartOf p .rows)) _ h
+  over-both h = choose-no (keeps? limit (chartOf p .rows)) _ h
 
 -- the tape has no limit
 pub tape-charted : (q : Reading) → chartedWithin tape q ≡ charted q

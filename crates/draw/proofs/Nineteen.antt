@@ -19,7 +19,7 @@ use Rattle.sheet.proofs.Refusals.{read-refuses}
 use Rattle.chart.specs.Chart.{Bar, barsOf, chartOf}
 use Rattle.chart.specs.Bytes.{bytesOf}
 use Rattle.draw.specs.Answer.{charted, chartedBoth}
-use Rattle.draw.specs.Label.{Within, within?, chartedWithin, chartedBothWithin}
+use Rattle.draw.specs.Label.{Keeps, keeps?, chartedWithin, chartedBothWithin}
 use Rattle.draw.proofs.Label.{within-charted, within-both, over-charted, over-both}
 
 -- no test of a sheet has the number
@@ -33,16 +33,16 @@ not-short o e = elim (o .done-or-short) [ inl z ↦ omega (arith, z, e) | inr z 
 
 -- the sheet holds a part whose chart has more rows
 abbrev pub TooTall : Option ℕ → Reading → Type 0
-TooTall limit r = (p : Polygon) × (r ≡ held p) × (¬ Within limit (chartOf p .rows))
+TooTall limit r = (p : Polygon) × (r ≡ held p) × (¬ Keeps limit (chartOf p .rows))
 
 -- an answer to a reading by its number: to one refused it is that number, to a part within the limit it is not 19, and to one beyond it is
-module _ (limit : Option ℕ) (number : Reading → ℕ) (of-refused : (k : ℕ) → number (refused k) ≡ k) (of-within : (p : Polygon) → Within limit (chartOf p .rows) → ¬ (number (held p) ≡ 19))
-    (of-over : (p : Polygon) → ¬ Within limit (chartOf p .rows) → number (held p) ≡ 19) where
+module _ (limit : Option ℕ) (number : Reading → ℕ) (of-refused : (k : ℕ) → number (refused k) ≡ k) (of-within : (p : Polygon) → Keeps limit (chartOf p .rows) → ¬ (number (held p) ≡ 19))
+    (of-over : (p : Polygon) → ¬ Keeps limit (chartOf p .rows) → number (held p) ≡ 19) where
   by-nineteen : (r : Reading) → RefusedBy sheetTests r → number r ≡ 19 → TooTall limit r
   by-nineteen r (by {k} m) e = absurd (all-mem other-numbers m (omega (arith, of-refused k, e)))
-  by-nineteen r (holds {p}) e = go (within? limit (chartOf p .rows))
+  by-nineteen r (holds {p}) e = go (keeps? limit (chartOf p .rows))
     where
-      go : Dec (Within limit (chartOf p .rows)) → TooTall limit (held p)
+      go : Dec (Keeps limit (chartOf p .rows)) → TooTall limit (held p)
       go (yes w) = absurd (of-within p w e)
       go (no w) = (p, refl, w)
 

@@ -18,7 +18,7 @@ use Rattle.chart.specs.Chart.{Bar, Chart, barsOf, chartOf}
 use Rattle.chart.specs.Bytes.{bytesOf}
 use Rattle.chart.proofs.Sizes.{bars-count}
 use Rattle.draw.specs.Answer.{charted, drawn, intoBoth}
-use Rattle.draw.specs.Label.{label, Within, within?, chartedWithin, labelled}
+use Rattle.draw.specs.Label.{label, Keeps, keeps?, chartedWithin, labelled}
 
 charted-refuses : {ks : List ℕ} {r : Reading} → RefusedBy ks r → Refuses ks (charted r)
 unfolding charted
@@ -33,9 +33,9 @@ drawn-settled s out = settled _ out tests-proper (charted-refuses (read-refuses 
 label-refuses : {r : Reading} → RefusedBy sheetTests r → Refuses (sheetTests ++ (19 ∷ [])) (chartedWithin label r)
 unfolding chartedWithin choose
 label-refuses (by m) = number (mem-left (19 ∷ []) m)
-label-refuses (holds {p}) = go (within? label (chartOf p .rows))
+label-refuses (holds {p}) = go (keeps? label (chartOf p .rows))
   where
-    go : (d : Dec (Within label (chartOf p .rows))) → Refuses (sheetTests ++ (19 ∷ [])) (choose d (write (bytesOf (chartOf p))) (refuse 19))
+    go : (d : Dec (Keeps label (chartOf p .rows))) → Refuses (sheetTests ++ (19 ∷ [])) (choose d (write (bytesOf (chartOf p))) (refuse 19))
     go (yes h) = writes
     go (no h) = number (mem-right sheetTests here)
 

@@ -19,7 +19,7 @@ use Rattle.chart.specs.Bytes.{bytesOf}
 use Rattle.chart.proofs.Charts.{chart-size, chart-strokes}
 use Rattle.chart.proofs.Sizes.{bytes-size}
 use Rattle.draw.specs.Answer.{drawn}
-use Rattle.draw.specs.Label.{tape, label, Within, within?, chartedWithin, labelled}
+use Rattle.draw.specs.Label.{tape, label, Keeps, keeps?, chartedWithin, labelled}
 use Rattle.draw.proofs.Label.{tape-charted}
 
 pub chart-bytes : (p : Polygon) → Triangulated (p .n) (p .ds) → p .n ≤ 1024 → length (bytesOf (chartOf p)) ≤ 20465
@@ -31,13 +31,13 @@ within-size : (limit : Option ℕ) (s out : List ℕ) → written (chartedWithin
 unfolding chartedWithin written choose
 within-size limit s out = go (readSheet s) refl
   where
-    fits : (p : Polygon) (d : Dec (Within limit (chartOf p .rows))) → length (bytesOf (chartOf p)) ≤ 20465 → written (choose d (write (bytesOf (chartOf p))) (refuse 19)) out .size ≤ 20465
+    fits : (p : Polygon) (d : Dec (Keeps limit (chartOf p .rows))) → length (bytesOf (chartOf p)) ≤ 20465 → written (choose d (write (bytesOf (chartOf p))) (refuse 19)) out .size ≤ 20465
     fits p (yes w) h = omega (arith, written-size (bytesOf (chartOf p)) out, h)
     fits p (no w) h = omega arith
 
     go : (r : Reading) → readSheet s ≡ r → written (chartedWithin limit (readSheet s)) out .size ≤ 20465
     go (refused k) e = rw e (omega arith)
-    go (held p) e = let v = read-valid s p e in rw e (fits p (within? limit (chartOf p .rows)) (chart-bytes p (v .triangulated) (v .most)))
+    go (held p) e = let v = read-valid s p e in rw e (fits p (keeps? limit (chartOf p .rows)) (chart-bytes p (v .triangulated) (v .most)))
 
 pub drawn-size : (s out : List ℕ) → written (drawn s) out .size ≤ 20465
 unfolding drawn

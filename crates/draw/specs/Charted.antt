@@ -11,7 +11,7 @@ use Rattle.chart.specs.Bytes.{bytesOf}
 use Rattle.draw.specs.declared.Charted.{Charted}
 use Rattle.draw.specs.declared.Limit.{Limit}
 use Rattle.draw.specs.declared.Limit.the-variants.{Any, Rows}
-use Rattle.draw.specs.Label.{within?}
+use Rattle.draw.specs.Label.{keeps?}
 
 -- the limit that the code's value stands for
 abbrev pub limitOf : Limit → Option ℕ
@@ -20,7 +20,7 @@ limitOf (Rows most) = some most
 
 -- what refuses a chart of so many rows and n bars before its bytes are written, or 0: 19, then 8 for the bars' records
 unfoldable pub stopped : Option ℕ → ℕ → ℕ → ℕ → ℕ
-stopped limit rows n room = choose (within? limit rows) (choose (decLe n room) 0 8) 19
+stopped limit rows n room = choose (keeps? limit rows) (choose (decLe n room) 0 8) 19
 
 -- what is to be written then
 unfoldable pub unless : ℕ → List ℕ → Outcome

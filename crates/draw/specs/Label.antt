@@ -20,22 +20,23 @@ tape = none
 abbrev pub label : Option ℕ
 label = some 15
 
-abbrev pub Within : Option ℕ → ℕ → Type 0
-Within none rows = Unit {0}
-Within (some most) rows = rows ≤ most
+-- so many rows keep a limit
+abbrev pub Keeps : Option ℕ → ℕ → Type 0
+Keeps none rows = Unit {0}
+Keeps (some most) rows = rows ≤ most
 
-unfoldable pub within? : (limit : Option ℕ) (rows : ℕ) → Dec (Within limit rows)
-within? none rows = yes tt
-within? (some most) rows = decLe rows most
+unfoldable pub keeps? : (limit : Option ℕ) (rows : ℕ) → Dec (Keeps limit rows)
+keeps? none rows = yes tt
+keeps? (some most) rows = decLe rows most
 
 -- the same drawing with a limit: 19 after the tests of the sheet, and before the output is looked at
 unfoldable pub chartedWithin : Option ℕ → Reading → Outcome
 chartedWithin limit (refused k) = refuse k
-chartedWithin limit (held p) = choose (within? limit (chartOf p .rows)) (write (bytesOf (chartOf p))) (refuse 19)
+chartedWithin limit (held p) = choose (keeps? limit (chartOf p .rows)) (write (bytesOf (chartOf p))) (refuse 19)
 
 unfoldable pub chartedBothWithin : Option ℕ → Reading → BothOutcome Bar
 chartedBothWithin limit (refused k) = refuseBoth k
-chartedBothWithin limit (held p) = choose (within? limit (chartOf p .rows)) (writeBoth (bytesOf (chartOf p)) (barsOf (chartOf p))) (refuseBoth 19)
+chartedBothWithin limit (held p) = choose (keeps? limit (chartOf p .rows)) (writeBoth (bytesOf (chartOf p)) (barsOf (chartOf p))) (refuseBoth 19)
 
 -- the label's calls: without the bar list what is to be written of a sheet, and with it
 unfoldable pub labelled : List ℕ → Outcome

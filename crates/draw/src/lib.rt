@@ -17,7 +17,7 @@ ghost use Rattle.chart.specs.Chart.{chart, closed, chartOf};
 ghost use Rattle.chart.specs.declared.Bar.{Bar};
 ghost use Rattle.chart.specs.Decode.{barOf};
 ghost use Rattle.draw.specs.Answer.{drawn, drawnWithBars};
-ghost use Rattle.draw.specs.Label.{Within, chartedBothWithin, labelled, labelledWithBars};
+ghost use Rattle.draw.specs.Label.{Keeps, chartedBothWithin, labelled, labelledWithBars};
 ghost use Rattle.draw.specs.WithBars.{filledBy, RecordsFit};
 ghost use Rattle.draw.specs.Charted.{limitOf, stopped, unlessStopped, Wrote};
 use bar_list::fill_bars;
@@ -58,8 +58,8 @@ struct Charted {
 
 // Whether so many rows keep a limit.
 fn keeps(limit: Limit, rows: usize) -> bool
-    ensures yes { λ r. ⌜ (r ≡ true → Within (limitOf limit) rows) ⌝ }
-    ensures no { λ r. ⌜ (r ≡ false → Within (limitOf limit) rows → ⊥) ⌝ }
+    ensures yes { λ r. ⌜ (r ≡ true → Keeps (limitOf limit) rows) ⌝ }
+    ensures no { λ r. ⌜ (r ≡ false → Keeps (limitOf limit) rows → ⊥) ⌝ }
 {
     match limit {
         Limit::Any => true,

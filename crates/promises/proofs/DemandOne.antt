@@ -33,7 +33,7 @@ use Rattle.chart_reader.specs.Follow.{FollowAnswer}
 use Rattle.chart_reader.proofs.Following.{Follows, by-14, by-15, by-9, found, by-answer}
 use Rattle.chart_reader.proofs.Refusals.{chart-settled}
 use Rattle.draw.specs.Answer.{drawnWithBars}
-use Rattle.draw.specs.Label.{tape, label, Within, within?, chartedBothWithin, labelledWithBars}
+use Rattle.draw.specs.Label.{tape, label, Keeps, keeps?, chartedBothWithin, labelledWithBars}
 use Rattle.draw.proofs.Label.{tape-both}
 use Rattle.draw.proofs.Refusals.{drawn-settled, labelled-settled}
 use Rattle.promises.specs.DemandOne.{PlanAnswers, PlanFinished, PlanRefusal, BothRefusal, BothSettled, BothAnswers, numbersOut, FoundFinished, FoundRefusal, FoundAnswers, RunFinished, RunRefusal, RunAnswers, DemandOne}
@@ -51,7 +51,7 @@ plan-answers s = go (readSheet s) refl (read-refuses s)
     go r e (holds {p}) = inl (p, e, record { zero = refl; counts = refl })
 
 -- with any limit of rows; the numbers after the sheet's are 8, and 19 if any part is beyond the limit
-both-answers : (limit : Option ℕ) (ks : List ℕ) → Mem 8 ks → ((p : Polygon) → ¬ Within limit (chartOf p .rows) → Mem 19 ks)
+both-answers : (limit : Option ℕ) (ks : List ℕ) → Mem 8 ks → ((p : Polygon) → ¬ Keeps limit (chartOf p .rows) → Mem 19 ks)
     → (s : List ℕ) → BothAnswers (sheetTests ++ ks) s (writtenBoth (chartedBothWithin limit (readSheet s)))
 unfolding chartedBothWithin writtenBoth choose
 both-answers limit ks eight tall s out bars = go (readSheet s) refl (read-refuses s)
@@ -59,7 +59,7 @@ both-answers limit ks eight tall s out bars = go (readSheet s) refl (read-refuse
     refused-by : (k : ℕ) → Mem k ks → Proper k → BothRefusal (sheetTests ++ ks) out bars (refusalBoth k out bars)
     refused-by k m q = record { bytes = refusal-refuses out (mem-right sheetTests m) q; nothing = refl; untouched = refl }
 
-    drawn : (p : Polygon) → readSheet s ≡ held p → (d : Dec (Within limit (chartOf p .rows)))
+    drawn : (p : Polygon) → readSheet s ≡ held p → (d : Dec (Keeps limit (chartOf p .rows)))
         → BothSettled (sheetTests ++ ks) s out bars (writtenBoth (choose d (writeBoth (bytesOf (chartOf p)) (barsOf (chartOf p))) (refuseBoth 19)) out bars)
     drawn p e (no w) = inr (refused-by 19 (tall p w) (omega arith, omega arith))
     drawn p e (yes w) =
@@ -72,7 +72,7 @@ both-answers limit ks eight tall s out bars = go (readSheet s) refl (read-refuse
 
     go : (r : Reading) → readSheet s ≡ r → RefusedBy sheetTests r → BothSettled (sheetTests ++ ks) s out bars (writtenBoth (chartedBothWithin limit r) out bars)
     go r e (by m) = inr (record { bytes = refusal-refuses out (mem-left ks m) (all-mem tests-proper m); nothing = refl; untouched = refl })
-    go r e (holds {p}) = drawn p e (within? limit (chartOf p .rows))
+    go r e (holds {p}) = drawn p e (keeps? limit (chartOf p .rows))
 
 draw-answers : (s : List ℕ) → BothAnswers (sheetTests ++ (8 ∷ [])) s (drawnWithBars s)
 unfolding drawnWithBars

@@ -42,7 +42,7 @@ unfolding sheet barsIn columnsIn valuesIn piece readSheet ask pairs angles carri
     refusedLine chartOf chart layout treeOf grow far farther near? span chordsAt best umbrella leftAt rightAt stemAt over-node ud fold cols rows edges edgesAt
     edgesPast barsOf barRows closedRow closed meets? first last stroke barBytes strokeBytes bytesOf flatMap rowsIn
     chartRead readChart formed? places behind shaped bars? free? joins? strokes? passes? gaps? part? partSides common? common-of between stands? shares? crosses? strokeEdge
-    tight inner chordsPast draw-label.chartedWithin draw-label.within?
+    tight inner chordsPast draw-label.chartedWithin draw-label.keeps?
     near.first near.orElse near.toward near.steps near.has? near.lowestAt near.nearest on-chart? asked? nearestBar
 known =
     all-cons refl (all-cons refl (all-cons refl (all-cons refl (all-cons refl (all-cons refl (all-cons refl
