@@ -35,7 +35,7 @@ abbrev pub For : Option ℕ → Reading → List ℕ → ℕ → BothWritten →
 For limit q out room r after = (bars : List Bar) → length bars ≡ room → answeredBoth r after (map barOf (filledBy r after bars)) ≡ writtenBoth (chartedBothWithin limit q) out (map barOf bars)
 
 -- the chart has the part's corners
-pub corners : (p : Polygon) → Triangulated (p .n) (p .ds) → chartOf p .n ≡ p .n
+corners : (p : Polygon) → Triangulated (p .n) (p .ds) → chartOf p .n ≡ p .n
 unfolding chartOf closed chart.chart layout
 corners p T = omega (arith, tree-of (p .n) (p .ds) T .size, T .full)
 

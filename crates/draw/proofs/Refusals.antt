@@ -30,10 +30,10 @@ unfolding drawn
 drawn-settled s out = settled _ out tests-proper (charted-refuses (read-refuses s))
 
 -- for a label
-label-refuses : {r : Reading} → RefusedBy sheetTests r → Refuses (sheetTests ++ (19 ∷ [])) (chartedWithin label r)
+labelled-refuses : {r : Reading} → RefusedBy sheetTests r → Refuses (sheetTests ++ (19 ∷ [])) (chartedWithin label r)
 unfolding chartedWithin choose
-label-refuses (by m) = number (mem-left (19 ∷ []) m)
-label-refuses (holds {p}) = go (keeps? label (chartOf p .rows))
+labelled-refuses (by m) = number (mem-left (19 ∷ []) m)
+labelled-refuses (holds {p}) = go (keeps? label (chartOf p .rows))
   where
     go : (d : Dec (Keeps label (chartOf p .rows))) → Refuses (sheetTests ++ (19 ∷ [])) (choose d (write (bytesOf (chartOf p))) (refuse 19))
     go (yes h) = writes
@@ -41,7 +41,7 @@ label-refuses (holds {p}) = go (keeps? label (chartOf p .rows))
 
 pub labelled-settled : (s out : List ℕ) → Settled (sheetTests ++ (19 ∷ 8 ∷ [])) (labelled s) out (written (labelled s) out)
 unfolding labelled
-labelled-settled s out = settled _ out (all-append tests-proper (all-cons (omega arith, omega arith) all-nil)) (label-refuses (read-refuses s))
+labelled-settled s out = settled _ out (all-append tests-proper (all-cons (omega arith, omega arith) all-nil)) (labelled-refuses (read-refuses s))
 
 -- with the bar list: only an output or a list that is too short can stop it
 pub only-short-bars : (c : Chart) (n : ℕ) → c .n ≡ n → (out : List ℕ) (bars : List Bar) → OnlyShort ((length out < length (bytesOf c)) ⊎ (length bars < n)) (intoBoth c out bars .answer .number)

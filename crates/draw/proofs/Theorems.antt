@@ -16,7 +16,7 @@ use Rattle.chart.proofs.Theorems.{chart-rows-most, chart-rows-no-stem}
 use Rattle.draw.specs.Answer.{charted, drawn, chartedBoth, drawnWithBars}
 use Rattle.draw.specs.Label.{tape, label, chartedWithin, chartedBothWithin, labelled, labelledWithBars, Tall}
 use Rattle.draw.proofs.Label.{within-charted, within-both, over-charted, over-both, tape-charted, tape-both}
-use Rattle.draw.proofs.Nineteen.{within-nineteen, both-nineteen}
+use Rattle.draw.proofs.Nineteen.{TooTall, within-nineteen, both-nineteen}
 
 -- A sheet that is refused is refused by its own number.
 pub label-sheet-refused : (s : List ℕ) (k : ℕ) → readSheet s ≡ refused k → (labelled s ≡ refuse k) × ((out : List ℕ) (bars : List Bar) → labelledWithBars s out bars ≡ refusalBoth k out bars)
@@ -40,17 +40,16 @@ label-refuses s p e h = (
 )
 
 -- 19 is the answer exactly then.
+tall-by : (s : List ℕ) {A : Type 0} → A ↔ TooTall label (readSheet s) → A ↔ Tall s
+tall-by s (f, g) = (λ a. let (p, e, w) = f a in (p, e, omega (arith, w)), λ (p, e, h). g (p, e, λ k. omega (arith, h, k)))
+
 pub label-nineteen : (s out : List ℕ) → (written (labelled s) out .number ≡ 19) ↔ Tall s
 unfolding labelled
-label-nineteen s out =
-    let (f, g) = within-nineteen label s out in
-    (λ e. let (p, i, w) = f e in (p, i, omega (arith, w)), λ (p, i, h). g (p, i, λ k. omega (arith, h, k)))
+label-nineteen s out = tall-by s (within-nineteen label s out)
 
 pub label-nineteen-bars : (s out : List ℕ) (bars : List Bar) → (labelledWithBars s out bars .answer .number ≡ 19) ↔ Tall s
 unfolding labelledWithBars
-label-nineteen-bars s out bars =
-    let (f, g) = both-nineteen label s out bars in
-    (λ e. let (p, i, w) = f e in (p, i, omega (arith, w)), λ (p, i, h). g (p, i, λ k. omega (arith, h, k)))
+label-nineteen-bars s out bars = tall-by s (both-nineteen label s out bars)
 
 -- Else, taken or refused, the label's answers are the tape's.
 pub label-else : (s : List ℕ) → ¬ Tall s → (labelled s ≡ drawn s) × ((out : List ℕ) (bars : List Bar) → labelledWithBars s out bars ≡ drawnWithBars s out bars)

@@ -115,8 +115,10 @@ fn walk(
 ) -> Nearest
     requires tables { ⌜ InOrder (now starts) (now ends) ⌝ }
     requires rows { ⌜ (column < 65536) × (top ≤ bottom) × (bottom < 65536) ⌝ }
-    ensures first { λ r. ⌜ (last ≡ false → foundOf r ≡ nearest (spanAt (now (starts .entry)) (now (ends .entry))) (length (now (starts .entry))) (cell top column, cell bottom column)) ⌝ }
-    ensures last { λ r. ⌜ (last ≡ true → foundOf r ≡ nearest (spanAt (now (starts .entry)) (now (ends .entry))) (length (now (starts .entry))) (cell bottom column, cell top column)) ⌝ }
+    ensures first { λ r. ⌜ (last ≡ false → foundOf r
+        ≡ nearest (spanAt (now (starts .entry)) (now (ends .entry))) (length (now (starts .entry))) (cell top column, cell bottom column)) ⌝ }
+    ensures last { λ r. ⌜ (last ≡ true → foundOf r
+        ≡ nearest (spanAt (now (starts .entry)) (now (ends .entry))) (length (now (starts .entry))) (cell bottom column, cell top column)) ⌝ }
 {
     if bottom <= top + 1 {
         return Nearest::None;
