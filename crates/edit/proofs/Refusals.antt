@@ -2,7 +2,7 @@
 use mathlib.Core.List.{List, [], _∷_, _++_}
 use Prim.Native.Nat.{ℕ}
 use native.Mathlib.Omega.{arith}
-use Rattle.lists.specs.Lists.{All, all-cons, all-nil}
+use Rattle.lists.specs.Lists.{All, Sub, all-cons, all-nil}
 use Rattle.lists.proofs.Lists.{all-append, here, mem-left, mem-right, there}
 use Rattle.polygon.specs.Polygon.{Polygon}
 use Rattle.codec.specs.Answer.{written}
@@ -25,16 +25,18 @@ rule-proper (addEar i) = all-cons {x = 9} (omega arith, omega arith) (all-cons {
 rule-proper (removeEar k) = all-cons {x = 9} (omega arith, omega arith) (all-cons {x = 11} (omega arith, omega arith) (all-cons {x = 12} (omega arith, omega arith) all-nil))
 rule-proper (flip a b) = all-cons {x = 9} (omega arith, omega arith) (all-cons {x = 13} (omega arith, omega arith) all-nil)
 
--- the sheet's tests, and then the rule's
-held-refuses : (e : Edit) {r : Reading} → RefusedBy sheetTests r → RefusedBy (sheetTests ++ ruleTests e) (onHeld r (rule e))
+-- a part that is held, and what is done with it, refused by the same numbers; and by more
+pub held-refuses : {ks : List ℕ} {r : Reading} {f : Polygon → Reading} → RefusedBy ks r → ((p : Polygon) → RefusedBy ks (f p)) → RefusedBy ks (onHeld r f)
 unfolding onHeld
-held-refuses e (by m) = by (mem-left (ruleTests e) m)
-held-refuses e (holds {p}) = go (rule-refuses e p)
-  where
-    go : {r : Reading} → RefusedBy (ruleTests e) r → RefusedBy (sheetTests ++ ruleTests e) r
-    go (by m) = by (mem-right sheetTests m)
-    go holds = holds
+held-refuses (by m) F = by m
+held-refuses (holds {p}) F = F p
+
+pub refused-among : {ks js : List ℕ} {r : Reading} → Sub ks js → RefusedBy ks r → RefusedBy js r
+refused-among s (by {k} m) = by (s k m)
+refused-among s holds = holds
 
 pub edited-settled : (e : Edit) (s out : List ℕ) → Settled ((sheetTests ++ ruleTests e) ++ (8 ∷ [])) (edited e s) out (written (edited e s) out)
 unfolding edited
-edited-settled e s out = settled _ out (all-append tests-proper (rule-proper e)) (outcome-refuses (held-refuses e (read-refuses s)))
+edited-settled e s out =
+    let sheet = refused-among (λ k m. mem-left (ruleTests e) m) (read-refuses s) in
+    settled _ out (all-append tests-proper (rule-proper e)) (outcome-refuses (held-refuses sheet (λ p. refused-among (λ k m. mem-right sheetTests m) (rule-refuses e p))))

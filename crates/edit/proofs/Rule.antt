@@ -9,7 +9,7 @@ use Rattle.sheet.specs.Sheet.{Reading, refused, held, ask}
 use Rattle.edit.specs.Rules.{Edit, addEar, removeEar, flip, up, down, both, Away, earAdded, earRemoved, flipped, result, rule}
 
 -- a test is passed, or it refuses
-ask-cases : {P : Type 0} (Q : Reading → Type 0) (k : ℕ) (d : Dec P) (r : Reading) → (¬ P → Q (refused k)) → (P → Q r) → Q (ask k d r)
+pub ask-cases : {P : Type 0} (Q : Reading → Type 0) (k : ℕ) (d : Dec P) (r : Reading) → (¬ P → Q (refused k)) → (P → Q r) → Q (ask k d r)
 unfolding ask
 ask-cases Q k (yes p) r f g = g p
 ask-cases Q k (no n) r f g = f n

@@ -1,7 +1,7 @@
 -- The laws of angles that are carried from pairs to pairs: back to the same pairs they are the same, and through other pairs nothing is lost.
 use mathlib.Core.Path.{_≡_, refl, ap, ap₂, sym, _∙_}
 use mathlib.Core.Logic.{inl}
-use mathlib.Core.List.{List, [], _∷_, map}
+use mathlib.Core.List.{List, [], _∷_, _++_, map}
 use Prim.Native.Nat.{ℕ, _+_, _<_}
 use native.Mathlib.Omega.{arith}
 use lib.ListN.{length, length-map}
@@ -27,6 +27,22 @@ unfolding angleOf
 angle-unlisted [] vs e f = refl
 angle-unlisted (x ∷ es) [] e f = refl
 angle-unlisted (x ∷ es) (a ∷ vs) e f = choose-no (same? x e) _ (λ h. f (head (sym h))) ∙ angle-unlisted es vs e (λ m. f (tail m))
+
+-- pairs es with the angles vs, and behind them fs with ws: the angle of e is the one in front if it has 0 behind, and the one behind if it is not listed in front
+module _ (fs : List Edge) (ws : List Angle) (e : Edge) where
+  pub angle-left : (es : List Edge) (vs : List Angle) → length vs ≡ length es → angleOf fs ws e ≡ 0 → angleOf (es ++ fs) (vs ++ ws) e ≡ angleOf es vs e
+  unfolding angleOf
+  angle-left [] [] h z = z
+  angle-left [] (a ∷ vs) h z = absurd (omega arith)
+  angle-left (x ∷ es) [] h z = absurd (omega arith)
+  angle-left (x ∷ es) (a ∷ vs) h z = ap (choose (same? x e) a) (angle-left es vs (omega arith) z)
+
+  pub angle-right : (es : List Edge) (vs : List Angle) → length vs ≡ length es → ¬ Mem e es → angleOf (es ++ fs) (vs ++ ws) e ≡ angleOf fs ws e
+  unfolding angleOf
+  angle-right [] [] h f = refl
+  angle-right [] (a ∷ vs) h f = absurd (omega arith)
+  angle-right (x ∷ es) [] h f = absurd (omega arith)
+  angle-right (x ∷ es) (a ∷ vs) h f = choose-no (same? x e) _ (λ q. f (head (sym q))) ∙ angle-right es vs (omega arith) (λ m. f (tail m))
 
 -- what holds of 0 and of all angles holds of the angle of a pair
 pub angle-all : {Q : Angle → Type 0} (es : List Edge) {vs : List Angle} (e : Edge) → Q 0 → All Q vs → Q (angleOf es vs e)

@@ -10,7 +10,7 @@ use Rattle.sheet.specs.Sheet.{Reading, ask, bit0, bit1, sheetLength, mor
 use Rattle.sheet.proofs.Asks.{edgesIn, anglesOf, pairTests}
 
 -- a test passed by both or by neither, and what comes after it
-ask-alike : {P Q : Type 0} (k : ℕ) (d : Dec P) (e : Dec Q) {r q : Reading} → P ↔ Q → (P → r ≡ q) → ask k d r ≡ ask k e q
+pub ask-alike : {P Q : Type 0} (k : ℕ) (d : Dec P) (e : Dec Q) {r q : Reading} → P ↔ Q → (P → r ≡ q) → ask k d r ≡ ask k e q
 unfolding ask
 ask-alike k (yes p) (yes q) f h = h p
 ask-alike k (yes p) (no q) f h = absurd (q (f .0 p))

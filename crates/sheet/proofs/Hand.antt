@@ -73,7 +73,7 @@ pub bends-count : {h : Head} {bs : List ℕ} → BentInHand h bs → length (tak
 bends-count {h} {bs} P = front-count (h .n) bs (P .valid .most) (P .room)
 
 -- the keys of flat bends
-flat-keys : (ks : List ℕ) → keysIn (map flatBend ks) ≡ ks
+pub flat-keys : (ks : List ℕ) → keysIn (map flatBend ks) ≡ ks
 flat-keys [] = refl
 flat-keys (k ∷ ks) = ap₂ _∷_ (omega arith) (flat-keys ks)
 

@@ -93,7 +93,7 @@ pub fn write_sheet(h: Head, bends: &[u32], out: &mut [u8]) -> Written
 }
 
 // Puts the bends of diagonals without angles at the front of a table.
-fn flat_bends(keys: &[u32], bends: &mut [u32])
+pub fn flat_bends(keys: &[u32], bends: &mut [u32])
     requires { ⌜ (length (now keys) ≤ length (now bends)) × SmallKeys (now keys) ⌝ }
     ensures { λ _. ⌜ take (length (now (keys .entry))) (now (bends .exit)) ≡ map flatBend (now (keys .entry)) ⌝ }
 {

@@ -21,13 +21,13 @@ mutual
   unfolding ud
 
   -- a piece needs at least the levels that its two parts need
-  left-ud : (l r : Tree) → ud l ≤ ud (node l r)
+  pub left-ud : (l r : Tree) → ud l ≤ ud (node l r)
   left-ud leaf r = omega arith
   left-ud (node a b) r =
       let i : Inequalities b a = inequalities b a in
       suc-le-suc (min-glb (max-left _ (min-mono (max-mono (le-refl _) i.fanB-ud) (max-swap i.partialB-handle (le-refl _)))) (max-right _ (min-right _ (max-swap (le-trans i.partialB-handle i.handle-ud) (le-refl _)))))
 
-  right-ud : (r l : Tree) → ud r ≤ ud (node l r)
+  pub right-ud : (r l : Tree) → ud r ≤ ud (node l r)
   right-ud leaf l = omega arith
   right-ud (node a b) l =
       let i : Inequalities a b = inequalities a b in
