@@ -1,0 +1,12 @@
+pub mod Corners
+pub mod Graft
+pub mod Grafted
+pub mod Grown
+pub mod Edges
+pub mod Angles
+pub mod Triangle
+pub mod Sewing
+pub mod Sewn
+pub mod Taken
+pub mod Answers
+pub mod Theorems
