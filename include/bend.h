@@ -13,9 +13,10 @@
  * listed order: two bytes in two's complement, high byte first, tenths of a degree,
  * -1,800 to 1,800. An angle stays with its diagonal: the sheets that are written
  * have them in the order of their pairs. A new diagonal starts at 0; a sheet that
- * is written has bit 3 exactly if the sheet read has it and more than 3 corners
- * are left. Nothing planned or drawn depends on angles. The longest sheet has
- * 6,133 bytes, the longest that is written 6,129.
+ * is written has bit 3 exactly if a sheet that is read has it and more than 3
+ * corners are left, and diagonals that had no angle then start at 0. Nothing
+ * planned or drawn depends on angles. The longest sheet has 6,133 bytes, the
+ * longest that is written 6,129.
  *
  * Every function returns one number of 64 bits. Its low 16 bits are 0 if the
  * operation was done, or the number of the refusal:
@@ -28,9 +29,11 @@
  *    6  a pair is repeated, either way round
  *    7  two diagonals cross
  *    8  the output is shorter than the result
- *    9  a side or corner that the call names is not below n; of two cells, one
- *       lies outside the chart, or they are not of one row or column
- *   10  the part has 1,024 corners and can take no more
+ *    9  a side or corner that the call names is not below n, or the side to join
+ *       on is the root; of two cells, one lies outside the chart, or they are not
+ *       of one row or column
+ *   10  the part has 1,024 corners and can take no more, or two joined would have
+ *       more than 1,024
  *   11  the part is a triangle and can lose no corner
  *   12  a diagonal ends at the corner to be taken off
  *   13  the part lacks the diagonal to be turned
@@ -51,8 +54,9 @@
  * other bits are then 0 and no byte of the output is changed. If the operation
  * was done, the bytes of the output beyond the result stay as they were.
  *
- * The inputs are only read. No output may overlap an input or another output.
- * No pointer may be null, not even with a length of 0.
+ * The inputs are only read: two of them may be the same bytes, or overlap. No output
+ * may overlap an input or another output. No pointer may be null, not even with a
+ * length of 0.
  *
  * No function needs more than 128 KiB of stack, and none allocates memory. That
  * is measured (tests/c/stack.c, on parts of 1,024 corners) and not proved.
@@ -102,6 +106,21 @@ uint64_t bend_remove_ear(const uint8_t *sheet, size_t sheet_len, size_t corner,
  * Refusals: 1 to 7 and 23 as for bend_normalize; 9; 13; 8.
  */
 uint64_t bend_flip(const uint8_t *sheet, size_t sheet_len, size_t a, size_t b,
+                   uint8_t *out, size_t out_len);
+
+/*
+ * Join two parts along a seam: the second part's root is laid on a side of the
+ * first, below n - 1, and becomes a diagonal, with the angle 0 if either sheet has
+ * angles. The second's corner j becomes side + j, so that its last falls on the
+ * first's old corner side + 1; with m corners in the second, that one and the
+ * first's higher ones move up by m - 2. Writes the sheet of the joined part, of
+ * n + m - 2 corners, in normal order and gives its length. The two sheets may be the
+ * same bytes.
+ * Refusals: 1 to 7 and 23 as for bend_normalize, of the first sheet; then the same
+ * of the second; 9, also for the root side n - 1; 10, if n + m - 2 is over 1,024; 8.
+ */
+uint64_t bend_join(const uint8_t *first, size_t first_len,
+                   const uint8_t *second, size_t second_len, size_t side,
                    uint8_t *out, size_t out_len);
 
 /*

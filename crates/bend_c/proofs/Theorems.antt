@@ -12,6 +12,7 @@ use Rattle.edit.specs.Rules.{Edit, addEar, removeEar, flip}
 use Rattle.edit.specs.Calls.{edited}
 use Rattle.edit.proofs.Refusals.{edited-settled}
 use Rattle.edit.proofs.Size.{edited-size}
+use Rattle.seam.proofs.Answers.{joined-settled, joined-size}
 use Rattle.edit_list.proofs.Packing.{run-reads-back}
 use Rattle.plan.proofs.ReadBack.{plan-reads-back}
 use Rattle.draw.proofs.Refusals.{drawn-settled, labelled-settled}
@@ -30,6 +31,7 @@ every-answer = record {
   bend-add-ear = λ s side out. edit-reads-back (addEar side) s out;
   bend-remove-ear = λ s corner out. edit-reads-back (removeEar corner) s out;
   bend-flip = λ s a b out. edit-reads-back (flip a b) s out;
+  bend-join = λ s t side out. reads-back _ (small-number (joined-settled s t side out)) (omega (arith, joined-size s t side out));
   bend-run-edits = run-reads-back;
   bend-plan = plan-reads-back;
   bend-draw = λ s out. reads-back _ (small-number (drawn-settled s out)) (omega (arith, drawn-size s out));

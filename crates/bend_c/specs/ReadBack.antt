@@ -8,6 +8,7 @@ use Rattle.codec.specs.Unpacked.{ReadsBack}
 use Rattle.sheet.specs.Sheet.{ordered}
 use Rattle.edit.specs.Rules.{addEar, removeEar, flip}
 use Rattle.edit.specs.Calls.{edited}
+use Rattle.seam.specs.Answer.{joinedSheets}
 use Rattle.edit_list.specs.Result.{resultOf, RunReadsBack}
 use Rattle.plan.specs.Answer.{planned, PlanReadsBack}
 use Rattle.draw.specs.Answer.{drawn}
@@ -25,6 +26,7 @@ pub record EveryAnswer : Type 0 where
   pub bend-add-ear : (sheet : List ℕ) (side : ℕ) (out : List ℕ) → ReadsBack (written (edited (addEar side) sheet) out)
   pub bend-remove-ear : (sheet : List ℕ) (corner : ℕ) (out : List ℕ) → ReadsBack (written (edited (removeEar corner) sheet) out)
   pub bend-flip : (sheet : List ℕ) (a b : ℕ) (out : List ℕ) → ReadsBack (written (edited (flip a b) sheet) out)
+  pub bend-join : (first second : List ℕ) (side : ℕ) (out : List ℕ) → ReadsBack (written (joinedSheets first second side) out)
   pub bend-run-edits : (first list front back numbers : List ℕ) → Bytes list → RunReadsBack (resultOf first list front back numbers)
   pub bend-plan : (sheet : List ℕ) → PlanReadsBack (planned sheet)
   pub bend-draw : (sheet out : List ℕ) → ReadsBack (written (drawn sheet) out)

@@ -9,6 +9,7 @@ ghost use Rattle.sheet.specs.Sheet.{ordered};
 ghost use Rattle.edit.specs.Rules.{addEar, removeEar, flip};
 ghost use Rattle.edit.specs.Calls.{edited};
 ghost use Rattle.edit.specs.Tables.{editOf};
+ghost use Rattle.seam.specs.Answer.{joinedSheets};
 ghost use Rattle.edit_list.specs.Result.{ranOf, resultOf, packedRun, Tellable};
 ghost use Rattle.draw.specs.Answer.{drawn};
 ghost use Rattle.draw.specs.Label.{labelled};
@@ -76,6 +77,15 @@ pub extern "C" fn bend_flip(sheet: &[u8], a: usize, b: usize, out: &mut [u8]) ->
     ensures bytes { λ r. ⌜ now (out .exit) ≡ written (edited (flip a b) (now (sheet .entry))) (now (out .entry)) .bytes ⌝ }
 {
     pack_edit(sheet, Edit::Flip(a, b), out)
+}
+
+// Join the second part to the first along a side of the first.
+#[no_mangle]
+pub extern "C" fn bend_join(first: &[u8], second: &[u8], side: usize, out: &mut [u8]) -> u64
+    ensures answer { λ r. ⌜ r ≡ packed (written (joinedSheets (now (first .entry)) (now (second .entry)) side) (now (out .entry))) ⌝ }
+    ensures bytes { λ r. ⌜ now (out .exit) ≡ written (joinedSheets (now (first .entry)) (now (second .entry)) side) (now (out .entry)) .bytes ⌝ }
+{
+    pack(seam::join(first, second, side, out))
 }
 
 // The answer of a list of edits in one number.

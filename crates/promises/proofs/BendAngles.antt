@@ -1,6 +1,6 @@
 -- Request (xi) is proved: the theorems of the crates sheet and edit on the angles of parts, and that nothing planned or drawn depends on them.
 use mathlib.Core.Path.{_≡_, refl, ap, sym, _∙_}
-use mathlib.Core.Logic.{_↔_, inl}
+use mathlib.Core.Logic.{_⊎_, _↔_, inl, inr}
 use mathlib.Core.List.{List}
 use Prim.Native.Nat.{ℕ, _<_}
 use native.Mathlib.Omega.{arith}
@@ -23,6 +23,9 @@ use Rattle.sheet.proofs.Valid.{read-valid}
 use Rattle.edit.specs.Rules.{Edit, rule}
 use Rattle.edit.specs.Calls.{onHeld, edited}
 use Rattle.edit.proofs.Theorems.{turn-angles, add-angles, off-angles, result-angled}
+use Rattle.seam.specs.Glue.{joinRule}
+use Rattle.seam.specs.Answer.{joinedSheets}
+use Rattle.seam.proofs.Theorems.{first-angles, second-angles, seam-angle, joined-angled}
 use Rattle.chart_reader.specs.Reader.{readChart, chartRead}
 use Rattle.chart_reader.proofs.Verdict.{by-reading}
 use Rattle.chart_reader.proofs.Accepts.{held-keeps}
@@ -56,6 +59,26 @@ edit-bit e s t w = go (readSheet s) refl w
         let m : get16 t 1 ≡ q .n = sym (ap (λ (x : List ℕ). get16 x 1) n) ∙ normal-count q in
         (λ h. let a = A .0 (sym b ∙ h) in (c ∙ a .0, rw m (a .1)), λ h. b ∙ A .1 (sym c ∙ h .0, rw m at (h .1))))
 
+join-bit : (s t u : List ℕ) (i : ℕ) → joinedSheets s t i ≡ write u → (Bit3 u ↔ (Bit3 s ⊎ Bit3 t)) × (3 < get16 u 1)
+unfolding joinedSheets onHeld
+join-bit s t u i w = go (readSheet s) refl (readSheet t) refl w
+  where
+    none-held : {A : Type 0} (k : ℕ) → outcome (refused k) ≡ write u → A
+    none-held k x = wrote (refused k) u x (λ p r n. let z : _≡_ {A = ℕ} 0 1 = cc in absurd (omega arith))
+
+    go : (x : Reading) → readSheet s ≡ x → (y : Reading) → readSheet t ≡ y → outcome (onHeld x (λ p. onHeld y (joinRule i p))) ≡ write u → (Bit3 u ↔ (Bit3 s ⊎ Bit3 t)) × (3 < get16 u 1)
+    go (refused k) d y e x = none-held k x
+    go (held p) d (refused k) e x = none-held k x
+    go (held p) d (held q) e x = wrote (joinRule i p q) u x (λ g r n.
+        let A = joined-angled i p q r in
+        let b = wrote-bit g u n in
+        let c = read-bit s p d in
+        let f = read-bit t q e in
+        let m : get16 u 1 ≡ g .n = sym (ap (λ (x : List ℕ). get16 x 1) n) ∙ normal-count g in (
+          (λ h. elim (A .0 .0 (sym b ∙ h)) [ inl a ↦ inl (c ∙ a) | inr a ↦ inr (f ∙ a) ], λ h. elim h [ inl a ↦ b ∙ A .0 .1 (inl (sym c ∙ a)) | inr a ↦ b ∙ A .0 .1 (inr (sym f ∙ a)) ]),
+          rw m (A .1 (read-valid s p d) (read-valid t q e)),
+        ))
+
 chart-bit : (c t : List ℕ) → chartRead c ≡ write t → ¬ Bit3 t
 unfolding chartRead
 chart-bit c t w = wrote (readChart c) t w (λ p r n h.
@@ -84,9 +107,11 @@ bend-angles = record {
   turned = turn-angles;
   none-before = λ p d f. angle-none (p .ds) (p .angles) d f;
   added = add-angles;
+  joined = λ i p q P Q. (first-angles i p q P Q, second-angles i p q P Q, seam-angle i p q P Q);
   off = off-angles;
   order-bit = order-bit;
   edit-bit = edit-bit;
+  join-bit = join-bit;
   chart-bit = chart-bit;
   size = normal-length;
   old-edition = λ s h. omega arith;

@@ -21,6 +21,7 @@ use Rattle.codec.specs.Refusals.{Proper}
 use Rattle.codec.proofs.Refusals.{whole-finished, refusal-refuses}
 use Rattle.edit.specs.Rules.{addEar, removeEar, flip}
 use Rattle.edit.proofs.Refusals.{edited-settled}
+use Rattle.seam.proofs.Answers.{joined-settled}
 use Rattle.edit_list.specs.Script.{faultOf}
 use Rattle.edit_list.specs.Result.{numbered, finished, unchanged, resultOf}
 use Rattle.edit_list.proofs.Tests.{Number, fault-number}
@@ -118,6 +119,7 @@ demand-one = record {
   add = λ s i. edited-settled (addEar i) s;
   take-off = λ s k. edited-settled (removeEar k) s;
   turn = λ s a b. edited-settled (flip a b) s;
+  join = joined-settled;
   plan = plan-answers;
   draw = drawn-settled;
   draw-bars = draw-answers;

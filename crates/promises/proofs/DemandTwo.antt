@@ -35,7 +35,7 @@ which-sheets s = record {
     else r e (by {k} m) f = (k, m, e)
     else r e (holds {p}) f = absurd (f (listed p e))
 
-only-room : (s : List ℕ) (p : Polygon) → Valid p → readSheet s ≡ held p → OnlyRoom s p
+pub only-room : (s : List ℕ) (p : Polygon) → Valid p → readSheet s ≡ held p → OnlyRoom s p
 unfolding ordered outcome drawn charted drawnWithBars chartedBoth planned answer
 only-room s p v reads = record {
   order = λ out. rw reads (only-short (normalSheet p) out);
@@ -44,7 +44,7 @@ only-room s p v reads = record {
   plan = rw reads;
 }
 
-our-chart : (s : List ℕ) (p : Polygon) → Valid p → readSheet s ≡ held p → OurChart s p
+pub our-chart : (s : List ℕ) (p : Polygon) → Valid p → readSheet s ≡ held p → OurChart s p
 unfolding ordered drawn charted chartRead outcome
 our-chart s p v reads = record {
   sheet = ap outcome reads;

@@ -13,6 +13,9 @@ use Rattle.codec.specs.Numbers.{run16}
 use Rattle.sheet.specs.Sheet.{ask, pairs, angles, count?, more, readSheet, pairBytes, mapByte, normalSheet, outcome, ordered}
 use Rattle.edit.specs.Rules.{up, down, both, entering, earAdded, neighbours, earRemoved, away?, result, side?, linked?, joined?, common, enter, flipped, rule}
 use Rattle.edit.specs.Calls.{onHeld, edited}
+use Rattle.edit.specs.Model.{numberGiven}
+use Rattle.seam.specs.Glue.{matched, gluedEdges, glue, joinRule}
+use Rattle.seam.specs.Answer.{joinedSheets}
 use Rattle.umbrella.specs.Plan.{fold}
 use Rattle.umbrella.specs.Values.{ud}
 use Rattle.umbrella.specs.Tight.{tight}
@@ -43,6 +46,7 @@ unfolding sheet barsIn columnsIn valuesIn piece readSheet ask pairs angles carri
     edgesPast barsOf barRows closedRow closed meets? first last stroke barBytes strokeBytes bytesOf flatMap rowsIn
     chartRead readChart formed? places behind shaped bars? free? joins? strokes? passes? gaps? part? partSides common? common-of between stands? shares? crosses? strokeEdge
     tight inner chordsPast draw-label.chartedWithin draw-label.keeps?
+    joinedSheets joinRule glue gluedEdges matched numberGiven
     near.first near.orElse near.toward near.steps near.has? near.lowestAt near.nearest on-chart? asked? nearestBar
 known =
     all-cons refl (all-cons refl (all-cons refl (all-cons refl (all-cons refl (all-cons refl (all-cons refl
@@ -59,4 +63,7 @@ known =
     (all-cons refl (all-cons refl (all-cons refl (all-cons refl (all-cons refl (all-cons refl (all-cons refl
     (all-cons refl (all-cons refl (all-cons refl (all-cons refl (all-cons refl (all-cons refl (all-cons refl
     (all-cons refl (all-cons refl (all-cons refl (all-cons refl (all-cons refl (all-cons refl (all-cons refl
-    (all-cons refl (all-cons refl (all-cons refl (all-cons refl (all-cons refl all-nil))))))))))))))))))))))))))))))))))))))))))))))))))))))))))))))))))))))))))))))))))))))))))))))))))))))
+    (all-cons refl (all-cons refl (all-cons refl (all-cons refl (all-cons refl (all-cons refl (all-cons refl
+    (all-cons refl (all-cons refl (all-cons refl (all-cons refl (all-cons refl (all-cons refl (all-cons refl
+    (all-cons refl (all-cons refl (all-cons refl (all-cons refl (all-cons refl (all-cons refl (all-cons refl
+    (all-cons refl (all-cons refl (all-cons refl (all-cons refl (all-cons refl (all-cons refl (all-cons refl all-nil)))))))))))))))))))))))))))))))))))))))))))))))))))))))))))))))))))))))))))))))))))))))))))))))))))))))))))))))))))))))))))))

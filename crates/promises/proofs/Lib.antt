@@ -10,3 +10,4 @@ pub mod DepthInOrder
 pub mod RowsWithoutBars
 pub mod NearestBar
 pub mod LabelPrinter
+pub mod JoinedAlongSeam

@@ -15,6 +15,8 @@ use Rattle.sheet.proofs.Skipped.{skips, same-reading, only-there}
 use Rattle.edit.specs.Rules.{rule}
 use Rattle.edit.specs.Model.{left, chosen, modelSheet}
 use Rattle.edit.specs.Calls.{onHeld, edited, Call, called, lent, sheetAfter, answers, sheetLeft}
+use Rattle.seam.specs.Glue.{joinRule}
+use Rattle.seam.specs.Answer.{joinedSheets}
 use Rattle.edit.proofs.List.{list-of-edits}
 use Rattle.log_line.specs.Line.{line}
 use Rattle.chart_reader.specs.Reader.{readChart, chartRead}
@@ -49,10 +51,12 @@ alike-list (c ∷ cs) s t e =
 
 -- what is read of a sheet settles every answer
 alike-answers : (s t : List ℕ) → readSheet s ≡ readSheet t → SameAnswers s t
-unfolding ordered edited
+unfolding ordered edited joinedSheets
 alike-answers s t e = record {
   order = ap outcome e;
   edit = λ x. ap (λ (r : Reading). outcome (onHeld r (rule x))) e;
+  join-first = λ u i. ap (λ (r : Reading). outcome (onHeld r (λ p. onHeld (readSheet u) (joinRule i p)))) e;
+  join-second = λ u i. ap (λ (r : Reading). outcome (onHeld (readSheet u) (λ p. onHeld r (joinRule i p)))) e;
   drawing = drawn-alike s t (ap bared e);
   run = run-alike s t e;
   numbers = λ cs. alike-list cs s t e .0;
@@ -69,11 +73,12 @@ left-by s p e cs =
     }
 
 pub part-numbers-go : PartNumbersGo
-unfolding ordered edited chartRead line
+unfolding ordered edited joinedSheets chartRead line
 part-numbers-go = record {
   order = λ s. outcome-bare (readSheet s);
   edit = λ e s. outcome-bare (onHeld (readSheet s) (rule e));
   read-chart = λ c. outcome-bare (readChart c);
+  join = λ s t i. outcome-bare (onHeld (readSheet s) (λ p. onHeld (readSheet t) (joinRule i p)));
   skips = λ s. sym (skips s);
   log = λ f. refl;
   there = only-there;

@@ -1,8 +1,8 @@
 -- Request (xi), "Bend angles on the sheet", sentence by sentence. A part's `angles` are `none`, or `each vs` with one for each of its diagonals, in their order (crate polygon, specs/Angles.antt).
 -- `carried es xs ds` are the angles of the pairs ds, if those of the pairs es are xs; `angleAt p d` is the angle of the diagonal d, 0 for what is none (specs/Carried.antt there).
--- What the request says of a seam and of cut halves is joining's and cutting's.
+-- A part that is joined of p and q on side i is `glue i p q` (crate seam, specs/Glue.antt). What the request says of cut halves is cutting's.
 use mathlib.Core.Path.{_≡_}
-use mathlib.Core.Logic.{_↔_}
+use mathlib.Core.Logic.{_⊎_, _↔_}
 use mathlib.Core.List.{List}
 use Prim.Native.Nat.{ℕ, _+_, _*_, _-_, _≤_, _<_}
 use lib.ListN.{length, getD}
@@ -17,6 +17,8 @@ use Rattle.sheet.specs.Listing.{pairsOf}
 use Rattle.sheet.specs.Framed.{Paired}
 use Rattle.edit.specs.Rules.{Edit, addEar, removeEar, flip, up, down, both, entering, neighbours, rule}
 use Rattle.edit.specs.Calls.{edited}
+use Rattle.seam.specs.Glue.{laid, matched, seam, glue}
+use Rattle.seam.specs.Answer.{joinedSheets}
 use Rattle.chart_reader.specs.Reader.{chartRead}
 use Rattle.promises.specs.SameDrawing.{SameDrawing}
 
@@ -46,12 +48,18 @@ pub record BendAngles : Type 0 where
   -- "as does the diagonal of an added corner ..,": the others keep theirs under their new numbers
   pub added : (p q : Polygon) (i : ℕ) → Valid p → rule (addEar i) p ≡ held q
       → ((d : Edge) → Mem d (p .ds) → angleAt q (both (up i) d) ≡ angleAt p d) × (angleAt q (entering (p .n) i) ≡ 0)
+  -- "or a seam,": the others keep theirs under their new numbers; "diagonals that had no angle then start at 0": `angleAt` is 0 of a part without angles
+  pub joined : (i : ℕ) (p q : Polygon) → Valid p → Valid q
+      → ((d : Edge) → Mem d (p .ds) → angleAt (glue i p q) (both (matched (q .n) i) d) ≡ angleAt p d)
+      × ((d : Edge) → Mem d (q .ds) → angleAt (glue i p q) (both (laid i) d) ≡ angleAt q d)
+      × (angleAt (glue i p q) (seam (q .n) i) ≡ 0)
   -- "and an angle is dropped when its diagonal becomes a side.": the others keep theirs, if the result is no triangle
   pub off : (p q : Polygon) (k : ℕ) → Valid p → rule (removeEar k) p ≡ held q → 3 < q .n
       → (d : Edge) → Mem d (p .ds) → ¬ (d ≡ neighbours (p .n) k) → angleAt q (both (down k) d) ≡ angleAt p d
-  -- "A result has bit 3 exactly when a sheet it comes from has and its own n is over 3": of Set in order, of the edits, and of Read a chart, whose charts have no angles
+  -- "A result has bit 3 exactly when a sheet it comes from has and its own n is over 3": of Set in order, of the edits, of joining, where either sheet counts and n is always over 3, and of Read a chart, whose charts have no angles
   pub order-bit : (s t : List ℕ) → ordered s ≡ write t → Bit3 t ↔ Bit3 s
   pub edit-bit : (e : Edit) (s t : List ℕ) → edited e s ≡ write t → Bit3 t ↔ (Bit3 s × (3 < get16 t 1))
+  pub join-bit : (s t u : List ℕ) (i : ℕ) → joinedSheets s t i ≡ write u → (Bit3 u ↔ (Bit3 s ⊎ Bit3 t)) × (3 < get16 u 1)
   pub chart-bit : (c t : List ℕ) → chartRead c ≡ write t → ¬ Bit3 t
   -- "The plain part keeps bit 3 and the angles by these same rules,": `DemandThree`, whose plain part has the rules above; "and its 8 counts them."
   pub size : (p : Polygon) → Valid p → length (normalSheet p) ≡ 3 + 4 * (p .n - 3) + field (angled (p .angles)) (2 * (p .n - 3))

@@ -16,6 +16,7 @@ use Rattle.sheet.specs.Sheet.{held, readSheet, ordered}
 use Rattle.codec.specs.Refusals.{Proper, Finished, Refusal, Settled}
 use Rattle.edit.specs.Rules.{addEar, removeEar, flip}
 use Rattle.edit.specs.Calls.{edited}
+use Rattle.seam.specs.Answer.{joinedSheets}
 use Rattle.edit_list.specs.Script.{scriptOf}
 use Rattle.edit_list.specs.Desk.{begin, numbersOf}
 use Rattle.edit_list.specs.Result.{Result, finished, resultOf}
@@ -113,6 +114,8 @@ pub record DemandOne : Type 0 where
   pub take-off : (s : List ℕ) (k : ℕ) → Answers (1 ∷ 2 ∷ 3 ∷ 4 ∷ 5 ∷ 6 ∷ 7 ∷ 23 ∷ 9 ∷ 11 ∷ 12 ∷ 8 ∷ []) (edited (removeEar k) s)
   -- Turn diagonal (a,b). "1 to 7; 9: a or b ≥ n; 13: the part lacks it; 8."
   pub turn : (s : List ℕ) (a b : ℕ) → Answers (1 ∷ 2 ∷ 3 ∷ 4 ∷ 5 ∷ 6 ∷ 7 ∷ 23 ∷ 9 ∷ 13 ∷ 8 ∷ []) (edited (flip a b) s)
+  -- Join the second sheet's part on side i of the first's (request (i)): the first sheet's, the second's, "then 9 .., 10 .., then 8."
+  pub join : (s t : List ℕ) (i : ℕ) → Answers (1 ∷ 2 ∷ 3 ∷ 4 ∷ 5 ∷ 6 ∷ 7 ∷ 23 ∷ 9 ∷ 10 ∷ 8 ∷ []) (joinedSheets s t i)
   -- Plan. "1 to 7."
   pub plan : (s : List ℕ) → PlanAnswers (1 ∷ 2 ∷ 3 ∷ 4 ∷ 5 ∷ 6 ∷ 7 ∷ 23 ∷ []) s
   -- Draw. "1 to 7; 8: either output too short." Without the bar list and with it:

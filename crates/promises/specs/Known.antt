@@ -1,17 +1,21 @@
--- The known parts of document 01 that are marked M, with the closed rows of request (v), one part more, the known sheets of requests (ii), (iv), (v), (xi) and (xii), and known bars of request (x), as one list of cases.
+-- The known parts of document 01 that are marked M, with the closed rows of request (v), one part more, the known sheets of requests (i), (ii), (iv), (v), (xi) and (xii), and known bars of request (x), as one list of cases.
 -- proofs/Known.antt proves them all. (Document 01's own rows, before closing up, are in crate chart, proofs/Known.antt.)
 use mathlib.Core.Path.{_≡_}
 use mathlib.Core.List.{List, [], _∷_, _++_}
 use mathlib.Core.Option.{Option, some}
 use Prim.Native.Nat.{ℕ}
 use lib.ListN.{length, getD}
-use Rattle.polygon.specs.Polygon.{Edge, _—_}
+use Rattle.polygon.specs.Angles.{none as bare}
+use Rattle.polygon.specs.Polygon.{Edge, _—_, Polygon}
 use Rattle.polygon.specs.Tree.{piece}
 use Rattle.codec.specs.Numbers.{bytes16}
-use Rattle.codec.specs.Answer.{Answer, refusal, write, written}
+use Rattle.codec.specs.Answer.{Outcome, refuse, write, Answer, refusal, written}
 use Rattle.sheet.specs.Sheet.{Reading, refused, held, readSheet, pairBytes, normalSheet, ordered}
 use Rattle.edit.specs.Rules.{Edit, addEar, removeEar, flip}
 use Rattle.edit.specs.Calls.{edited}
+use Rattle.edit.specs.Model.{numberGiven}
+use Rattle.seam.specs.Glue.{joinRule}
+use Rattle.seam.specs.Answer.{joinedSheets}
 use Rattle.umbrella.specs.Values.{values}
 use Rattle.umbrella.specs.Tight.{tightPart}
 use Rattle.plan.specs.Answer.{planned}
@@ -70,10 +74,15 @@ valuesIn (held p) a b = values (piece (p .ds) a b)
 abbrev pub bar : ℕ → ℕ → ℕ → Bar
 bar r l s = record { row = r; left = l; right = s }
 
+-- a part of which only the corners are asked for
+abbrev pub corners : ℕ → Polygon
+corners n = record { n = n; ds = []; angles = bare }
+
 -- a case: a sheet refused by a number; one with these levels, umbrellas and stems; with these chart bytes; with these bars; with so many rows; with so many columns; a sheet whose diagonal is turned; one that is edited; one with this line;
 -- a sheet and an output, and the answer of setting in order; a sheet with these six values at the edge (a,b); a chart that is read as a sheet;
 -- bars, two cells, and what is found between them; the same for a chart's bytes;
--- a limit of rows, a sheet and an output, and the answer of drawing; the sheet of the part of so many levels that has the fewest corners
+-- a limit of rows, a sheet and an output, and the answer of drawing; the sheet of the part of so many levels that has the fewest corners;
+-- two sheets and a side, and what joining is to do; how many corners two parts have, a side, and the number that the rule of joining gives
 pub data Case : Type 0 where
   refusedBy : List ℕ → ℕ → Case
   counted : List ℕ → ℕ → ℕ → ℕ → Case
@@ -91,6 +100,8 @@ pub data Case : Type 0 where
   followed : List ℕ → Cell × Cell → FollowAnswer → Case
   limited : Option ℕ → List ℕ → List ℕ → Answer → Case
   tightest : ℕ → List ℕ → Case
+  joined : List ℕ → List ℕ → ℕ → Outcome → Case
+  joinedOf : ℕ → ℕ → ℕ → ℕ → Case
 
 abbrev pub Holds : Case → Type 0
 Holds (refusedBy s k) = readSheet s ≡ refused k
@@ -109,6 +120,8 @@ Holds (found bs e f) = nearest (λ x. getD bs x (bar 0 0 0)) (length bs) e ≡ f
 Holds (followed c e a) = nearestBar c e ≡ a
 Holds (limited l s out a) = written (chartedWithin l (readSheet s)) out ≡ a
 Holds (tightest D s) = normalSheet (tightPart D) ≡ s
+Holds (joined s t i o) = joinedSheets s t i ≡ o
+Holds (joinedOf n m i k) = numberGiven (joinRule i (corners n) (corners m)) ≡ k
 
 -- the triangle's chart with h rows and corner 1 on row r
 abbrev pub triangleChart : ℕ → ℕ → List ℕ
@@ -290,4 +303,32 @@ cases =
     -- "counts closed rows" (request (v)): rows 0, 2 and 4 of document 01's are three
     ∷ limited (some 3) oneHung [] (refusal 8 [])
     ∷ limited (some 2) oneHung [] (refusal 19 [])
+    -- Request (i), "its corner j becomes i+j, .., and the first's later corners move up to match": the second is not turned round, the seam is there once
+    ∷ joined (sheet 3 []) (sheet 4 ((0 — 2) ∷ [])) 0 (write (sheet 5 ((0 — 2) ∷ (0 — 3) ∷ [])))
+    ∷ joined (sheet 3 []) (sheet 4 ((0 — 2) ∷ [])) 1 (write (sheet 5 ((1 — 3) ∷ (1 — 4) ∷ [])))
+    ∷ joined (sheet 4 ((0 — 2) ∷ [])) (sheet 4 ((3 — 1) ∷ [])) 1 (write (sheet 6 ((0 — 4) ∷ (1 — 4) ∷ (2 — 4) ∷ [])))
+    ∷ joined (sheet 4 ((1 — 3) ∷ [])) (sheet 4 ((0 — 2) ∷ [])) 2 (write (sheet 6 ((1 — 5) ∷ (2 — 4) ∷ (2 — 5) ∷ [])))
+    -- "its levels are at least those of either half and at most their sum": 1 and 1 give 1, and 1 and 1 give 2
+    ∷ joined (sheet 3 []) (sheet 3 []) 0 (write (sheet 4 ((0 — 2) ∷ [])))
+    ∷ counted (sheet 4 ((0 — 2) ∷ [])) 1 1 0
+    ∷ counted (sheet 5 ((0 — 2) ∷ (2 — 4) ∷ [])) 1 1 0
+    ∷ joined (sheet 4 ((0 — 2) ∷ [])) (sheet 5 ((0 — 2) ∷ (2 — 4) ∷ [])) 1 (write (sheet 7 ((0 — 5) ∷ (1 — 3) ∷ (1 — 5) ∷ (3 — 5) ∷ [])))
+    -- a triangle is a corner added
+    ∷ joined (sheet 4 ((0 — 2) ∷ [])) (sheet 3 []) 1 (write (sheet 5 ((0 — 3) ∷ (1 — 3) ∷ [])))
+    ∷ changed (sheet 4 ((0 — 2) ∷ [])) (addEar 1) (sheet 5 ((0 — 3) ∷ (1 — 3) ∷ []))
+    -- bit 3 by the first, by the second; the seam and what had no angle start at 0; the numbers of bit 2 are skipped
+    ∷ joined (bentSquare 0 5) numberedSquare 0 (write (11 ∷ 0 ∷ 6 ∷ 0 ∷ 0 ∷ 0 ∷ 2 ∷ 0 ∷ 0 ∷ 0 ∷ 3 ∷ 0 ∷ 0 ∷ 0 ∷ 4 ∷ 0 ∷ 0 ∷ 0 ∷ 0 ∷ 0 ∷ 5 ∷ []))
+    ∷ joined numberedSquare (bentSquare 255 255) 1 (write (11 ∷ 0 ∷ 6 ∷ 0 ∷ 0 ∷ 0 ∷ 4 ∷ 0 ∷ 1 ∷ 0 ∷ 3 ∷ 0 ∷ 1 ∷ 0 ∷ 4 ∷ 0 ∷ 0 ∷ 255 ∷ 255 ∷ 0 ∷ 0 ∷ []))
+    -- "The first sheet's refusals come before the second's; then 9 also for the root side, 10 when more than 1,024 corners would result"
+    ∷ joined (sheet 5 ((0 — 2) ∷ (1 — 3) ∷ [])) [] 9 (refuse 7)
+    ∷ joined (sheet 3 []) (bentSquare 7 9) 2 (refuse 23)
+    ∷ joined (sheet 3 []) (bentSquare 7 8) 2 (refuse 9)
+    ∷ joined (sheet 3 []) (bentSquare 7 8) 1 (write (11 ∷ 0 ∷ 5 ∷ 0 ∷ 1 ∷ 0 ∷ 3 ∷ 0 ∷ 1 ∷ 0 ∷ 4 ∷ 7 ∷ 8 ∷ 0 ∷ 0 ∷ []))
+    ∷ joinedOf 1023 3 1021 0
+    ∷ joinedOf 1022 4 0 0
+    ∷ joinedOf 3 1023 0 0
+    ∷ joinedOf 1024 3 0 10
+    ∷ joinedOf 1022 5 0 10
+    ∷ joinedOf 3 1024 0 10
+    ∷ joinedOf 1024 1024 1023 9
     ∷ []
