@@ -5,6 +5,8 @@
 use crate::charts;
 #[cfg(feature = "draw")]
 use crate::drawings;
+#[cfg(feature = "join")]
+use crate::joins;
 #[allow(unused_imports)] // unused if charts alone are timed
 use crate::library;
 #[cfg(feature = "edits")]
@@ -247,6 +249,8 @@ pub fn all() -> Vec<Case> {
         }));
         cases.extend(sizes.map(|n| edit_case("turn a diagonal", n, edits(n, turn))));
     }
+    #[cfg(feature = "join")]
+    cases.extend(joins::all(sizes));
     #[cfg(feature = "run_edits")]
     cases.extend(sizes.map(|n| {
         case(

@@ -8,6 +8,8 @@ mod cases;
 mod charts;
 #[cfg(feature = "draw")]
 mod drawings;
+#[cfg(feature = "join")]
+mod joins;
 #[path = "../../tests/src/library.rs"]
 mod library;
 

@@ -1,9 +1,9 @@
 /*
  * Calls every function on the sheets that the arguments name, each sheet in a
  * thread with 128 KiB of stack: sets it in order, plans, draws, also on a label, reads
- * the chart back, asks it for the nearest bar, and edits it. The last line is `N passed,
- * M failed`; the exit status is 1 if any check failed. A stack that is too small ends
- * the program.
+ * the chart back, asks it for the nearest bar, edits it, and joins it and two halves.
+ * The last line is `N passed, M failed`; the exit status is 1 if any check failed. A
+ * stack that is too small ends the program.
  */
 #include "bend.h"
 
@@ -18,6 +18,7 @@ static size_t sheet_len;
 static uint8_t chart[20465];
 static uint8_t out[6144];
 static uint8_t back[6144];
+static uint8_t half[3 + 6 * 510];
 
 static unsigned number16(const uint8_t *at)
 {
@@ -42,6 +43,33 @@ static int take_off(unsigned n)
     return 0;
 }
 
+/* Makes the sheet of a part of 513 corners, its diagonals at corner 0, listed from the last on, with angles. */
+static void make_half(void)
+{
+    uint8_t *angle = half + 3 + 4 * 510;
+    half[0] = 11;
+    half[1] = 513 / 256;
+    half[2] = 513 % 256;
+    for (unsigned i = 0; i < 510; i++) {
+        half[3 + 4 * i] = (uint8_t)((511 - i) / 256);
+        half[4 + 4 * i] = (uint8_t)(511 - i);
+        angle[2 * i] = (uint8_t)(i / 256);
+        angle[2 * i + 1] = (uint8_t)i;
+    }
+}
+
+/* Whether the sheet and a triangle are joined either way round, unless there are too many corners, and two halves to the longest sheet that is written. */
+static int join_all(unsigned n)
+{
+    static const uint8_t triangle[3] = {1, 0, 3};
+    unsigned due = n == 1024 ? 10 : 0;
+    int holds = bend_number(bend_join(sheet, sheet_len, triangle, sizeof triangle, n / 2, out, sizeof out)) == due;
+    holds = holds && bend_number(bend_join(triangle, sizeof triangle, sheet, sheet_len, 1, out, sizeof out)) == due;
+    make_half();
+    uint64_t joined = bend_join(half, sizeof half, half, sizeof half, 256, out, sizeof out);
+    return holds && bend_number(joined) == 0 && bend_length(joined) == 6129 && number16(out + 1) == 1024;
+}
+
 /* The sheet if every function does what it should, else nothing. */
 static void *call_all(void *unused)
 {
@@ -59,7 +87,7 @@ static void *call_all(void *unused)
     holds = holds && bend_number(bend_plan(sheet, sheet_len)) == 0;
     holds = holds && bend_number(bend_add_ear(sheet, sheet_len, 0, out, sizeof out)) == (n == 1024 ? 10 : 0);
     holds = holds && bend_number(bend_flip(sheet, sheet_len, a, b, out, sizeof out)) == 0;
-    holds = holds && take_off(n) && run_list(a, b);
+    holds = holds && take_off(n) && run_list(a, b) && join_all(n);
     return holds ? sheet : NULL;
 }
 

@@ -1,6 +1,7 @@
 //! Refusals and their numbers.
 //! Follows "Operations and their refusals" of document 01; by request (xi) "refusal
-//! 1 now covers bits 4 to 7", and there is refusal 23; by request (ii) there is 19.
+//! 1 now covers bits 4 to 7", and there is refusal 23; by request (ii) there is 19; by
+//! request (i) there are 9 and 10 of two joined parts.
 
 /// Why an operation refuses; the value is the number that it gives.
 #[derive(Clone, Copy, Debug, PartialEq, Eq, PartialOrd, Ord)]
@@ -23,10 +24,11 @@ pub enum Refusal {
     Crossing = 7,
     /// The output is shorter than the result.
     OutputShort = 8,
-    /// A number that an edit names is too high; of two cells that the nearest bar is
-    /// asked for, one lies outside the chart or they lie in no row or column.
+    /// A number that an edit names is too high; the side to join on is the root or none;
+    /// of two cells that the nearest bar is asked for, one lies outside the chart or
+    /// they lie in no row or column.
     OutOfRange = 9,
-    /// The part has 1,024 corners and can take no more.
+    /// The part has 1,024 corners and can take no more; two joined would have more.
     Full = 10,
     /// The part is a triangle and can lose no corner.
     Triangle = 11,

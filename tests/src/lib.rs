@@ -1,7 +1,7 @@
 //! A model of the operations on bend charts, written sentence by sentence from
-//! document 01 and from requests (ii), (iv), (v), (x), (xi) and (xii) of document 02,
-//! (iv) with chapter 6 of document 004. It shares nothing with the library that it is
-//! compared with.
+//! document 01 and from requests (i), (ii), (iv), (v), (x), (xi) and (xii) of document
+//! 02, (iv) with chapter 6 of document 004. It shares nothing with the library that it
+//! is compared with.
 //!
 //! Each module's header names the heading of document 01 that it follows, and the
 //! request where it rules instead.
@@ -18,6 +18,8 @@ pub mod edit;
 pub mod edit_list;
 pub mod fields;
 pub mod follow;
+pub mod join;
+pub mod join_parts;
 pub mod label;
 pub mod label_parts;
 pub mod line;

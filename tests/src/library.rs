@@ -29,6 +29,16 @@ extern "C" {
         out: *mut u8,
         out_len: usize,
     ) -> u64;
+    #[cfg(feature = "join")]
+    fn bend_join(
+        first: *const u8,
+        first_len: usize,
+        second: *const u8,
+        second_len: usize,
+        side: usize,
+        out: *mut u8,
+        out_len: usize,
+    ) -> u64;
     #[cfg(feature = "run_edits")]
     fn bend_run_edits(
         first: *const u8,
@@ -62,7 +72,7 @@ extern "C" {
 }
 
 // Each call below lends a whole slice with its own length, and an output never
-// overlaps another slice of the call: it is not shared.
+// overlaps another slice of the call: it is not shared. Inputs may overlap.
 
 #[cfg(feature = "normalize")]
 pub fn normalize(sheet: &[u8], out: &mut [u8]) -> u64 {
@@ -103,6 +113,21 @@ pub fn flip(sheet: &[u8], a: usize, b: usize, out: &mut [u8]) -> u64 {
             sheet.len(),
             a,
             b,
+            out.as_mut_ptr(),
+            out.len(),
+        )
+    }
+}
+
+#[cfg(feature = "join")]
+pub fn join(first: &[u8], second: &[u8], side: usize, out: &mut [u8]) -> u64 {
+    unsafe {
+        bend_join(
+            first.as_ptr(),
+            first.len(),
+            second.as_ptr(),
+            second.len(),
+            side,
             out.as_mut_ptr(),
             out.len(),
         )

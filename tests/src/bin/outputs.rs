@@ -1,12 +1,13 @@
 //! Writes what the library answers to the sheets of the folder that the argument
 //! names, and to the sheets of parts that the comparison plans and draws: a line for
 //! each call of Plan, Set in order, Draw, and Read a chart on the chart drawn; behind
-//! these, on charts drawn, for calls of the nearest bar; at the end for Draw on a label.
-//! (Draw with the bar list and the log line are no exports for C.)
+//! these, on charts drawn, for calls of the nearest bar; then for Draw on a label; at the
+//! end for Join. (Draw with the bar list and the log line are no exports for C.)
 //!
-//! A line has the sheet's digest, the operation, the number and the values of the
-//! answer and, if the operation writes, a digest of the lent bytes and of those round
-//! them. Every run writes the same lines, so that two libraries can be compared.
+//! A line has the sheet's digest (for Join that of both and the side), the operation, the
+//! number and the values of the answer and, if the operation writes, a digest of the lent
+//! bytes and of those round them. Every run writes the same lines, so that two libraries
+//! can be compared.
 
 // The comparison's own sheets; `Tests` below stands for its tests.
 #[allow(dead_code)]
@@ -29,7 +30,7 @@ use bend_tests::random::Random;
 use bend_tests::shapes::{all_parts, part, Shape, HUNG, SHAPES};
 use bend_tests::sheet::{normal, LONGEST};
 use checks::{guarded, inside, Outcome};
-use sheets::any_sheet;
+use sheets::{any_sheet, both_kinds, maybe_angled};
 use std::path::Path;
 use std::{env, fs, io};
 
@@ -167,6 +168,54 @@ fn labels(tests: &mut Tests) {
     });
 }
 
+/// The line of Join.
+fn join_line(first: &[u8], second: &[u8], side: u64, lent: usize) {
+    let name = digest(&[first, second, &side.to_be_bytes()].concat());
+    let call = |out: &mut [u8]| library::join(first, second, side as usize, out);
+    written(name, "join", lent, call);
+}
+
+/// Join, for small parts on every side and the root, and for parts of every shape of up
+/// to 1,024 corners together, and over: with an output that is long enough, and with
+/// none.
+fn joins(tests: &mut Tests) {
+    tests.test("joined", || {
+        let mut random = Random::new(107);
+        let small: Vec<Part> = (3..=5).flat_map(all_parts).collect();
+        for (first, second) in small.iter().flat_map(|a| small.iter().map(move |b| (a, b))) {
+            for side in 0..u64::from(first.n) {
+                for first in both_kinds(first, &mut random) {
+                    for second in both_kinds(second, &mut random) {
+                        let first = any_sheet(&first, &mut random);
+                        let second = any_sheet(&second, &mut random);
+                        join_line(&first, &second, side, LONGEST);
+                    }
+                }
+            }
+        }
+        for (n, m) in [
+            (20, 30),
+            (300, 5),
+            (7, 600),
+            (513, 513),
+            (1023, 3),
+            (1024, 3),
+        ] {
+            for (one, other) in SHAPES.iter().flat_map(|&a| SHAPES.map(|b| (a, b))) {
+                let first = maybe_angled(part(one, n, &mut random), &mut random);
+                let second = maybe_angled(part(other, m, &mut random), &mut random);
+                let first = any_sheet(&first, &mut random);
+                let second = any_sheet(&second, &mut random);
+                let side = random.below(usize::from(n)) as u64;
+                for lent in [LONGEST, 0] {
+                    join_line(&first, &second, side, lent);
+                }
+            }
+        }
+        Ok(())
+    });
+}
+
 fn main() -> io::Result<()> {
     let folder = env::args().nth(1).expect("a folder of sheets");
     let tests = &mut Tests;
@@ -187,5 +236,6 @@ fn main() -> io::Result<()> {
         Ok(())
     });
     labels(tests);
+    joins(tests);
     Ok(())
 }

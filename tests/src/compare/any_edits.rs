@@ -10,7 +10,7 @@ use bend_tests::random::Random;
 use bend_tests::sheet;
 
 /// Numbers that name no corner of any part; some do if high bits are lost.
-const HUGE: [u64; 12] = [
+pub const HUGE: [u64; 12] = [
     1024,
     1025,
     65_535,

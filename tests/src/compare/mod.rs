@@ -12,6 +12,18 @@ mod draw;
 mod edit_lists;
 #[cfg(feature = "edits")]
 mod edits;
+#[cfg(feature = "join")]
+mod join;
+#[cfg(all(feature = "join", feature = "edits"))]
+mod join_adding;
+#[cfg(feature = "join")]
+mod join_calls;
+#[cfg(feature = "join")]
+mod join_faults;
+#[cfg(feature = "join")]
+mod join_limits;
+#[cfg(feature = "join")]
+mod join_results;
 #[cfg(feature = "draw")]
 mod label;
 #[cfg(feature = "run_edits")]
@@ -70,6 +82,16 @@ pub fn run(tests: &mut Tests) {
     edits::run(tests);
     #[cfg(feature = "edits")]
     edit_lists::run(tests);
+    #[cfg(feature = "join")]
+    join::run(tests);
+    #[cfg(feature = "join")]
+    join_limits::run(tests);
+    #[cfg(feature = "join")]
+    join_faults::run(tests);
+    #[cfg(feature = "join")]
+    join_results::run(tests);
+    #[cfg(all(feature = "join", feature = "edits"))]
+    join_adding::run(tests);
     #[cfg(feature = "run_edits")]
     run_edits::run(tests);
     #[cfg(feature = "run_edits")]
