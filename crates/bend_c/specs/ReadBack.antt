@@ -8,7 +8,7 @@ use Rattle.codec.specs.Unpacked.{ReadsBack}
 use Rattle.sheet.specs.Sheet.{ordered}
 use Rattle.edit.specs.Rules.{addEar, removeEar, flip}
 use Rattle.edit.specs.Calls.{edited}
-use Rattle.seam.specs.Answer.{joinedSheets}
+use Rattle.seam.specs.Join.{joinedSheets}
 use Rattle.edit_list.specs.Result.{resultOf, RunReadsBack}
 use Rattle.plan.specs.Answer.{planned, PlanReadsBack}
 use Rattle.draw.specs.Answer.{drawn}

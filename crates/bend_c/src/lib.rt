@@ -9,7 +9,7 @@ ghost use Rattle.sheet.specs.Sheet.{ordered};
 ghost use Rattle.edit.specs.Rules.{addEar, removeEar, flip};
 ghost use Rattle.edit.specs.Calls.{edited};
 ghost use Rattle.edit.specs.Tables.{editOf};
-ghost use Rattle.seam.specs.Answer.{joinedSheets};
+ghost use Rattle.seam.specs.Join.{joinedSheets};
 ghost use Rattle.edit_list.specs.Result.{ranOf, resultOf, packedRun, Tellable};
 ghost use Rattle.draw.specs.Answer.{drawn};
 ghost use Rattle.draw.specs.Label.{labelled};

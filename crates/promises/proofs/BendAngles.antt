@@ -23,8 +23,7 @@ use Rattle.sheet.proofs.Valid.{read-valid}
 use Rattle.edit.specs.Rules.{Edit, rule}
 use Rattle.edit.specs.Calls.{onHeld, edited}
 use Rattle.edit.proofs.Theorems.{turn-angles, add-angles, off-angles, result-angled}
-use Rattle.seam.specs.Glue.{joinRule}
-use Rattle.seam.specs.Answer.{joinedSheets}
+use Rattle.seam.specs.Join.{joinRule, joinedSheets}
 use Rattle.seam.proofs.Theorems.{first-angles, second-angles, seam-angle, joined-angled}
 use Rattle.chart_reader.specs.Reader.{readChart, chartRead}
 use Rattle.chart_reader.proofs.Verdict.{by-reading}

@@ -7,7 +7,7 @@ use Rattle.polygon.specs.Polygon.{Polygon, Valid}
 use Rattle.codec.proofs.Answers.{only-short}
 use Rattle.sheet.specs.Sheet.{normalSheet, outcome, ordered}
 use Rattle.sheet.proofs.Valid.{read-valid}
-use Rattle.seam.specs.Glue.{glue}
+use Rattle.seam.specs.Join.{glue}
 use Rattle.seam.proofs.Theorems.{seam-of-both, seam-diagonal, glued-edges-are, glued-valid, glued-tree, seam-piece, glued-levels, glued-back, joined-triangle, first-refused, second-refused, by-9, by-10, joined-writes}
 use Rattle.promises.specs.JoinedAlongSeam.{JoinedPart, JoinedAlongSeam}
 use Rattle.promises.proofs.DemandTwo.{only-room, our-chart}

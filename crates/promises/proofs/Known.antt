@@ -14,8 +14,7 @@ use Rattle.sheet.specs.Sheet.{ask, pairs, angles, count?, more, readSheet, pair
 use Rattle.edit.specs.Rules.{up, down, both, entering, earAdded, neighbours, earRemoved, away?, result, side?, linked?, joined?, common, enter, flipped, rule}
 use Rattle.edit.specs.Calls.{onHeld, edited}
 use Rattle.edit.specs.Model.{numberGiven}
-use Rattle.seam.specs.Glue.{matched, gluedEdges, glue, joinRule}
-use Rattle.seam.specs.Answer.{joinedSheets}
+use Rattle.seam.specs.Join.{matched, gluedEdges, glue, joinRule, joinedSheets}
 use Rattle.umbrella.specs.Plan.{fold}
 use Rattle.umbrella.specs.Values.{ud}
 use Rattle.umbrella.specs.Tight.{tight}

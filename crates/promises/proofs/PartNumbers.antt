@@ -15,8 +15,7 @@ use Rattle.sheet.proofs.Skipped.{skips, same-reading, only-there}
 use Rattle.edit.specs.Rules.{rule}
 use Rattle.edit.specs.Model.{left, chosen, modelSheet}
 use Rattle.edit.specs.Calls.{onHeld, edited, Call, called, lent, sheetAfter, answers, sheetLeft}
-use Rattle.seam.specs.Glue.{joinRule}
-use Rattle.seam.specs.Answer.{joinedSheets}
+use Rattle.seam.specs.Join.{joinRule, joinedSheets}
 use Rattle.edit.proofs.List.{list-of-edits}
 use Rattle.log_line.specs.Line.{line}
 use Rattle.chart_reader.specs.Reader.{readChart, chartRead}

@@ -1,6 +1,6 @@
 -- Request (xi), "Bend angles on the sheet", sentence by sentence. A part's `angles` are `none`, or `each vs` with one for each of its diagonals, in their order (crate polygon, specs/Angles.antt).
 -- `carried es xs ds` are the angles of the pairs ds, if those of the pairs es are xs; `angleAt p d` is the angle of the diagonal d, 0 for what is none (specs/Carried.antt there).
--- A part that is joined of p and q on side i is `glue i p q` (crate seam, specs/Glue.antt). What the request says of cut halves is cutting's.
+-- A part that is joined of p and q on side i is `glue i p q` (crate seam, specs/Join.antt). What the request says of cut halves is cutting's.
 use mathlib.Core.Path.{_≡_}
 use mathlib.Core.Logic.{_⊎_, _↔_}
 use mathlib.Core.List.{List}
@@ -17,8 +17,7 @@ use Rattle.sheet.specs.Listing.{pairsOf}
 use Rattle.sheet.specs.Framed.{Paired}
 use Rattle.edit.specs.Rules.{Edit, addEar, removeEar, flip, up, down, both, entering, neighbours, rule}
 use Rattle.edit.specs.Calls.{edited}
-use Rattle.seam.specs.Glue.{laid, matched, seam, glue}
-use Rattle.seam.specs.Answer.{joinedSheets}
+use Rattle.seam.specs.Join.{laid, matched, seam, glue, joinedSheets}
 use Rattle.chart_reader.specs.Reader.{chartRead}
 use Rattle.promises.specs.SameDrawing.{SameDrawing}
 

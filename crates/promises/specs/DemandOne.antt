@@ -16,7 +16,7 @@ use Rattle.sheet.specs.Sheet.{held, readSheet, ordered}
 use Rattle.codec.specs.Refusals.{Proper, Finished, Refusal, Settled}
 use Rattle.edit.specs.Rules.{addEar, removeEar, flip}
 use Rattle.edit.specs.Calls.{edited}
-use Rattle.seam.specs.Answer.{joinedSheets}
+use Rattle.seam.specs.Join.{joinedSheets}
 use Rattle.edit_list.specs.Script.{scriptOf}
 use Rattle.edit_list.specs.Desk.{begin, numbersOf}
 use Rattle.edit_list.specs.Result.{Result, finished, resultOf}

@@ -1,5 +1,5 @@
 -- Request (i), "Joining along a seam", sentence by sentence. `joinedSheets s t i` is the operation on the first sheet s, the second sheet t and a side i, `glue i p q` the part that the parts p and q give; `laid` and `matched` are the
--- new numbers of the second's corners and of the first's (crate seam, specs/Answer.antt and specs/Glue.antt), `graft` is in specs/Graft.antt there. What the request says of the part number lapses (request (xii), `PartNumbersGo`); the angles of joined parts are request (xi)'s (`BendAngles`).
+-- new numbers of the second's corners and of the first's (crate seam, specs/Join.antt), `graft` is in specs/Graft.antt there. What the request says of the part number lapses (request (xii), `PartNumbersGo`); the angles of joined parts are request (xi)'s (`BendAngles`).
 use mathlib.Core.Path.{_≡_}
 use mathlib.Core.Logic.{_⊎_, _↔_}
 use mathlib.Core.List.{List}
@@ -12,8 +12,7 @@ use Rattle.codec.specs.Answer.{refuse, write, written, OnlyShort}
 use Rattle.sheet.specs.Sheet.{refused, held, readSheet, normalSheet, ordered}
 use Rattle.edit.specs.Rules.{addEar, both}
 use Rattle.edit.specs.Calls.{Call, edited}
-use Rattle.seam.specs.Glue.{laid, matched, seam, glue, Image}
-use Rattle.seam.specs.Answer.{joinedSheets}
+use Rattle.seam.specs.Join.{laid, matched, seam, glue, Image, joinedSheets}
 use Rattle.seam.specs.Graft.{graft}
 use Rattle.umbrella.specs.Plan.{levels}
 use Rattle.umbrella.specs.Best.{planOf}

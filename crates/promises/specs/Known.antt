@@ -14,8 +14,7 @@ use Rattle.sheet.specs.Sheet.{Reading, refused, held, readSheet, pairBytes, nor
 use Rattle.edit.specs.Rules.{Edit, addEar, removeEar, flip}
 use Rattle.edit.specs.Calls.{edited}
 use Rattle.edit.specs.Model.{numberGiven}
-use Rattle.seam.specs.Glue.{joinRule}
-use Rattle.seam.specs.Answer.{joinedSheets}
+use Rattle.seam.specs.Join.{joinRule, joinedSheets}
 use Rattle.umbrella.specs.Values.{values}
 use Rattle.umbrella.specs.Tight.{tightPart}
 use Rattle.plan.specs.Answer.{planned}

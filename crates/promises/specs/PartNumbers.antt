@@ -12,7 +12,7 @@ use Rattle.sheet.specs.Skipped.{pairsEnd, skipped, OnlyThere}
 use Rattle.edit.specs.Rules.{Edit}
 use Rattle.edit.specs.Model.{taken}
 use Rattle.edit.specs.Calls.{edited, Call, lent, answers, sheetLeft}
-use Rattle.seam.specs.Answer.{joinedSheets}
+use Rattle.seam.specs.Join.{joinedSheets}
 use Rattle.edit_list.specs.Result.{Result, resultOf, packedRun}
 use Rattle.log_line.specs.declared.Facts.{Facts}
 use Rattle.log_line.specs.Line.{line}

@@ -15,7 +15,7 @@ use Rattle.polygon.proofs.Angles.{OneEach, allowed-each, angle-all, angle-carri
 use Rattle.polygon.proofs.Sort.{distinct-of, sort-mem}
 use Rattle.sheet.specs.Sheet.{angled}
 use Rattle.edit.specs.Rules.{both}
-use Rattle.seam.specs.Glue.{laid, matched, seam, gluedEdges, zeros, gluedAngles, glue}
+use Rattle.seam.specs.Join.{laid, matched, seam, gluedEdges, zeros, gluedAngles, glue}
 use Rattle.seam.proofs.Corners.{firsts, seconds, matched-ascending, laid-ascending, seam-not-first, seam-not-second, halves-differ}
 
 -- where all angles are 0

@@ -18,8 +18,7 @@ use Rattle.sheet.proofs.Valid.{read-valid}
 use Rattle.edit.specs.Calls.{onHeld}
 use Rattle.edit.proofs.Rule.{ask-cases}
 use Rattle.edit.proofs.Refusals.{held-refuses, refused-among}
-use Rattle.seam.specs.Glue.{glue, joinRule}
-use Rattle.seam.specs.Answer.{joinedSheets, joinTests}
+use Rattle.seam.specs.Join.{glue, joinRule, joinedSheets, joinTests}
 use Rattle.seam.specs.Halves.{Joins}
 use Rattle.seam.proofs.Grafted.{glued-valid}
 

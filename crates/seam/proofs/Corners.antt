@@ -12,7 +12,7 @@ use Rattle.polygon.proofs.Order.{low-of, high-of}
 use Rattle.polygon.proofs.Sort.{distinct-of}
 use Rattle.edit.specs.Rules.{both}
 use Rattle.edit.proofs.Renumber.{BothEnds, renumbered-ascending}
-use Rattle.seam.specs.Glue.{laid, matched, seam, gluedEdges}
+use Rattle.seam.specs.Join.{laid, matched, seam, gluedEdges}
 
 module _ (m i x : ℕ) where
   pub matched-stays : x ≤ i → matched m i x ≡ x

@@ -11,7 +11,7 @@ use Rattle.polygon.specs.Polygon.{_—_, Polygon, Side, Linked}
 use Rattle.polygon.proofs.Order.{edge}
 use Rattle.polygon.proofs.Sort.{sort-mem, sort-sub}
 use Rattle.edit.specs.Rules.{both}
-use Rattle.seam.specs.Glue.{laid, matched, seam, gluedEdges, glue, Image}
+use Rattle.seam.specs.Join.{laid, matched, seam, gluedEdges, glue, Image}
 use Rattle.seam.proofs.Corners.{matched-stays, matched-moves, firsts}
 
 pub seam-of-both : (m i : ℕ) → 3 ≤ m → (both (matched m i) (i — suc i) ≡ seam m i) × (both (laid i) (0 — (m - 1)) ≡ seam m i)

@@ -9,7 +9,7 @@ use Rattle.polygon.specs.Tree.{Tree, leaf, node, span, chordsAt, chordsPast, ch
 use Rattle.polygon.proofs.Order.{edge}
 use Rattle.polygon.proofs.Chords.{span-pos, all-node, inner-chords, inner-left, inner-right, root-in}
 use Rattle.edit.specs.Rules.{both}
-use Rattle.seam.specs.Glue.{matched}
+use Rattle.seam.specs.Join.{matched}
 use Rattle.seam.specs.Graft.{graft}
 use Rattle.seam.proofs.Corners.{matched-stays, matched-moves}
 

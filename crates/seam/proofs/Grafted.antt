@@ -21,7 +21,7 @@ use Rattle.polygon.proofs.TreeOf.{grow-ok}
 use Rattle.polygon.proofs.TreeTheorem.{TreeIs, tree-of}
 use Rattle.polygon.proofs.PieceTheorem.{piece-chords}
 use Rattle.edit.specs.Rules.{both}
-use Rattle.seam.specs.Glue.{laid, matched, seam, gluedEdges, zeros, gluedAngles, glue}
+use Rattle.seam.specs.Join.{laid, matched, seam, gluedEdges, zeros, gluedAngles, glue}
 use Rattle.seam.specs.Graft.{graft}
 use Rattle.seam.proofs.Corners.{matched-moves, matched-mono, glued-distinct}
 use Rattle.seam.proofs.Graft.{graft-span, graft-piece, into-moved, into-graft}

@@ -23,7 +23,7 @@ use Rattle.edit.specs.declared.shift.Shift.the-variants.{Up, By}
 use Rattle.edit.specs.Rules.{both}
 use Rattle.edit.specs.Tables.{Movable, AllMovable, movedBend}
 use Rattle.edit.proofs.Shifting.{moved-edges}
-use Rattle.seam.specs.Glue.{laid, matched, seam, gluedEdges}
+use Rattle.seam.specs.Join.{laid, matched, seam, gluedEdges}
 use Rattle.seam.specs.Halves.{Joins, laidBends, gluedBends}
 use Rattle.seam.proofs.Corners.{laid-ascending, matched-ascending}
 

@@ -20,7 +20,7 @@ use Rattle.sheet.specs.Held.{anglesBy, partOf}
 use Rattle.edit.specs.declared.shift.Shift.the-variants.{Up, By}
 use Rattle.edit.specs.Tables.{movedBend}
 use Rattle.edit.proofs.Shifting.{moved-angles}
-use Rattle.seam.specs.Glue.{seam, zeros, gluedEdges, gluedAngles, glue}
+use Rattle.seam.specs.Join.{seam, zeros, gluedEdges, gluedAngles, glue}
 use Rattle.seam.specs.Halves.{Half, Joins, laidBends, gluedBends}
 use Rattle.seam.proofs.Corners.{glued-distinct}
 use Rattle.seam.proofs.Sewing.{glued-edges, sorted-edges}

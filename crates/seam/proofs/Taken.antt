@@ -15,7 +15,7 @@ use Rattle.sheet.specs.Sheet.{Reading, refused, held}
 use Rattle.sheet.specs.Held.{anglesBy, partOf, BentInHand, ReadsBent, KeysOf, gives}
 use Rattle.sheet.proofs.Asks.{ask-no, ask-yes}
 use Rattle.sheet.proofs.Hand.{flat-keys}
-use Rattle.seam.specs.Glue.{joinRule}
+use Rattle.seam.specs.Join.{joinRule}
 use Rattle.seam.specs.Halves.{Half, HalfSays, Joins, gluedBends}
 use Rattle.seam.proofs.Grafted.{glued-valid}
 use Rattle.seam.proofs.Answers.{join-gives}

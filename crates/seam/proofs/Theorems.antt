@@ -1,4 +1,4 @@
--- The theorems of this crate in one place. To be read with specs/Glue.antt (the part that joining gives), specs/Answer.antt (the operation) and specs/Graft.antt (its tree).
+-- The theorems of this crate in one place. To be read with specs/Join.antt (the part that joining gives, and the operation) and specs/Graft.antt (its tree).
 -- p is the first part, of n corners, q the second, of m, which is laid on side i of the first, i below n-1.
 use mathlib.Core.Path.{_≡_}
 use mathlib.Core.Logic.{_⊎_, _↔_}
@@ -18,8 +18,7 @@ use Rattle.umbrella.specs.Plan.{levels}
 use Rattle.umbrella.specs.Values.{ud}
 use Rattle.umbrella.specs.Best.{planOf}
 use Rattle.umbrella.proofs.Theorems.{computed-has}
-use Rattle.seam.specs.Glue.{laid, matched, seam, glue, Image, joinRule}
-use Rattle.seam.specs.Answer.{joinedSheets}
+use Rattle.seam.specs.Join.{laid, matched, seam, glue, Image, joinRule, joinedSheets}
 use Rattle.seam.specs.Graft.{graft}
 use Rattle.seam.proofs.Grown as grown
 use Rattle.seam.proofs.Grafted as grafted

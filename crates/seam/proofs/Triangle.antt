@@ -24,8 +24,7 @@ use Rattle.edit.specs.Calls.{onHeld, edited}
 use Rattle.edit.proofs.Rule.{given}
 use Rattle.edit.proofs.Result.{result-over}
 use Rattle.edit.proofs.Add.{add-triangulated}
-use Rattle.seam.specs.Glue.{matched, seam, gluedEdges, gluedAngles, glue, joinRule}
-use Rattle.seam.specs.Answer.{joinedSheets}
+use Rattle.seam.specs.Join.{matched, seam, gluedEdges, gluedAngles, glue, joinRule, joinedSheets}
 use Rattle.seam.proofs.Corners.{glued-distinct}
 use Rattle.seam.proofs.Angles.{angle-zero}
 

@@ -12,7 +12,7 @@ use Rattle.sheet.specs.declared.Read.the-variants.{Refused, Held}
 use Rattle.sheet.specs.Held.{BentInHand}
 use Rattle.edit.specs.declared.shift.Shift.the-variants.{Up, By}
 use Rattle.edit.specs.Tables.{movedBend}
-use Rattle.seam.specs.Glue.{seam}
+use Rattle.seam.specs.Join.{seam}
 
 -- a part in hand whose bends have the angle 0 if it has no angles
 pub record Half (h : Head) (bs : List ℕ) : Type 0 where

@@ -6,7 +6,7 @@ ghost use lib.ListN.{length, take};
 ghost use Rattle.keys.specs.Sort.{sortKeys};
 ghost use Rattle.sheet.specs.Sheet.{readSheet};
 ghost use Rattle.sheet.specs.Held.{partOf, BentInHand, ReadsBent};
-ghost use Rattle.seam.specs.Glue.{joinRule};
+ghost use Rattle.seam.specs.Join.{joinRule};
 ghost use Rattle.seam.specs.Halves.{Half, HalfSays, Joins, laidBends, gluedBends};
 use edit::shift::Shift;
 use edit::shift::renumber;

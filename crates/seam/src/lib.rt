@@ -1,12 +1,11 @@
 // Joining two parts along a seam: the second part's root edge is laid on a side of the first.
-// specs/Glue.antt says what part that gives, specs/Answer.antt the operation; proofs/Theorems.antt is the place to start reading. halves.rt joins two parts that were read.
+// specs/Join.antt says what part that gives, and what the operation answers; proofs/Theorems.antt is the place to start reading. halves.rt joins two parts that were read.
 ghost use mathlib.Core.Path.{_≡_};
 ghost use Rattle.codec.specs.Answer.{answered, written};
 ghost use Rattle.sheet.specs.Sheet.{readSheet, outcome};
 ghost use Rattle.sheet.specs.Held.{partOf};
 ghost use Rattle.edit.specs.Calls.{onHeld};
-ghost use Rattle.seam.specs.Glue.{joinRule};
-ghost use Rattle.seam.specs.Answer.{joinedSheets};
+ghost use Rattle.seam.specs.Join.{joinRule, joinedSheets};
 ghost use Rattle.seam.specs.Halves.{Half};
 use crate::halves::glue;
 use crate::halves::read_half;

@@ -8,8 +8,7 @@ use Rattle.codec.specs.Answer.{Answer, written}
 use Rattle.sheet.specs.Sheet.{Reading, readSheet, outcome}
 use Rattle.sheet.proofs.Hand.{read-is}
 use Rattle.edit.specs.Calls.{onHeld}
-use Rattle.seam.specs.Glue.{joinRule}
-use Rattle.seam.specs.Answer.{joinedSheets}
+use Rattle.seam.specs.Join.{joinRule, joinedSheets}
 use Rattle.seam.proofs.Taken.{half-of}
 use Rattle.seam.proofs.join.Statement.{statement}
 use Rattle.seam.proofs.join.Tie as tie

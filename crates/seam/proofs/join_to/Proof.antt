@@ -7,7 +7,7 @@ use Rattle.sheet.specs.Sheet.{Reading, readSheet, outcome}
 use Rattle.sheet.specs.Held.{partOf, ReadsBent}
 use Rattle.sheet.proofs.Hand.{read-is, in-hand}
 use Rattle.edit.specs.Calls.{onHeld}
-use Rattle.seam.specs.Glue.{joinRule}
+use Rattle.seam.specs.Join.{joinRule}
 use Rattle.seam.proofs.Taken.{half-of}
 use Rattle.seam.proofs.join_to.Statement.{statement}
 use Rattle.seam.proofs.join_to.Tie as tie
