@@ -22,8 +22,16 @@ use Rattle.seam.specs.Join.{glue, joinRule, joinedSheets, joinTests}
 use Rattle.seam.specs.Halves.{Joins}
 use Rattle.seam.proofs.Grafted.{glued-valid}
 
--- what the rule asks, and what it gives then
+-- what the rule asks, what it refuses by else, and what it gives
 module _ (i : ℕ) (p q : Polygon) where
+  pub join-outside : ¬ (suc i < p .n) → joinRule i p q ≡ refused 9
+  unfolding joinRule
+  join-outside f = ask-no 9 _ _ f
+
+  pub join-many : suc i < p .n → ¬ (p .n + q .n - 2 ≤ 1024) → joinRule i p q ≡ refused 10
+  unfolding joinRule
+  join-many h f = ask-yes 9 _ _ h ∙ ask-no 10 _ _ f
+
   pub join-gives : Joins i (p .n) (q .n) → joinRule i p q ≡ held (glue i p q)
   unfolding joinRule
   join-gives (h, k) = ask-yes 9 _ _ h ∙ ask-yes 10 _ _ k
@@ -53,7 +61,9 @@ join-proper = all-cons {x = 9} (omega arith, omega arith) (all-cons {x = 10} (om
 module _ (s t : List ℕ) (i : ℕ) where
   pub joined-settled : (out : List ℕ) → Settled ((sheetTests ++ joinTests) ++ (8 ∷ [])) (joinedSheets s t i) out (written (joinedSheets s t i) out)
   unfolding joinedSheets
-  joined-settled out = settled _ out (all-append tests-proper join-proper) (outcome-refuses (held-refuses (sheet s) (λ p. held-refuses (sheet t) (λ q. refused-among (λ k m. mem-right sheetTests m) (join-refuses i p q)))))
+  joined-settled out =
+      settled _ out (all-append tests-proper join-proper)
+      (outcome-refuses (held-refuses (sheet s) (λ p. held-refuses (sheet t) (λ q. refused-among (λ k m. mem-right sheetTests m) (join-refuses i p q)))))
     where
       sheet : (x : List ℕ) → RefusedBy (sheetTests ++ joinTests) (readSheet x)
       sheet x = refused-among (λ k m. mem-left joinTests m) (read-refuses x)
@@ -87,12 +97,12 @@ module _ (s t : List ℕ) (i : ℕ) where
       ruled-by = rw (d, e)
 
       pub by-9 : ¬ (suc i < p .n) → joinedSheets s t i ≡ refuse 9
-      unfolding joinRule outcome
-      by-9 f = ruled-by ∙ ap outcome (ask-no 9 _ _ f)
+      unfolding outcome
+      by-9 f = ruled-by ∙ ap outcome (join-outside i p q f)
 
       pub by-10 : suc i < p .n → ¬ (p .n + q .n - 2 ≤ 1024) → joinedSheets s t i ≡ refuse 10
-      unfolding joinRule outcome
-      by-10 h f = ruled-by ∙ ap outcome (ask-yes 9 _ _ h ∙ ask-no 10 _ _ f)
+      unfolding outcome
+      by-10 h f = ruled-by ∙ ap outcome (join-many i p q h f)
 
       pub joined-writes : Joins i (p .n) (q .n) → joinedSheets s t i ≡ write (normalSheet (glue i p q))
       unfolding outcome

@@ -112,12 +112,15 @@ module _ {h g : Head} {bs cs : List ℕ} (P : BentInHand h bs) (Q : BentInHand g
       ap (λ (l : List ℕ). merge l (sortKeys B)) (sym (in-order A (rw first-edges (matched-ascending (g .n) i (P .valid .triangulated))))) ∙ merge-sorts A B
 
   -- the tables `moved` and `laid` begin with the renumbered bends, and `after` with all of them
-  pub glued-done : (moved laid after : List ℕ) → take (length first) moved ≡ map (movedBend (Up i (g .n - 2))) first → take (g .n - 2) laid ≡ sortKeys (laidBends i (g .n) (take (g .n - 3) cs))
-      → take (length (take (h .n - 3) moved) + length (take (g .n - 2) laid)) after ≡ merge (take (h .n - 3) moved) (take (g .n - 2) laid) → take (h .n + g .n - 5) after ≡ sortKeys glued
+  pub glued-done : (moved laid after : List ℕ) → take (length first) moved ≡ map (movedBend (Up i (g .n - 2))) first
+      → take (g .n - 2) laid ≡ sortKeys (laidBends i (g .n) (take (g .n - 3) cs))
+      → take (length (take (h .n - 3) moved) + length (take (g .n - 2) laid)) after ≡ merge (take (h .n - 3) moved) (take (g .n - 2) laid)
+      → take (h .n + g .n - 5) after ≡ sortKeys glued
   glued-done moved laid after R L I =
       let r : take (h .n - 3) moved ≡ map (movedBend (Up i (g .n - 2))) first = rw (bends-count P) at R in
       let a : length (take (h .n - 3) moved) ≡ h .n - 3 = ap length r ∙ (length-map first (movedBend (Up i (g .n - 2))) ∙ bends-count P) in
-      let b : length (take (g .n - 2) laid) ≡ g .n - 2 = ap length L ∙ (length-sort (laidBends i (g .n) (take (g .n - 3) cs)) ∙ omega (arith, length-map (take (g .n - 3) cs) (movedBend (By i)), bends-count Q, Q .valid .least)) in
+      let c : length (laidBends i (g .n) (take (g .n - 3) cs)) ≡ g .n - 2 = omega (arith, length-map (take (g .n - 3) cs) (movedBend (By i)), bends-count Q, Q .valid .least) in
+      let b : length (take (g .n - 2) laid) ≡ g .n - 2 = ap length L ∙ (length-sort (laidBends i (g .n) (take (g .n - 3) cs)) ∙ c) in
       let k : length (take (h .n - 3) moved) + length (take (g .n - 2) laid) ≡ h .n + g .n - 5 = omega (arith, a, b, P .valid .least, Q .valid .least) in
       rw (k, r, L) at I ∙ glued-in-order
 

@@ -1,8 +1,8 @@
--- A half as it is read, when joining is refused, and the part in hand that it gives.
+-- A half as it is read, and the part in hand that joining gives.
 use mathlib.Core.Path.{_≡_, ap, sym, _∙_}
 use mathlib.Core.Bool.{Bool, true, false, _||_, false≢true}
 use mathlib.Core.List.{List, map}
-use Prim.Native.Nat.{ℕ, suc, _+_, _-_, _≤_, _<_}
+use Prim.Native.Nat.{ℕ, _+_, _-_, _≤_}
 use native.Mathlib.Omega.{arith}
 use lib.ListN.{length, take}
 use Rattle.lists.proofs.Lists.{all-map, all-of}
@@ -11,9 +11,8 @@ use Rattle.keys.specs.Sort.{sortKeys}
 use Rattle.sheet.specs.declared.Head.{Head}
 use Rattle.sheet.specs.declared.Read.{Read}
 use Rattle.sheet.specs.declared.Read.the-variants.{Held}
-use Rattle.sheet.specs.Sheet.{Reading, refused, held}
+use Rattle.sheet.specs.Sheet.{Reading, held}
 use Rattle.sheet.specs.Held.{anglesBy, partOf, BentInHand, ReadsBent, KeysOf, gives}
-use Rattle.sheet.proofs.Asks.{ask-no, ask-yes}
 use Rattle.sheet.proofs.Hand.{flat-keys}
 use Rattle.seam.specs.Join.{joinRule}
 use Rattle.seam.specs.Halves.{Half, HalfSays, Joins, gluedBends}
@@ -43,20 +42,15 @@ module _ {h : Head} {bs ks : List ℕ} (K : KeysOf h bs ks) (plain : h .angled �
     flat = λ f. rw flat (all-map flatBend (all-of (take (h .n - 3) ks) (λ k m. omega arith)));
   }
 
--- what is read is one
+-- in the case x of what is read
+pub read-as : {q : Reading} {r x : Read} {bs : List ℕ} → ReadsBent q r bs → r ≡ x → ReadsBent q x bs
+read-as R e = rw e at R
+
 pub half-of : {r : Read} {h : Head} {bs : List ℕ} → HalfSays r bs → r ≡ Held h → Half h bs
 half-of H e = rw e at H
 
 -- Two halves, the second on side i.
 module _ {h g : Head} {bs cs : List ℕ} (P : Half h bs) (Q : Half g cs) (i : ℕ) where
-  pub join-outside : ¬ (suc i < h .n) → joinRule i (partOf h bs) (partOf g cs) ≡ refused 9
-  unfolding joinRule
-  join-outside f = ask-no 9 _ _ f
-
-  pub join-many : suc i < h .n → ¬ (h .n + g .n - 2 ≤ 1024) → joinRule i (partOf h bs) (partOf g cs) ≡ refused 10
-  unfolding joinRule
-  join-many h f = ask-yes 9 _ _ h ∙ ask-no 10 _ _ f
-
   -- the table `after` begins with the bends of both, in order
   pub join-taken : Joins i (h .n) (g .n) → {a : Bool} → a ≡ (h .angled || g .angled) → (after : List ℕ)
       → take (h .n + g .n - 5) after ≡ sortKeys (gluedBends i (g .n) (take (h .n - 3) bs) (take (g .n - 3) cs)) → 1021 ≤ length after

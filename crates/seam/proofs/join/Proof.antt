@@ -29,9 +29,11 @@ returns c =
 returns-2 : tie.Need-returns-2
 unfolding joinedSheets onHeld
 returns-2 c =
-    let start = c .before .before .before .before .before .before .before .before .before .before .before .before .before .before in
+    let at-h = c .before .before .before .before .before .before in
+    let at-read = at-h .before .before .before in
+    let start = at-read .before .before .before .before .before in
     c .before .before .join-to .ensures
-    ∙ read-is (answer (start .args .second .now) (start .args .side) (start .args .out .now)) (c .before .before .before .before .before .before .before .before .before .read-half .ensures .0) (c .before .before .before .before .before .before .h .given .1)
+    ∙ read-is (answer (start .args .second .now) (start .args .side) (start .args .out .now)) (at-read .read-half .ensures .0) (at-h .h .given .1)
 
 pub join-spec : {M : Type 1} → statement M
 join-spec = tie.close

@@ -2,15 +2,16 @@
 use borrow.Author.Needs.{needs}
 use native.Mathlib.Omega.{arith}
 use Rattle.sheet.specs.Held.{refuses}
-use Rattle.seam.proofs.Taken.{join-outside, join-many, join-taken}
+use Rattle.seam.proofs.Answers.{join-outside, join-many}
+use Rattle.seam.proofs.Taken.{join-taken}
 use Rattle.seam.proofs.halves.glue.Statement.{statement}
 use Rattle.seam.proofs.halves.glue.Tie as tie
 
 returns : tie.Need-returns
-returns c = let start = c .before .before .before .before in refuses (join-outside (start .pre .0 .0) (start .pre .0 .1) (start .args .side) (omega (arith, start .pre .0 .0 .part .valid .least)))
+returns c = let start = c .before .before .before .before in refuses (join-outside (start .args .side) _ _ (omega (arith, start .pre .0 .0 .part .valid .least)))
 
 returns-2 : tie.Need-returns-2
-returns-2 c = let start = c .before .before .before .before .before in refuses (join-many (start .pre .0 .0) (start .pre .0 .1) (start .args .side) (omega arith) (omega arith))
+returns-2 c = let start = c .before .before .before .before .before in refuses (join-many (start .args .side) _ _ (omega arith) (omega arith))
 
 returns-3 : tie.Need-returns-3
 returns-3 c =

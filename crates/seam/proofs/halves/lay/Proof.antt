@@ -10,28 +10,36 @@ use Rattle.seam.proofs.Sewing.{second-movable, laid-done}
 use Rattle.seam.proofs.halves.lay.Statement.{statement}
 use Rattle.seam.proofs.halves.lay.Tie as tie
 
+-- where the function began
+abbrev start : tie.After-renumber → tie.Start
+start c = c .before .before .before .before .before
+
 -- the table of the renumbered bends
-laid-count : (c : tie.After-renumber) → length (take (c .before .before .before .before .before .args .g .n - 3) (c .renumber .last .1 .1 .0)) ≡ c .before .before .before .before .before .args .g .n - 3
-laid-count c = length-take-le _ (c .renumber .last .1 .1 .0) (omega (arith, c .renumber .kept .1 .1 .0, c .before .before .before .before .before .pre .0 .valid .most))
+laid-count : (c : tie.After-renumber) → length (take (start c .args .g .n - 3) (c .renumber .last .1 .1 .0)) ≡ start c .args .g .n - 3
+laid-count c = length-take-le _ (c .renumber .last .1 .1 .0) (omega (arith, c .renumber .kept .1 .1 .0, start c .pre .0 .valid .most))
 
 slice-aggregate-renumber : tie.Need-slice-aggregate-renumber
 slice-aggregate-renumber c = sym (bends-count (c .before .before .before .pre .0))
 
 renumber-requires : tie.Need-renumber-requires
-renumber-requires c κs = (omega (arith, bends-count (c .before .before .before .before .pre .0), c .before .before .before .before .pre .0 .valid .most), second-movable (c .before .before .before .before .pre .0) (c .before .before .before .before .args .side) (c .before .before .before .before .pre .1 .0))
+renumber-requires c κs =
+    let (Q, sizes) = c .before .before .before .before .pre in
+    (omega (arith, bends-count Q, Q .valid .most), second-movable Q (c .before .before .before .before .args .side) (sizes .0))
 
 slice-aggregate-merge-2 : tie.Need-slice-aggregate-merge-2
 slice-aggregate-merge-2 c = sym (laid-count (c .before .before .before .before .before))
 
 merge-requires : tie.Need-merge-requires
-merge-requires c κs = omega (arith, laid-count (c .before .before .before .before .before .before), c .before .before .before .before .before .before .before .before .before .before .before .pre .1)
+merge-requires c κs = let at-renumber = c .before .before .before .before .before .before in omega (arith, laid-count at-renumber, start at-renumber .pre .1)
 
 returns : tie.Need-returns
 returns c =
-    let at-renumber = c .before .before .before .before .before .before .before .before .before in
-    let start = c .before .before .before .before .before .before .before .before .before .before .before .before .before .before in
-    laid-done (start .pre .0) (start .args .side) (start .pre .1 .0) (at-renumber .renumber .last .1 .1 .0) (c .before .before .merge .last .1 .1 .0) (at-renumber .renumber .ensures)
-    (omega (arith, c .before .before .before .before .before .before .bend .ensures, c .before .before .before .before .before .before .before .key .ensures, start .pre .0 .valid .least)) (c .before .before .merge .ensures)
+    let at-merge = c .before .before in
+    let at-bend = at-merge .before .before .before .before in
+    let at-renumber = at-bend .before .before .before in
+    let (Q, sizes) = start at-renumber .pre in
+    laid-done Q (start at-renumber .args .side) (sizes .0) (at-renumber .renumber .last .1 .1 .0) (at-merge .merge .last .1 .1 .0) (at-renumber .renumber .ensures)
+    (omega (arith, at-bend .bend .ensures, at-bend .before .key .ensures, Q .valid .least)) (at-merge .merge .ensures)
 
 pub lay-spec : {M : Type 1} → statement M
 lay-spec = tie.close

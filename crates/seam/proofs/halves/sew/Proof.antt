@@ -10,34 +10,47 @@ use Rattle.seam.proofs.Sewing.{first-movable, glued-done}
 use Rattle.seam.proofs.halves.sew.Statement.{statement}
 use Rattle.seam.proofs.halves.sew.Tie as tie
 
--- the tables of the renumbered bends
-moved-count : (c : tie.After-renumber) → length (take (c .before .before .before .before .before .before .before .before .before .args .h .n - 3) (c .renumber .last .1 .1 .0)) ≡ c .before .before .before .before .before .before .before .before .before .args .h .n - 3
-moved-count c = length-take-le _ (c .renumber .last .1 .1 .0) (omega (arith, c .renumber .kept .1 .1 .0, c .before .before .before .before .before .before .before .before .before .pre .0 .0 .valid .most))
+-- where the second half was laid, and where the function began
+abbrev laid : tie.After-renumber → tie.After-lay
+laid c = c .before .before .before .before
 
-laid-count : (c : tie.After-lay) → length (take (c .before .before .before .before .before .args .g .n - 2) (c .lay .last .1 .1 .1 .0)) ≡ c .before .before .before .before .before .args .g .n - 2
-laid-count c = length-take-le _ (c .lay .last .1 .1 .1 .0) (omega (arith, c .lay .kept .1 .1 .1 .0, c .before .before .before .before .before .pre))
+abbrev start : tie.After-lay → tie.Start
+start c = c .before .before .before .before .before
+
+-- the tables of the renumbered bends
+moved-count : (c : tie.After-renumber) → length (take (start (laid c) .args .h .n - 3) (c .renumber .last .1 .1 .0)) ≡ start (laid c) .args .h .n - 3
+moved-count c = length-take-le _ (c .renumber .last .1 .1 .0) (omega (arith, c .renumber .kept .1 .1 .0, start (laid c) .pre .0 .0 .valid .most))
+
+laid-count : (c : tie.After-lay) → length (take (start c .args .g .n - 2) (c .lay .last .1 .1 .1 .0)) ≡ start c .args .g .n - 2
+laid-count c = length-take-le _ (c .lay .last .1 .1 .1 .0) (omega (arith, c .lay .kept .1 .1 .1 .0, start c .pre))
 
 slice-aggregate-renumber : tie.Need-slice-aggregate-renumber
-slice-aggregate-renumber c = sym (bends-count (c .before .before .before .before .before .before .before .pre .0 .0))
+slice-aggregate-renumber c = sym (bends-count (start (c .before .before) .pre .0 .0))
 
 renumber-requires : tie.Need-renumber-requires
 renumber-requires c κs =
-    let start = c .before .before .before .before .before .before .before .before in
-    (omega (arith, bends-count (start .pre .0 .0), start .pre .0 .0 .valid .most), first-movable (start .pre .0 .0) (start .pre .0 .1) (start .args .side) (start .pre .1 .0))
+    let (P, Q) = start (c .before .before .before) .pre .0 in
+    (omega (arith, bends-count P, P .valid .most), first-movable P Q (start (c .before .before .before) .args .side) (start (c .before .before .before) .pre .1 .0))
 
 slice-aggregate-merge : tie.Need-slice-aggregate-merge
 slice-aggregate-merge c = sym (moved-count (c .before .before))
 
 slice-aggregate-merge-2 : tie.Need-slice-aggregate-merge-2
-slice-aggregate-merge-2 c = sym (laid-count (c .before .before .before .before .before .before .before))
+slice-aggregate-merge-2 c = sym (laid-count (laid (c .before .before .before)))
 
 merge-requires : tie.Need-merge-requires
-merge-requires c κs = omega (arith, moved-count (c .before .before .before .before), laid-count (c .before .before .before .before .before .before .before .before), c .before .before .before .before .before .before .before .before .before .before .before .before .before .pre .1)
+merge-requires c κs =
+    let at-renumber = c .before .before .before .before in
+    omega (arith, moved-count at-renumber, laid-count (laid at-renumber), start (laid at-renumber) .pre .1)
 
 returns : tie.Need-returns
 returns c =
-    let start = c .before .before .before .before .before .before .before .before .before .before .before .before .before .before .before .before in
-    glued-done (start .pre .0 .0) (start .pre .0 .1) (start .args .side) (start .pre .1 .0) (c .before .before .before .before .before .before .before .renumber .last .1 .1 .0) (c .before .before .before .before .before .before .before .before .before .before .before .lay .last .1 .1 .1 .0) (c .before .before .merge .last .1 .1 .0) (c .before .before .before .before .before .before .before .renumber .ensures) (c .before .before .before .before .before .before .before .before .before .before .before .lay .ensures) (c .before .before .merge .ensures)
+    let at-merge = c .before .before in
+    let at-renumber = at-merge .before .before .before .before .before in
+    let at-lay = laid at-renumber in
+    let (P, Q) = start at-lay .pre .0 in
+    glued-done P Q (start at-lay .args .side) (start at-lay .pre .1 .0) (at-renumber .renumber .last .1 .1 .0) (at-lay .lay .last .1 .1 .1 .0) (at-merge .merge .last .1 .1 .0)
+    (at-renumber .renumber .ensures) (at-lay .lay .ensures) (at-merge .merge .ensures)
 
 pub sew-spec : {M : Type 1} → statement M
 sew-spec = tie.close
