@@ -12,7 +12,7 @@ use Rattle.lists.proofs.Places.{mapped-next}
 use Rattle.keys.specs.Keys.{keyOf, edgeOf, edgesOf, keyIn, keysIn, angleIn, anglesIn}
 use Rattle.keys.proofs.InOrder.{edge-of-key, edges-at}
 use Rattle.edit.specs.declared.shift.Shift.{Shift}
-use Rattle.edit.specs.declared.shift.Shift.the-variants.{Up, Down, By}
+use Rattle.edit.specs.declared.shift.Shift.the-variants.{Up, Down}
 use Rattle.edit.specs.Rules.{up, both}
 use Rattle.edit.specs.Tables.{moved, movedBend, Movable, AllMovable}
 
@@ -46,7 +46,6 @@ moved-low (Down at by) x (h, f) = go (decLt at x)
     go : (d : Dec (at < x)) → choose d (x - by) x < 1024
     go (yes l) = omega arith
     go (no l) = h
-moved-low (By by) x h = h
 
 pub moved-edges : (s : Shift) (bs : List ℕ) → AllMovable s bs → edgesOf (keysIn (map (movedBend s) bs)) ≡ map (both (moved s)) (edgesOf (keysIn bs))
 moved-edges s [] a = refl

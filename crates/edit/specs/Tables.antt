@@ -11,7 +11,7 @@ use Rattle.keys.specs.Keys.{keyOf, edgeOf, edgesOf, keyIn, keysIn}
 use Rattle.edit.specs.declared.held.Edit as code
 use Rattle.edit.specs.declared.held.Edit.the-variants.{AddEar, RemoveEar, Flip}
 use Rattle.edit.specs.declared.shift.Shift.{Shift}
-use Rattle.edit.specs.declared.shift.Shift.the-variants.{Up, Down, By}
+use Rattle.edit.specs.declared.shift.Shift.the-variants.{Up, Down}
 use Rattle.edit.specs.Rules.{Edit, addEar, removeEar, flip, both}
 
 -- the edit that the code's value stands for
@@ -24,12 +24,10 @@ editOf (Flip a b) = flip a b
 abbrev pub moved : Shift → ℕ → ℕ
 moved (Up at by) x = choose (decLt at x) (x + by) x
 moved (Down at by) x = choose (decLt at x) (x - by) x
-moved (By by) x = by + x
 
 abbrev pub Movable : Shift → ℕ → Type 0
 Movable (Up at by) x = (x < 1024) × (at < x → x + by < 1024)
 Movable (Down at by) x = (x < 1024) × (at < x → by ≤ x)
-Movable (By by) x = by + x < 1024
 
 -- the corners of the bends can be renumbered
 abbrev pub AllMovable : Shift → List ℕ → Type 0

@@ -1,4 +1,4 @@
-// Renumbering the corners of a table of bends: those above a corner go up or down, or all go up, and each bend keeps its angle.
+// Renumbering the corners of a table of bends: those above a corner go up or down, and each bend keeps its angle.
 ghost use mathlib.Core.Path.{_≡_};
 ghost use mathlib.Core.List.{map};
 ghost use Prim.Native.Nat.{_<_, _≤_};
@@ -11,11 +11,10 @@ use keys::high;
 use keys::key;
 use keys::low;
 
-// The corners above `at` go up, or down, by so many: Up(at, by), Down(at, by). All go up by so many: By(by).
+// The corners above `at` go up, or down, by so many: Up(at, by), Down(at, by).
 pub enum Shift {
     Up(usize, usize),
     Down(usize, usize),
-    By(usize),
 }
 
 // A corner renumbered.
@@ -26,7 +25,6 @@ fn moved(shift: Shift, x: usize) -> usize
     match shift {
         Shift::Up(at, by) => { if x > at { x + by } else { x } }
         Shift::Down(at, by) => { if x > at { x - by } else { x } }
-        Shift::By(by) => by + x,
     }
 }
 

@@ -5,6 +5,7 @@ pub mod Grown
 pub mod Edges
 pub mod Angles
 pub mod Triangle
+pub mod Raising
 pub mod Sewing
 pub mod Sewn
 pub mod Taken

@@ -19,13 +19,14 @@ use Rattle.keys.proofs.Beside.{bendEdge, bendEdges, mem-edge}
 use Rattle.sheet.specs.declared.Head.{Head}
 use Rattle.sheet.specs.Held.{partOf, BentInHand}
 use Rattle.sheet.proofs.Hand.{bends-count}
-use Rattle.edit.specs.declared.shift.Shift.the-variants.{Up, By}
+use Rattle.edit.specs.declared.shift.Shift.the-variants.{Up}
 use Rattle.edit.specs.Rules.{both}
 use Rattle.edit.specs.Tables.{Movable, AllMovable, movedBend}
 use Rattle.edit.proofs.Shifting.{moved-edges}
 use Rattle.seam.specs.Join.{laid, matched, seam, gluedEdges}
-use Rattle.seam.specs.Halves.{Joins, laidBends, gluedBends}
+use Rattle.seam.specs.Halves.{Joins, raisedBend, Raisable, laidBends, gluedBends}
 use Rattle.seam.proofs.Corners.{laid-ascending, matched-ascending}
+use Rattle.seam.proofs.Raising.{raised-edges}
 
 -- bends whose diagonals ascend are in order
 bends-ascend : (bs : List ℕ) → ascends (keysIn bs) ≡ true → ascends bs ≡ true
@@ -54,26 +55,26 @@ module _ {g : Head} {cs : List ℕ} (Q : BentInHand g cs) (i : ℕ) (small : i +
   abbrev second : List ℕ
   second = take (g .n - 3) cs
 
-  pub second-movable : AllMovable (By i) second
-  second-movable = all-imp (λ e d. (omega (arith, d .forth, d .corner), omega (arith, d .corner))) (Q .valid .triangulated .diagonals)
+  pub second-raisable : Raisable i second
+  second-raisable = all-imp (λ e d. (omega (arith, d .forth, d .corner), omega (arith, d .corner))) (Q .valid .triangulated .diagonals)
 
-  second-edges : bendEdges (map (movedBend (By i)) second) ≡ map (both (laid i)) (bendEdges second)
-  second-edges = moved-edges (By i) second second-movable
+  second-edges : bendEdges (map (raisedBend i) second) ≡ map (both (laid i)) (bendEdges second)
+  second-edges = raised-edges i second second-raisable
 
   -- the seam's bend merged in
-  laid-in-order : merge (flatBend (keyOf (seam (g .n) i)) ∷ []) (map (movedBend (By i)) second) ≡ sortKeys (laidBends i (g .n) second)
+  laid-in-order : merge (flatBend (keyOf (seam (g .n) i)) ∷ []) (map (raisedBend i) second) ≡ sortKeys (laidBends i (g .n) second)
   unfolding sortKeys
   laid-in-order =
-      let L : List ℕ = map (movedBend (By i)) second in
+      let L : List ℕ = map (raisedBend i) second in
       let s : ℕ = flatBend (keyOf (seam (g .n) i)) in
       merge-one s L ∙ ap (insertKey s) (sym (in-order L (rw second-edges (laid-ascending i (Q .valid .triangulated)))))
 
   -- the table `moved` begins with the renumbered bends, and `after` with them and the seam's, b
-  pub laid-done : (moved after : List ℕ) {b : ℕ} → take (length second) moved ≡ map (movedBend (By i)) second → b ≡ flatBend (keyOf (seam (g .n) i))
+  pub laid-done : (moved after : List ℕ) {b : ℕ} → take (length second) moved ≡ map (raisedBend i) second → b ≡ flatBend (keyOf (seam (g .n) i))
       → take (1 + length (take (g .n - 3) moved)) after ≡ merge (b ∷ []) (take (g .n - 3) moved) → take (g .n - 2) after ≡ sortKeys (laidBends i (g .n) second)
   laid-done moved after {b} R e I =
-      let r : take (g .n - 3) moved ≡ map (movedBend (By i)) second = rw (bends-count Q) at R in
-      let k : 1 + length (take (g .n - 3) moved) ≡ g .n - 2 = omega (arith, ap length r, length-map second (movedBend (By i)), bends-count Q, Q .valid .least) in
+      let r : take (g .n - 3) moved ≡ map (raisedBend i) second = rw (bends-count Q) at R in
+      let k : 1 + length (take (g .n - 3) moved) ≡ g .n - 2 = omega (arith, ap length r, length-map second (raisedBend i), bends-count Q, Q .valid .least) in
       rw (k, r, e) at I ∙ laid-in-order
 
   seam-edge : bendEdge (flatBend (keyOf (seam (g .n) i))) ≡ seam (g .n) i
@@ -119,7 +120,7 @@ module _ {h g : Head} {bs cs : List ℕ} (P : BentInHand h bs) (Q : BentInHand g
   glued-done moved laid after R L I =
       let r : take (h .n - 3) moved ≡ map (movedBend (Up i (g .n - 2))) first = rw (bends-count P) at R in
       let a : length (take (h .n - 3) moved) ≡ h .n - 3 = ap length r ∙ (length-map first (movedBend (Up i (g .n - 2))) ∙ bends-count P) in
-      let c : length (laidBends i (g .n) (take (g .n - 3) cs)) ≡ g .n - 2 = omega (arith, length-map (take (g .n - 3) cs) (movedBend (By i)), bends-count Q, Q .valid .least) in
+      let c : length (laidBends i (g .n) (take (g .n - 3) cs)) ≡ g .n - 2 = omega (arith, length-map (take (g .n - 3) cs) (raisedBend i), bends-count Q, Q .valid .least) in
       let b : length (take (g .n - 2) laid) ≡ g .n - 2 = ap length L ∙ (length-sort (laidBends i (g .n) (take (g .n - 3) cs)) ∙ c) in
       let k : length (take (h .n - 3) moved) + length (take (g .n - 2) laid) ≡ h .n + g .n - 5 = omega (arith, a, b, P .valid .least, Q .valid .least) in
       rw (k, r, L) at I ∙ glued-in-order

@@ -17,12 +17,13 @@ use Rattle.keys.proofs.Insert.{all-sort}
 use Rattle.keys.proofs.Beside.{bendEdges, carry}
 use Rattle.sheet.specs.declared.Head.{Head}
 use Rattle.sheet.specs.Held.{anglesBy, partOf}
-use Rattle.edit.specs.declared.shift.Shift.the-variants.{Up, By}
+use Rattle.edit.specs.declared.shift.Shift.the-variants.{Up}
 use Rattle.edit.specs.Tables.{movedBend}
 use Rattle.edit.proofs.Shifting.{moved-angles}
 use Rattle.seam.specs.Join.{seam, zeros, gluedEdges, gluedAngles, glue}
 use Rattle.seam.specs.Halves.{Half, Joins, laidBends, gluedBends}
 use Rattle.seam.proofs.Corners.{glued-distinct}
+use Rattle.seam.proofs.Raising.{raised-angles}
 use Rattle.seam.proofs.Sewing.{glued-edges, sorted-edges}
 
 -- bends with the angle 0
@@ -35,7 +36,7 @@ module _ (i m : ℕ) (bs cs : List ℕ) where
   angles-glued : anglesIn (gluedBends i m bs cs) ≡ anglesIn bs ++ (0 ∷ anglesIn cs)
   angles-glued =
       let flat : angleIn (flatBend (keyOf (seam m i))) ≡ 0 = omega arith in
-      map-append angleIn (map (movedBend (Up i (m - 2))) bs) (laidBends i m cs) ∙ ap₂ _++_ (moved-angles (Up i (m - 2)) bs) (ap₂ _∷_ flat (moved-angles (By i) cs))
+      map-append angleIn (map (movedBend (Up i (m - 2))) bs) (laidBends i m cs) ∙ ap₂ _++_ (moved-angles (Up i (m - 2)) bs) (ap₂ _∷_ flat (raised-angles i cs))
 
   angles-by : (a b : Bool) → (a ≡ false → All (λ x. angleIn x ≡ 0) bs) → (b ≡ false → All (λ x. angleIn x ≡ 0) cs)
       → anglesBy (a || b) (gluedBends i m bs cs) ≡ gluedAngles (bendEdges bs) (anglesBy a bs) (bendEdges cs) (anglesBy b cs)

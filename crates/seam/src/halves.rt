@@ -1,13 +1,14 @@
 // The two halves of a joined part in hand: reading one, and joining both in a third table.
 ghost use mathlib.Core.Path.{_≡_};
 ghost use mathlib.Core.Bool.{_||_};
-ghost use Prim.Native.Nat.{_+_, _-_, _≤_};
+ghost use mathlib.Core.List.{map};
+ghost use Prim.Native.Nat.{_+_, _-_, _<_, _≤_};
 ghost use lib.ListN.{length, take};
 ghost use Rattle.keys.specs.Sort.{sortKeys};
 ghost use Rattle.sheet.specs.Sheet.{readSheet};
 ghost use Rattle.sheet.specs.Held.{partOf, BentInHand, ReadsBent};
 ghost use Rattle.seam.specs.Join.{joinRule};
-ghost use Rattle.seam.specs.Halves.{Half, HalfSays, Joins, laidBends, gluedBends};
+ghost use Rattle.seam.specs.Halves.{Half, HalfSays, Joins, raisedBend, Raisable, laidBends, gluedBends};
 use edit::shift::Shift;
 use edit::shift::renumber;
 use keys::CORNERS;
@@ -20,6 +21,9 @@ use sheet::Head;
 use sheet::Read;
 use sheet::reader::read_sheet;
 use sheet::writer::flat_bends;
+
+// What a bend grows by when both its corners go up by one: 1,025 in its key.
+const FURTHER: u32 = 4198400;
 
 // Reads a sheet. If its part has no angles, each bend gets the angle 0: the other half may have some.
 pub fn read_half(sheet: &[u8], bends: &mut [u32]) -> Read
@@ -41,6 +45,19 @@ pub fn read_half(sheet: &[u8], bends: &mut [u32]) -> Read
     }
 }
 
+// Puts the bends with both corners so many further on at the front of `out`; their angles stay.
+fn raise(bends: &[u32], by: usize, out: &mut [u32])
+    requires { ⌜ (length (now bends) ≤ length (now out)) × (by < 1024) × Raisable by (now bends) ⌝ }
+    ensures { λ _. ⌜ take (length (now (bends .entry))) (now (out .exit)) ≡ map (raisedBend by) (now (bends .entry)) ⌝ }
+{
+    let step = by as u32 * FURTHER;
+    let mut j: usize = 0;
+    while j < bends.len() {
+        out[j] = bends[j] + step;
+        j += 1;
+    }
+}
+
 // The bends of the second half under their new numbers, and the seam's, in order at the front of `out`.
 fn lay(g: Head, second: &[u32], side: usize, out: &mut [u32])
     requires part { ⌜ BentInHand g (now second) ⌝ }
@@ -49,7 +66,7 @@ fn lay(g: Head, second: &[u32], side: usize, out: &mut [u32])
 {
     let m = g.n;
     let mut laid = [0u32; DIAGONALS];
-    renumber(&second[..m - 3], Shift::By(side), &mut laid);
+    raise(&second[..m - 3], side, &mut laid);
     let seam = [bend(key(side, side + m - 1), FLAT)];
     merge(&seam, &laid[..m - 3], out);
 }
