@@ -38,6 +38,10 @@ unfolding outcome
 wrote (refused k) t e f = absurd (let z : _≡_ {A = ℕ} 0 1 = cc in omega arith)
 wrote (held p) t e f = f p refl cc
 
+-- a refusal writes nothing
+none-written : {A : Type 0} (k : ℕ) (t : List ℕ) → outcome (refused k) ≡ write t → A
+none-written k t x = wrote (refused k) t x (λ p r n. let z : _≡_ {A = ℕ} 0 1 = cc in absurd (omega arith))
+
 wrote-bit : (p : Polygon) (t : List ℕ) → normalSheet p ≡ t → bit3 (getD t 0 0) ≡ angled (p .angles)
 wrote-bit p t n = sym (ap (λ (x : List ℕ). bit3 (getD x 0 0)) n) ∙ normal-bit p
 
@@ -50,7 +54,7 @@ unfolding edited onHeld
 edit-bit e s t w = go (readSheet s) refl w
   where
     go : (r : Reading) → readSheet s ≡ r → outcome (onHeld r (rule e)) ≡ write t → Bit3 t ↔ (Bit3 s × (3 < get16 t 1))
-    go (refused k) d x = wrote (refused k) t x (λ p r n. let z : _≡_ {A = ℕ} 0 1 = cc in absurd (omega arith))
+    go (refused k) d x = none-written k t x
     go (held p) d x = wrote (rule e p) t x (λ q r n.
         let A = result-angled e p q r in
         let b = wrote-bit q t n in
@@ -62,12 +66,9 @@ join-bit : (s t u : List ℕ) (i : ℕ) → joinedSheets s t i ≡ write u → (
 unfolding joinedSheets onHeld
 join-bit s t u i w = go (readSheet s) refl (readSheet t) refl w
   where
-    none-held : {A : Type 0} (k : ℕ) → outcome (refused k) ≡ write u → A
-    none-held k x = wrote (refused k) u x (λ p r n. let z : _≡_ {A = ℕ} 0 1 = cc in absurd (omega arith))
-
     go : (x : Reading) → readSheet s ≡ x → (y : Reading) → readSheet t ≡ y → outcome (onHeld x (λ p. onHeld y (joinRule i p))) ≡ write u → (Bit3 u ↔ (Bit3 s ⊎ Bit3 t)) × (3 < get16 u 1)
-    go (refused k) d y e x = none-held k x
-    go (held p) d (refused k) e x = none-held k x
+    go (refused k) d y e x = none-written k u x
+    go (held p) d (refused k) e x = none-written k u x
     go (held p) d (held q) e x = wrote (joinRule i p q) u x (λ g r n.
         let A = joined-angled i p q r in
         let b = wrote-bit g u n in
