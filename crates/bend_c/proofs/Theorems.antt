@@ -6,13 +6,15 @@ use Rattle.codec.specs.Answer.{written}
 use Rattle.codec.specs.Unpacked.{ReadsBack}
 use Rattle.codec.proofs.Answers.{reads-back}
 use Rattle.sheet.proofs.Refusals.{ordered-settled}
-use Rattle.codec.proofs.Refusals.{small-number}
+use Rattle.codec.proofs.Refusals.{small-number, small-both}
+use Rattle.codec.proofs.TwoOutputs.{reads-back-both}
 use Rattle.sheet.proofs.Size.{ordered-size}
 use Rattle.edit.specs.Rules.{Edit, addEar, removeEar, flip}
 use Rattle.edit.specs.Calls.{edited}
 use Rattle.edit.proofs.Refusals.{edited-settled}
 use Rattle.edit.proofs.Size.{edited-size}
 use Rattle.seam.proofs.Answers.{joined-settled, joined-size}
+use Rattle.cut.proofs.Answers.{cut-settled, cut-sizes}
 use Rattle.edit_list.proofs.Packing.{run-reads-back}
 use Rattle.plan.proofs.ReadBack.{plan-reads-back}
 use Rattle.draw.proofs.Refusals.{drawn-settled, labelled-settled}
@@ -32,6 +34,7 @@ every-answer = record {
   bend-remove-ear = λ s corner out. edit-reads-back (removeEar corner) s out;
   bend-flip = λ s a b out. edit-reads-back (flip a b) s out;
   bend-join = λ s t side out. reads-back _ (small-number (joined-settled s t side out)) (omega (arith, joined-size s t side out));
+  bend-cut = λ s a b inner rest. (let (k, m) = cut-sizes s a b inner rest in reads-back-both _ (small-both (cut-settled s a b inner rest)) (omega arith) (omega arith));
   bend-run-edits = run-reads-back;
   bend-plan = plan-reads-back;
   bend-draw = λ s out. reads-back _ (small-number (drawn-settled s out)) (omega (arith, drawn-size s out));

@@ -1,15 +1,18 @@
 // Every operation without record lists, for C: numbers and byte runs in, one number out. include/bend.h declares them.
 // The low 16 bits of an answer are the number, 0 or that of a refusal. Above it stands the length of what was written, or for Plan the levels,
-// umbrellas and stems, 16 bits each, or for a list of edits the place of the sheet left, in 16 bits, and its length, or for the nearest bar its corner and one.
+// umbrellas and stems, 16 bits each, or for Cut the two lengths, 16 bits each, or for a list of edits the place of the sheet left, in 16 bits, and its length,
+// or for the nearest bar its corner and one.
 ghost use mathlib.Core.Path.{_≡_};
 ghost use mathlib.Core.List.{List};
 ghost use Prim.Native.Nat.{ℕ, _<_};
 ghost use Rattle.codec.specs.Answer.{written, answered, packed, Packable};
+ghost use Rattle.codec.specs.TwoOutputs.{writtenBoth, answeredBoth, packedBoth, BothPackable};
 ghost use Rattle.sheet.specs.Sheet.{ordered};
 ghost use Rattle.edit.specs.Rules.{addEar, removeEar, flip};
 ghost use Rattle.edit.specs.Calls.{edited};
 ghost use Rattle.edit.specs.Tables.{editOf};
 ghost use Rattle.seam.specs.Join.{joinedSheets};
+ghost use Rattle.cut.specs.Cut.{cutSheet};
 ghost use Rattle.edit_list.specs.Result.{ranOf, resultOf, packedRun, Tellable};
 ghost use Rattle.draw.specs.Answer.{drawn};
 ghost use Rattle.draw.specs.Label.{labelled};
@@ -18,6 +21,7 @@ ghost use Rattle.chart_reader.specs.Reader.{chartRead};
 ghost use Rattle.chart_reader.specs.Follow.{nearestBar, followedOf, valueOf, packedFound};
 ghost use Rattle.plan.specs.Answer.{planned, plannedOf, packedPlan};
 use chart_reader::Followed;
+use codec::BothWritten;
 use codec::Written;
 use edit::held::Edit;
 use edit_list::Ran;
@@ -86,6 +90,33 @@ pub extern "C" fn bend_join(first: &[u8], second: &[u8], side: usize, out: &mut 
     ensures bytes { λ r. ⌜ now (out .exit) ≡ written (joinedSheets (now (first .entry)) (now (second .entry)) side) (now (out .entry)) .bytes ⌝ }
 {
     pack(seam::join(first, second, side, out))
+}
+
+// The answer with two outputs in one number.
+fn pack_both(w: BothWritten) -> u64
+    requires { ⌜ BothPackable w ⌝ }
+    ensures { λ r. ⌜ ((out ys : List ℕ) → r ≡ packedBoth (answeredBoth w out ys)) ⌝ }
+{
+    match w {
+        BothWritten::Lengths(k, m) => k as u64 * 65536 + m as u64 * 4294967296,
+        BothWritten::Refused(k) => k as u64,
+    }
+}
+
+// Cut along the diagonal between a and b, named in either order.
+#[no_mangle]
+pub extern "C" fn bend_cut(
+    sheet: &[u8],
+    a: usize,
+    b: usize,
+    inner: &mut [u8],
+    rest: &mut [u8],
+) -> u64
+    ensures answer { λ r. ⌜ r ≡ packedBoth (writtenBoth (cutSheet (now (sheet .entry)) a b) (now (inner .entry)) (now (rest .entry))) ⌝ }
+    ensures inner { λ r. ⌜ now (inner .exit) ≡ writtenBoth (cutSheet (now (sheet .entry)) a b) (now (inner .entry)) (now (rest .entry)) .answer .bytes ⌝ }
+    ensures rest { λ r. ⌜ now (rest .exit) ≡ writtenBoth (cutSheet (now (sheet .entry)) a b) (now (inner .entry)) (now (rest .entry)) .second ⌝ }
+{
+    pack_both(cut::cut(sheet, a, b, inner, rest))
 }
 
 // The answer of a list of edits in one number.

@@ -6,6 +6,7 @@ use Prim.Native.Nat.{ℕ, _<_}
 use lib.ListN.{length, take, drop}
 use Rattle.lists.specs.Lists.{Mem}
 use Rattle.codec.specs.Answer.{Outcome, refuse, write, Answer}
+use Rattle.codec.specs.TwoOutputs.{BothOutcome, refuseBoth, writeBoth, BothAnswer}
 
 -- an operation that refuses before its output is looked at does so by one of these numbers
 pub data Refuses (ks : List ℕ) : Outcome → Type 0 where
@@ -36,3 +37,23 @@ pub record Refusal (ks out : List ℕ) (a : Answer) : Type 0 where
 -- every answer is a finished result, of the bytes that the operation is to write, or one refusal
 abbrev pub Settled : List ℕ → Outcome → List ℕ → Answer → Type 0
 Settled ks o out a = ((bs : List ℕ) × (o ≡ write bs) × Finished bs out a) ⊎ Refusal ks out a
+
+-- The same of an operation with two outputs (TwoOutputs.antt).
+pub data RefusesBoth {A : Type 0} (ks : List ℕ) : BothOutcome A → Type 0 where
+  numberBoth : {k : ℕ} → Mem k ks → RefusesBoth ks (refuseBoth k)
+  writesBoth : {bs : List ℕ} {xs : List A} → RefusesBoth ks (writeBoth bs xs)
+
+-- a finished result: bs in the first output, xs in the second, ys
+pub record BothFinished {A : Type 0} (bs : List ℕ) (xs : List A) (out : List ℕ) (ys : List A) (d : BothAnswer A) : Type 0 where
+  pub first : Finished bs out (d .answer)
+  pub told : d .count ≡ length xs
+  pub result : take (d .count) (d .second) ≡ xs
+  pub beyond : drop (d .count) (d .second) ≡ drop (d .count) ys
+
+pub record BothRefusal {A : Type 0} (ks out : List ℕ) (ys : List A) (d : BothAnswer A) : Type 0 where
+  pub first : Refusal ks out (d .answer)
+  pub nothing : d .count ≡ 0
+  pub untouched : d .second ≡ ys
+
+abbrev pub BothSettled : {A : Type 0} → List ℕ → BothOutcome A → List ℕ → List A → BothAnswer A → Type 0
+BothSettled {A} ks o out ys d = ((bs : List ℕ) × (xs : List A) × (o ≡ writeBoth bs xs) × BothFinished bs xs out ys d) ⊎ BothRefusal ks out ys d

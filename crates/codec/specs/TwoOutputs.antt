@@ -1,7 +1,7 @@
 -- How an operation with two outputs answers: the first of bytes, the second of bytes or records. As with one output (Answer.antt); and "8: either output too short."
 use mathlib.Core.Logic.{Dec·and}
 use mathlib.Core.List.{List, _++_}
-use Prim.Native.Nat.{ℕ}
+use Prim.Native.Nat.{ℕ, _+_, _*_, _<_}
 use native.Mathlib.Decide.{decLe}
 use lib.ListN.{length, drop}
 use Rattle.codec.specs.declared.BothWritten.{BothWritten}
@@ -40,3 +40,12 @@ writtenBoth (writeBoth bs xs) out ys = fitBoth (Dec·and (decLe (length bs) (len
 abbrev pub answeredBoth : {A : Type 0} → BothWritten → List ℕ → List A → BothAnswer A
 answeredBoth (Lengths k m) out ys = record { answer = record { number = 0; size = k; bytes = out }; count = m; second = ys }
 answeredBoth (Refused k) out ys = refusalBoth k out ys
+
+-- the answer with two outputs of bytes in one number, for C: the number in the low 16 bits, the two lengths above it, 16 bits each
+abbrev pub packedBoth : BothAnswer ℕ → ℕ
+packedBoth d = d .answer .number + d .answer .size * 65536 + d .count * 4294967296
+
+-- the lengths are small enough for that
+abbrev pub BothPackable : BothWritten → Type 0
+BothPackable (Lengths k m) = (k < 65536) × (m < 65536)
+BothPackable (Refused k) = Unit {0}

@@ -1,8 +1,9 @@
--- What a C caller reads from the number that an operation returns: the functions of include/bend.h, one for one. The number of an answer of each kind is `packed` (Answer.antt),
+-- What a C caller reads from the number that an operation returns: the functions of include/bend.h, one for one. The number of an answer of each kind is `packed` (Answer.antt), `packedBoth` (TwoOutputs.antt),
 -- `packedPlan` (crate plan), `packedRun` (crate edit_list) and `packedFound` (crate chart_reader).
 use mathlib.Core.Path.{_≡_}
 use Prim.Native.Nat.{ℕ, _/_, _%_, _<_}
 use Rattle.codec.specs.Answer.{Answer, packed}
+use Rattle.codec.specs.TwoOutputs.{BothAnswer, packedBoth}
 
 -- bend_number: `answer & 0xffff`
 abbrev pub numberIn : ℕ → ℕ
@@ -33,6 +34,13 @@ stemsIn answer = answer / 281474976710656 % 65536
 abbrev pub cornerIn : ℕ → ℕ
 cornerIn answer = answer / 65536
 
+-- bend_inner_length and bend_rest_length, of Cut: `answer >> 16 & 0xffff`, `answer >> 32 & 0xffff`
+abbrev pub innerLengthIn : ℕ → ℕ
+innerLengthIn answer = answer / 65536 % 65536
+
+abbrev pub restLengthIn : ℕ → ℕ
+restLengthIn answer = answer / 4294967296 % 65536
+
 -- "Every function returns one number of 64 bits."
 abbrev pub OneNumber : ℕ → Type 0
 OneNumber answer = answer < 18446744073709551616
@@ -42,3 +50,10 @@ pub record ReadsBack (a : Answer) : Type 0 where
   pub number-back : numberIn (packed a) ≡ a .number
   pub length-back : lengthIn (packed a) ≡ a .size
   pub one-number : OneNumber (packed a)
+
+-- and the answer of one that writes two outputs of bytes
+pub record BothReadsBack (d : BothAnswer ℕ) : Type 0 where
+  pub number-back : numberIn (packedBoth d) ≡ d .answer .number
+  pub inner-back : innerLengthIn (packedBoth d) ≡ d .answer .size
+  pub rest-back : restLengthIn (packedBoth d) ≡ d .count
+  pub one-number : OneNumber (packedBoth d)

@@ -41,7 +41,7 @@ edited e {h} {g} {bs} {after} P t same long =
 
 -- The bends `new` of a part of n corners, which all come from `old`, the bends before the edit under their new numbers: they are those of the result.
 module _ (b : Bool) (n : ℕ) (old new : List ℕ) (before : List ℕ) (same : anglesIn old ≡ anglesIn before) (apart : Distinct (bendEdges old)) (comes : All (ComesFrom old) new) where
-  result-angles : {d : Bool} → d ≡ (b && ltb 3 n) → anglesBy d new ≡ choose (decLt 3 n) (carried (bendEdges old) (anglesBy b before) (bendEdges new)) none
+  pub result-angles : {d : Bool} → d ≡ (b && ltb 3 n) → anglesBy d new ≡ choose (decLt 3 n) (carried (bendEdges old) (anglesBy b before) (bendEdges new)) none
   unfolding carried
   result-angles {d} e = ap (λ (x : Bool). anglesBy x new) e ∙ go b (decLt 3 n)
     where

@@ -1,9 +1,9 @@
 -- The definitions of specs/Rules.antt read against document 01: k's neighbours, the edge that enters, the common corners, and that a diagonal is named in either order.
 use mathlib.Core.Path.{_≡_, refl}
-use mathlib.Core.Logic.{_⊎_, inl, inr, _↔_}
+use mathlib.Core.Logic.{_⊎_, inl, inr, _↔_, Dec·and}
 use mathlib.Core.List.{List}
 use Prim.Native.Nat.{ℕ, zero, suc, _+_, _-_, _≤_, _<_}
-use native.Mathlib.Decide.{ℕ-discrete}
+use native.Mathlib.Decide.{decLt, ℕ-discrete}
 use native.Mathlib.Omega.{arith}
 use Rattle.lists.specs.Lists.{Mem, below, choose}
 use Rattle.lists.proofs.Lists.{all-mem, keep-mem, keep-sub, keep-test}
@@ -89,10 +89,13 @@ ask-same k (yes p) (no q) r f g = absurd (q (f p))
 ask-same k (no p) (yes q) r f g = absurd (p (g q))
 ask-same k (no p) (no q) r f g = refl
 
-either-order : (a b : ℕ) → lower-first (a, b) ≡ lower-first (b, a)
+pub either-order : (a b : ℕ) → lower-first (a, b) ≡ lower-first (b, a)
 unfolding lower-first
 either-order a b = edge (omega arith) (omega arith)
 
+pub either-way : (a b n : ℕ) (r : Reading) → ask 9 (Dec·and (decLt a n) (decLt b n)) r ≡ ask 9 (Dec·and (decLt b n) (decLt a n)) r
+either-way a b n r = ask-same 9 _ _ r (λ h. (h .1, h .0)) (λ h. (h .1, h .0))
+
 pub flip-either : (a b : ℕ) (p : Polygon) → rule (flip a b) p ≡ rule (flip b a) p
 unfolding rule
-flip-either a b p = rw (either-order a b) (ask-same {Q = (b < p .n) × (a < p .n)} 9 _ _ _ (λ h. (h .1, h .0)) (λ h. (h .1, h .0)))
+flip-either a b p = rw (either-order a b) (either-way a b (p .n) _)

@@ -92,12 +92,19 @@ module _ {h : Head} {bs : List ℕ} (P : BentInHand h bs) (a b : ℕ) where
     edge-k : edgeOf k ≡ a — b
     edge-k = ap edgeOf K ∙ edge-of-key (a — b) (omega (arith, P .valid .most))
 
+    -- it is a diagonal exactly if its key is there
+    pub has-diagonal : Mem k (keysIn old) → Mem (a — b) (bendEdges old)
+    has-diagonal M = rw edge-k at (mem-edges k (keysIn old) M)
+
+    pub lacks-diagonal : ¬ Mem k (keysIn old) → ¬ Mem (lower-first (a, b)) (bendEdges old)
+    lacks-diagonal f m = f (edges-mem k (keysIn old) (rw (edge-k, ← lower-first-same (a — b) up) m))
+
     pub turn-lacks : ¬ Mem k (keysIn old) → rule (flip a b) (partOf h bs) ≡ refused 13
     unfolding rule
-    turn-lacks f = ask-yes 9 _ _ (omega arith, inside) ∙ ask-no 13 _ _ (λ m. f (edges-mem k (keysIn old) (rw (edge-k, ← lower-first-same (a — b) up) m)))
+    turn-lacks f = ask-yes 9 _ _ (omega arith, inside) ∙ ask-no 13 _ _ (lacks-diagonal f)
 
     pub turn-out : Mem k (keysIn old) → {rest : List ℕ} → rest ≡ removeKey k old → Without h bs (a — b) rest
-    turn-out M = taken-out P (a — b) (rw edge-k at (mem-edges k (keysIn old) M)) K
+    turn-out M = taken-out P (a — b) (has-diagonal M) K
 
   pub flipped-over : a ≤ b → b < h .n → {rest : List ℕ} → Without h bs (a — b) rest → {other turned : ℕ}
       → ((x y : ℕ) → common (h .n) (bendEdges old) (a — b) ≡ x ∷ (y ∷ []) → other ≡ keyOf (x — y)) → turned ≡ flatBend other

@@ -1,35 +1,18 @@
 -- A bend taken out by its key, one step of a pass over the list at a time; bends and edges without one are the same.
 use mathlib.Core.Path.{_≡_, refl, ap, sym, _∙_}
-use mathlib.Core.List.{List, [], _∷_, _++_, append-nil}
+use mathlib.Core.List.{List, [], _∷_}
 use Prim.Native.Nat.{ℕ, _+_, _<_, _≤_}
 use native.Mathlib.Decide.{ℕ-discrete}
-use native.Mathlib.Numerals.{add-one}
 use native.Mathlib.Omega.{arith}
 use lib.ListN.{length, take, set, getD, length-set}
-use lib.Seq.{take-suc, take-suc-set, take-all, length-take-le}
+use lib.Seq.{take-all, length-take-le}
 use Rattle.lists.specs.Lists.{Mem, Sub, head, keep, not?, put, tail}
-use Rattle.lists.proofs.Lists.{keep-append, keep-sub}
+use Rattle.lists.proofs.Lists.{keep-sub}
+use Rattle.lists.proofs.Kept.{kept-next, kept-past}
 use Rattle.polygon.specs.Polygon.{Edge}
 use Rattle.polygon.specs.Order.{same?, remove}
 use Rattle.keys.specs.Keys.{edgeOf, edgesOf, keyIn, keysIn}
 use Rattle.keys.specs.Change.{removeKey}
-
-module _ (k : ℕ) (xs : List ℕ) (y : ℕ) where
-  remove-same : keyIn y ≡ k → removeKey k (xs ++ (y ∷ [])) ≡ removeKey k xs
-  unfolding removeKey keep not? put
-  remove-same e = keep-append _ xs (y ∷ []) ∙ go (ℕ-discrete (keyIn y) k)
-    where
-      go : (d : Dec (keyIn y ≡ k)) → removeKey k xs ++ put (not? d) y [] ≡ removeKey k xs
-      go (yes p) = append-nil (removeKey k xs)
-      go (no p) = absurd (p e)
-
-  remove-other : ¬ (keyIn y ≡ k) → removeKey k (xs ++ (y ∷ [])) ≡ removeKey k xs ++ (y ∷ [])
-  unfolding removeKey keep not? put
-  remove-other f = keep-append _ xs (y ∷ []) ∙ go (ℕ-discrete (keyIn y) k)
-    where
-      go : (d : Dec (keyIn y ≡ k)) → removeKey k xs ++ put (not? d) y [] ≡ removeKey k xs ++ (y ∷ [])
-      go (yes p) = absurd (f p)
-      go (no p) = refl
 
 -- what the loop keeps: the first `left` bends of `out` are those before j without that of k
 pub record Removing (k : ℕ) (keys : List ℕ) (size : ℕ) (out : List ℕ) (left j : ℕ) : Type 0 where
@@ -45,21 +28,21 @@ removing-begin k keys out = record { upto = omega arith; low = omega arith; kept
 module _ {k : ℕ} {keys : List ℕ} {size : ℕ} {out : List ℕ} {left j : ℕ} (R : Removing k keys size out left j) (fits : length keys ≤ size) where
   module _ (more : j < length keys) where
     pub removing-same : keyIn (getD keys j 0) ≡ k → Removing k keys size out left (j + 1)
+    unfolding removeKey
     removing-same e = record {
       upto = omega arith;
       low = omega (arith, R .low);
       kept = R .kept;
-      done = R .done ∙ rw (add-one j, take-suc keys j 0 more) (sym (remove-same k (take j keys) (getD keys j 0) e));
+      done = kept-past (λ b. not? (ℕ-discrete (keyIn b) k)) keys out left j 0 more (R .done) (λ f. f e);
     }
 
     pub removing-other : ¬ (keyIn (getD keys j 0) ≡ k) → Removing k keys size (set out left (getD keys j 0)) (left + 1) (j + 1)
+    unfolding removeKey
     removing-other f = record {
       upto = omega arith;
       low = omega (arith, R .low);
       kept = simp length-set (R .kept);
-      done =
-          rw (add-one j, add-one left, take-suc-set out left (getD keys j 0) (omega (arith, R .low, R .kept)), R .done, take-suc keys j 0 more)
-          (sym (remove-other k (take j keys) (getD keys j 0) f));
+      done = kept-next (λ b. not? (ℕ-discrete (keyIn b) k)) keys out left j 0 more (R .done) (omega (arith, R .low, R .kept)) f;
     }
 
   pub removing-end : length keys ≤ j → (take left out ≡ removeKey k keys) × (left ≡ length (removeKey k keys))

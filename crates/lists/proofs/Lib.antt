@@ -1,4 +1,5 @@
 pub mod Lists
+pub mod Kept
 pub mod Places
 pub mod Stores
 pub mod Occurs

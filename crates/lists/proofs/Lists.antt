@@ -81,6 +81,11 @@ unfolding choose
 choose-yes (yes p) y h = refl
 choose-yes (no p) y h = absurd (p h)
 
+pub choose-same : {A P : Type 0} (d : Dec P) (x : A) → choose d x x ≡ x
+unfolding choose
+choose-same (yes p) x = refl
+choose-same (no p) x = refl
+
 pub choose-no : {A P : Type 0} (d : Dec P) (x : A) {y : A} → ¬ P → choose d x y ≡ y
 unfolding choose
 choose-no (yes p) x h = absurd (h p)

@@ -1,4 +1,4 @@
--- Demand 1 is proved, by the law of every operation that writes bytes (crate codec, proofs/Refusals.antt) and the cases of the other four.
+-- Demand 1 is proved, by the laws of every operation that writes one output or two (crate codec, proofs/Refusals.antt) and the cases of the other three.
 use mathlib.Core.Path.{_≡_, refl}
 use mathlib.Core.Logic.{_⊎_, inl, inr}
 use mathlib.Core.List.{List, [], _∷_, _++_}
@@ -8,20 +8,20 @@ use native.Mathlib.Decide.{ℕ-discrete}
 use native.Mathlib.Omega.{arith}
 use lib.ListN.{length}
 use lib.Seq.{take-append-seam, drop-append-seam}
-use Rattle.lists.specs.Lists.{Mem, head, tail, choose, numbers}
-use Rattle.lists.proofs.Lists.{all-mem, here, there, mem-left, mem-right}
+use Rattle.lists.specs.Lists.{Mem, all-cons, all-nil, head, tail, choose, numbers}
+use Rattle.lists.proofs.Lists.{all-append, all-mem, here, mem-left, mem-right}
 use Rattle.lists.proofs.Places.{numbers-mem}
 use Rattle.polygon.specs.Polygon.{Polygon}
-use Rattle.codec.specs.TwoOutputs.{refuseBoth, writeBoth, refusalBoth, writtenBoth}
-use Rattle.codec.proofs.TwoOutputs.{both-is}
+use Rattle.codec.specs.TwoOutputs.{refuseBoth, writeBoth}
 use Rattle.sheet.specs.Sheet.{Reading, held, readSheet}
 use Rattle.sheet.specs.Refusals.{sheetTests, RefusedBy, by, holds}
 use Rattle.sheet.proofs.Refusals.{read-refuses, tests-proper, ordered-settled}
-use Rattle.codec.specs.Refusals.{Proper}
-use Rattle.codec.proofs.Refusals.{whole-finished, refusal-refuses}
+use Rattle.codec.specs.Refusals.{RefusesBoth, numberBoth, writesBoth}
+use Rattle.codec.proofs.Refusals.{settled-both}
 use Rattle.edit.specs.Rules.{addEar, removeEar, flip}
 use Rattle.edit.proofs.Refusals.{edited-settled}
 use Rattle.seam.proofs.Answers.{joined-settled}
+use Rattle.cut.proofs.Answers.{cut-settled}
 use Rattle.edit_list.specs.Script.{faultOf}
 use Rattle.edit_list.specs.Result.{numbered, finished, unchanged, resultOf}
 use Rattle.edit_list.proofs.Tests.{Number, fault-number}
@@ -33,11 +33,11 @@ use Rattle.nearest.specs.declared.Cell.{Cell}
 use Rattle.chart_reader.specs.Follow.{FollowAnswer}
 use Rattle.chart_reader.proofs.Following.{Follows, by-14, by-15, by-9, found, by-answer}
 use Rattle.chart_reader.proofs.Refusals.{chart-settled}
-use Rattle.draw.specs.Answer.{drawnWithBars}
-use Rattle.draw.specs.Label.{tape, label, Keeps, keeps?, chartedBothWithin, labelledWithBars}
+use Rattle.draw.specs.Answer.{chartedBoth}
+use Rattle.draw.specs.Label.{tape, label, Keeps, keeps?, chartedBothWithin}
 use Rattle.draw.proofs.Label.{tape-both}
 use Rattle.draw.proofs.Refusals.{drawn-settled, labelled-settled}
-use Rattle.promises.specs.DemandOne.{PlanAnswers, PlanFinished, PlanRefusal, BothRefusal, BothSettled, BothAnswers, numbersOut, FoundFinished, FoundRefusal, FoundAnswers, RunFinished, RunRefusal, RunAnswers, DemandOne}
+use Rattle.promises.specs.DemandOne.{PlanAnswers, PlanFinished, PlanRefusal, BothAnswers, numbersOut, FoundFinished, FoundRefusal, FoundAnswers, RunFinished, RunRefusal, RunAnswers, DemandOne}
 
 -- the numbers of the tests of a list
 abbrev listTests : List ℕ
@@ -51,37 +51,26 @@ plan-answers s = go (readSheet s) refl (read-refuses s)
     go r e (by m) = inr (record { published = m; proper = all-mem tests-proper m; no-levels = refl; no-umbrellas = refl; no-stems = refl })
     go r e (holds {p}) = inl (p, e, record { zero = refl; counts = refl })
 
--- with any limit of rows; the numbers after the sheet's are 8, and 19 if any part is beyond the limit
-both-answers : (limit : Option ℕ) (ks : List ℕ) → Mem 8 ks → ((p : Polygon) → ¬ Keeps limit (chartOf p .rows) → Mem 19 ks)
-    → (s : List ℕ) → BothAnswers (sheetTests ++ ks) s (writtenBoth (chartedBothWithin limit (readSheet s)))
-unfolding chartedBothWithin writtenBoth choose
-both-answers limit ks eight tall s out bars = go (readSheet s) refl (read-refuses s)
+-- a drawing within a limit of rows, which a part may be beyond
+draw-refuses : (ks : List ℕ) (limit : Option ℕ) → ((p : Polygon) → ¬ Keeps limit (chartOf p .rows) → Mem 19 ks) → (s : List ℕ)
+    → RefusesBoth (sheetTests ++ ks) (chartedBothWithin limit (readSheet s))
+unfolding chartedBothWithin choose
+draw-refuses ks limit tall s = go (readSheet s) (read-refuses s)
   where
-    refused-by : (k : ℕ) → Mem k ks → Proper k → BothRefusal (sheetTests ++ ks) out bars (refusalBoth k out bars)
-    refused-by k m q = record { bytes = refusal-refuses out (mem-right sheetTests m) q; nothing = refl; untouched = refl }
+    kept : (p : Polygon) (d : Dec (Keeps limit (chartOf p .rows)))
+        → RefusesBoth (sheetTests ++ ks) (choose d (writeBoth (bytesOf (chartOf p)) (barsOf (chartOf p))) (refuseBoth 19))
+    kept p (yes w) = writesBoth
+    kept p (no w) = numberBoth (mem-right sheetTests (tall p w))
 
-    drawn : (p : Polygon) → readSheet s ≡ held p → (d : Dec (Keeps limit (chartOf p .rows)))
-        → BothSettled (sheetTests ++ ks) s out bars (writtenBoth (choose d (writeBoth (bytesOf (chartOf p)) (barsOf (chartOf p))) (refuseBoth 19)) out bars)
-    drawn p e (no w) = inr (refused-by 19 (tall p w) (omega arith, omega arith))
-    drawn p e (yes w) =
-        let bs = bytesOf (chartOf p) in
-        let cs = barsOf (chartOf p) in
-        elim (both-is bs out cs bars) [
-          | inl i ↦ inl (p, e, rw (i .1) (record { chart = whole-finished bs out; told = refl; result = take-append-seam cs _; beyond = drop-append-seam cs _ }))
-          | inr i ↦ inr (rw (i .1) (refused-by 8 eight (omega arith, omega arith)))
-        ]
+    go : (r : Reading) → RefusedBy sheetTests r → RefusesBoth (sheetTests ++ ks) (chartedBothWithin limit r)
+    go r (by m) = numberBoth (mem-left ks m)
+    go r (holds {p}) = kept p (keeps? limit (chartOf p .rows))
 
-    go : (r : Reading) → readSheet s ≡ r → RefusedBy sheetTests r → BothSettled (sheetTests ++ ks) s out bars (writtenBoth (chartedBothWithin limit r) out bars)
-    go r e (by m) = inr (record { bytes = refusal-refuses out (mem-left ks m) (all-mem tests-proper m); nothing = refl; untouched = refl })
-    go r e (holds {p}) = drawn p e (keeps? limit (chartOf p .rows))
+draw-answers : (s : List ℕ) → BothAnswers (sheetTests ++ (8 ∷ [])) (chartedBoth (readSheet s))
+draw-answers s out bars = settled-both out bars _ tests-proper (rw (tape-both (readSheet s)) at (draw-refuses [] tape (λ p f. absurd (f tt)) s))
 
-draw-answers : (s : List ℕ) → BothAnswers (sheetTests ++ (8 ∷ [])) s (drawnWithBars s)
-unfolding drawnWithBars
-draw-answers s = rw (tape-both (readSheet s)) at (both-answers tape (8 ∷ []) here (λ p f. absurd (f tt)) s)
-
-label-answers : (s : List ℕ) → BothAnswers (sheetTests ++ (19 ∷ 8 ∷ [])) s (labelledWithBars s)
-unfolding labelledWithBars
-label-answers s = both-answers label (19 ∷ 8 ∷ []) (there here) (λ p f. here) s
+label-answers : (s : List ℕ) → BothAnswers (sheetTests ++ (19 ∷ 8 ∷ [])) (chartedBothWithin label (readSheet s))
+label-answers s out bars = settled-both out bars _ (all-append tests-proper (all-cons (omega arith, omega arith) all-nil)) (draw-refuses (19 ∷ []) label (λ p f. here) s)
 
 found-answers : (c : List ℕ) (e : Cell × Cell) → FoundAnswers (14 ∷ 15 ∷ 9 ∷ []) c e
 found-answers c e = go (by-answer c e refl)
@@ -120,6 +109,7 @@ demand-one = record {
   take-off = λ s k. edited-settled (removeEar k) s;
   turn = λ s a b. edited-settled (flip a b) s;
   join = joined-settled;
+  cut = cut-settled;
   plan = plan-answers;
   draw = drawn-settled;
   draw-bars = draw-answers;

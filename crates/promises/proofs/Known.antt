@@ -9,12 +9,14 @@ use Rattle.polygon.specs.Carried.{angleOf, carried}
 use Rattle.polygon.specs.Order.{before?, same?, cross?, none-cross?, diagonal?, distinct?, remove, place, insert, sort, lower-first}
 use Rattle.polygon.specs.Tree.{span, chordsAt, chordsPast, inner, piece, treeOf, grow, far, farther, near?}
 use Rattle.codec.specs.Answer.{fit, written}
+use Rattle.codec.specs.TwoOutputs.{fitBoth, writtenBoth}
 use Rattle.codec.specs.Numbers.{run16}
 use Rattle.sheet.specs.Sheet.{ask, pairs, angles, count?, more, readSheet, pairBytes, mapByte, normalSheet, outcome, ordered}
 use Rattle.edit.specs.Rules.{up, down, both, entering, earAdded, neighbours, earRemoved, away?, result, side?, linked?, joined?, common, enter, flipped, rule}
 use Rattle.edit.specs.Calls.{onHeld, edited}
 use Rattle.edit.specs.Model.{numberGiven}
 use Rattle.seam.specs.Join.{matched, gluedEdges, glue, joinRule, joinedSheets}
+use Rattle.cut.specs.Cut.{beneath?, restCorner, partOn, innerPart, restPart, cuttable, halved, cutSheet}
 use Rattle.umbrella.specs.Plan.{fold}
 use Rattle.umbrella.specs.Values.{ud}
 use Rattle.umbrella.specs.Tight.{tight}
@@ -35,7 +37,8 @@ use Rattle.log_line.specs.Line.{digits, decimal, line, refusedLine}
 use Rattle.draw.specs.Answer as draw
 use Rattle.draw.specs.Label as draw-label
 use Rattle.draw.specs.Printed.{printedOf, printed}
-use Rattle.promises.specs.Known.{sheet, barsIn, rowsIn, columnsIn, valuesIn, Holds, cases}
+use Rattle.promises.specs.Case.{barsIn, rowsIn, columnsIn, valuesIn, Holds}
+use Rattle.promises.specs.Known.{sheet, cases}
 
 pub known : All Holds cases
 unfolding sheet barsIn columnsIn valuesIn piece readSheet ask pairs angles carried angleOf allowed? in-range? three? recast? count? more pairBytes run16 mapByte normalSheet outcome ordered written fit Dec·and choose put keep
@@ -46,6 +49,7 @@ unfolding sheet barsIn columnsIn valuesIn piece readSheet ask pairs angles carri
     chartRead readChart formed? places behind shaped bars? free? joins? strokes? passes? gaps? part? partSides common? common-of between stands? shares? crosses? strokeEdge
     tight inner chordsPast draw-label.chartedWithin draw-label.keeps?
     joinedSheets joinRule glue gluedEdges matched numberGiven
+    cutSheet halved cuttable partOn innerPart restPart restCorner beneath? writtenBoth fitBoth
     near.first near.orElse near.toward near.steps near.has? near.lowestAt near.nearest on-chart? asked? nearestBar
 known =
     all-cons refl (all-cons refl (all-cons refl (all-cons refl (all-cons refl (all-cons refl (all-cons refl
@@ -65,4 +69,8 @@ known =
     (all-cons refl (all-cons refl (all-cons refl (all-cons refl (all-cons refl (all-cons refl (all-cons refl
     (all-cons refl (all-cons refl (all-cons refl (all-cons refl (all-cons refl (all-cons refl (all-cons refl
     (all-cons refl (all-cons refl (all-cons refl (all-cons refl (all-cons refl (all-cons refl (all-cons refl
-    (all-cons refl (all-cons refl (all-cons refl (all-cons refl (all-cons refl (all-cons refl (all-cons refl all-nil)))))))))))))))))))))))))))))))))))))))))))))))))))))))))))))))))))))))))))))))))))))))))))))))))))))))))))))))))))))))))))))
+    (all-cons refl (all-cons refl (all-cons refl (all-cons refl (all-cons refl (all-cons refl (all-cons refl
+    (all-cons refl (all-cons refl (all-cons refl (all-cons refl (all-cons refl (all-cons refl (all-cons refl
+    (all-cons refl (all-cons refl (all-cons refl (all-cons refl (all-cons refl (all-cons refl (all-cons refl
+    (all-cons refl (all-cons refl (all-cons refl (all-cons refl (all-cons refl (all-cons refl (all-cons refl
+    (all-cons refl all-nil)))))))))))))))))))))))))))))))))))))))))))))))))))))))))))))))))))))))))))))))))))))))))))))))))))))))))))))))))))))))))))))))))))))))))))))))))))

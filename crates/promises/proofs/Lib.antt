@@ -11,3 +11,4 @@ pub mod RowsWithoutBars
 pub mod NearestBar
 pub mod LabelPrinter
 pub mod JoinedAlongSeam
+pub mod CutAlongBend

@@ -6,6 +6,7 @@ use lib.ListN.{take}
 use native.Mathlib.Decide.{ℕ-discrete}
 use Rattle.lists.specs.Lists.{choose}
 use Rattle.polygon.specs.Polygon.{Polygon}
+use Rattle.polygon.specs.Order.{lower-first}
 use Rattle.codec.specs.Answer.{Answer}
 use Rattle.sheet.specs.Sheet.{Reading, refused, held, readSheet, normalSheet, outcome, ordered}
 use Rattle.sheet.proofs.Hand.{bared}
@@ -16,6 +17,8 @@ use Rattle.edit.specs.Rules.{rule}
 use Rattle.edit.specs.Model.{left, chosen, modelSheet}
 use Rattle.edit.specs.Calls.{onHeld, edited, Call, called, lent, sheetAfter, answers, sheetLeft}
 use Rattle.seam.specs.Join.{joinRule, joinedSheets}
+use Rattle.cut.specs.Cut.{cuttable, halved, cutSheet}
+use Rattle.cut.proofs.Theorems.{cut-wrote}
 use Rattle.edit.proofs.List.{list-of-edits}
 use Rattle.log_line.specs.Line.{line}
 use Rattle.chart_reader.specs.Reader.{readChart, chartRead}
@@ -50,12 +53,13 @@ alike-list (c ∷ cs) s t e =
 
 -- what is read of a sheet settles every answer
 alike-answers : (s t : List ℕ) → readSheet s ≡ readSheet t → SameAnswers s t
-unfolding ordered edited joinedSheets
+unfolding ordered edited joinedSheets cutSheet
 alike-answers s t e = record {
   order = ap outcome e;
   edit = λ x. ap (λ (r : Reading). outcome (onHeld r (rule x))) e;
   join-first = λ u i. ap (λ (r : Reading). outcome (onHeld r (λ p. onHeld (readSheet u) (joinRule i p)))) e;
   join-second = λ u i. ap (λ (r : Reading). outcome (onHeld (readSheet u) (λ p. onHeld r (joinRule i p)))) e;
+  cut = λ a b. ap (λ (r : Reading). halved (lower-first (a, b)) (onHeld r (cuttable a b))) e;
   drawing = drawn-alike s t (ap bared e);
   run = run-alike s t e;
   numbers = λ cs. alike-list cs s t e .0;
@@ -78,6 +82,7 @@ part-numbers-go = record {
   edit = λ e s. outcome-bare (onHeld (readSheet s) (rule e));
   read-chart = λ c. outcome-bare (readChart c);
   join = λ s t i. outcome-bare (onHeld (readSheet s) (λ p. onHeld (readSheet t) (joinRule i p)));
+  cut = λ s t u a b w. (let (p, d, n, o) = cut-wrote s a b w in (rw (sym n) (normal-bare _), rw (sym o) (normal-bare _)));
   skips = λ s. sym (skips s);
   log = λ f. refl;
   there = only-there;

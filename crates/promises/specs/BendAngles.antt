@@ -1,6 +1,6 @@
 -- Request (xi), "Bend angles on the sheet", sentence by sentence. A part's `angles` are `none`, or `each vs` with one for each of its diagonals, in their order (crate polygon, specs/Angles.antt).
 -- `carried es xs ds` are the angles of the pairs ds, if those of the pairs es are xs; `angleAt p d` is the angle of the diagonal d, 0 for what is none (specs/Carried.antt there).
--- A part that is joined of p and q on side i is `glue i p q` (crate seam, specs/Join.antt). What the request says of cut halves is cutting's.
+-- A part that is joined of p and q on side i is `glue i p q` (crate seam, specs/Join.antt); the halves of p at its diagonal c are `innerPart c p` and `restPart c p` (crate cut, specs/Cut.antt).
 use mathlib.Core.Path.{_≡_}
 use mathlib.Core.Logic.{_⊎_, _↔_}
 use mathlib.Core.List.{List}
@@ -8,16 +8,18 @@ use Prim.Native.Nat.{ℕ, _+_, _*_, _-_, _≤_, _<_}
 use lib.ListN.{length, getD}
 use Rattle.lists.specs.Lists.{Mem, Sub}
 use Rattle.polygon.specs.Angles.{InRange, Allowed}
-use Rattle.polygon.specs.Polygon.{Edge, Polygon, Valid}
+use Rattle.polygon.specs.Polygon.{Edge, Polygon, bare, Valid}
 use Rattle.polygon.specs.Carried.{carried, angleAt}
 use Rattle.codec.specs.Numbers.{get16}
 use Rattle.codec.specs.Answer.{write}
+use Rattle.codec.specs.TwoOutputs.{writeBoth}
 use Rattle.sheet.specs.Sheet.{bit3, field, listedAngles, angled, refused, held, readSheet, normalSheet, ordered}
 use Rattle.sheet.specs.Listing.{pairsOf}
 use Rattle.sheet.specs.Framed.{Paired}
-use Rattle.edit.specs.Rules.{Edit, addEar, removeEar, flip, up, down, both, entering, neighbours, rule}
+use Rattle.edit.specs.Rules.{Edit, addEar, removeEar, flip, up, down, both, entering, neighbours, flatAt, rule}
 use Rattle.edit.specs.Calls.{edited}
 use Rattle.seam.specs.Join.{laid, matched, seam, glue, joinedSheets}
+use Rattle.cut.specs.Cut.{innerPart, restPart, cutSheet}
 use Rattle.chart_reader.specs.Reader.{chartRead}
 use Rattle.promises.specs.SameDrawing.{SameDrawing}
 
@@ -55,10 +57,20 @@ pub record BendAngles : Type 0 where
   -- "and an angle is dropped when its diagonal becomes a side.": the others keep theirs, if the result is no triangle
   pub off : (p q : Polygon) (k : ℕ) → Valid p → rule (removeEar k) p ≡ held q → 3 < q .n
       → (d : Edge) → Mem d (p .ds) → ¬ (d ≡ neighbours (p .n) k) → angleAt q (both (down k) d) ≡ angleAt p d
-  -- "A result has bit 3 exactly when a sheet it comes from has and its own n is over 3": of Set in order, of the edits, of joining, where either sheet counts and n is always over 3, and of Read a chart, whose charts have no angles
+  -- "Cut halves keep theirs;": each diagonal of a half has the angle that it had under its old numbers
+  pub cut : (c : Edge) (p : Polygon) → Valid p → Mem c (p .ds)
+      → ((d : Edge) → Mem d (innerPart c p .ds) → angleAt (innerPart c p) d ≡ angleAt p (both (laid (c .0)) d))
+      × ((d : Edge) → Mem d (restPart c p .ds) → angleAt (restPart c p) d ≡ angleAt p (both (matched (innerPart c p .n) (c .0)) d))
+  -- "joined again they give the old part but for a 0 on the seam, or without angles when both halves are triangles.": they are triangles exactly if the old part has four corners
+  pub joined-again : (c : Edge) (p : Polygon) → Valid p → Mem c (p .ds) → 4 < p .n → glue (c .0) (restPart c p) (innerPart c p) ≡ flatAt c p
+  pub triangles-again : (c : Edge) (p : Polygon) → Valid p → Mem c (p .ds) → innerPart c p .n ≡ 3 → restPart c p .n ≡ 3
+      → glue (c .0) (restPart c p) (innerPart c p) ≡ bare p
+  pub both-triangles : (c : Edge) (p : Polygon) → Valid p → Mem c (p .ds) → ((innerPart c p .n ≡ 3) × (restPart c p .n ≡ 3)) ↔ (p .n ≤ 4)
+  -- "A result has bit 3 exactly when a sheet it comes from has and its own n is over 3": of Set in order, of the edits, of joining, where either sheet counts and n is always over 3, of cutting, of each half, and of Read a chart, whose charts have no angles
   pub order-bit : (s t : List ℕ) → ordered s ≡ write t → Bit3 t ↔ Bit3 s
   pub edit-bit : (e : Edit) (s t : List ℕ) → edited e s ≡ write t → Bit3 t ↔ (Bit3 s × (3 < get16 t 1))
   pub join-bit : (s t u : List ℕ) (i : ℕ) → joinedSheets s t i ≡ write u → (Bit3 u ↔ (Bit3 s ⊎ Bit3 t)) × (3 < get16 u 1)
+  pub cut-bit : (s t u : List ℕ) (a b : ℕ) → cutSheet s a b ≡ writeBoth t u → (Bit3 t ↔ (Bit3 s × (3 < get16 t 1))) × (Bit3 u ↔ (Bit3 s × (3 < get16 u 1)))
   pub chart-bit : (c t : List ℕ) → chartRead c ≡ write t → ¬ Bit3 t
   -- "The plain part keeps bit 3 and the angles by these same rules,": `DemandThree`, whose plain part has the rules above; "and its 8 counts them."
   pub size : (p : Polygon) → Valid p → length (normalSheet p) ≡ 3 + 4 * (p .n - 3) + field (angled (p .angles)) (2 * (p .n - 3))

@@ -1,6 +1,6 @@
 -- Demand 1: every answer is a finished result or one refusal. "A refusal gives its number and zeros, and changes no lent memory. Success gives 0; bytes or records beyond the result stay."
 -- One claim about every public operation, every input and everything lent to it.
--- `Finished`, `Refusal` and `Settled` are the two cases for an operation that writes bytes (crate codec, specs/Refusals.antt). The lists of numbers are document 01's, under each operation, and the requests': 23 "right after 7" (xi), and
+-- `Settled` and `BothSettled` are the two cases for an operation that writes one output or two (crate codec, specs/Refusals.antt). The lists of numbers are document 01's, under each operation, and the requests': 23 "right after 7" (xi), and
 -- 19 for the label's calls "after 7 and before 8" (ii).
 use mathlib.Core.Path.{_≡_}
 use mathlib.Core.Logic.{_⊎_}
@@ -10,27 +10,27 @@ use lib.ListN.{length, take, drop}
 use Rattle.lists.specs.Lists.{Mem}
 use Rattle.polygon.specs.Polygon.{Polygon}
 use Rattle.codec.specs.Answer.{Outcome, written}
-use Rattle.codec.specs.TwoOutputs.{BothAnswer}
+use Rattle.codec.specs.TwoOutputs.{BothOutcome, writtenBoth}
 use Rattle.codec.specs.Numbers.{run16}
 use Rattle.sheet.specs.Sheet.{held, readSheet, ordered}
-use Rattle.codec.specs.Refusals.{Proper, Finished, Refusal, Settled}
+use Rattle.codec.specs.Refusals.{Proper, Settled, BothSettled}
 use Rattle.edit.specs.Rules.{addEar, removeEar, flip}
 use Rattle.edit.specs.Calls.{edited}
 use Rattle.seam.specs.Join.{joinedSheets}
+use Rattle.cut.specs.Cut.{cutSheet}
 use Rattle.edit_list.specs.Script.{scriptOf}
 use Rattle.edit_list.specs.Desk.{begin, numbersOf}
 use Rattle.edit_list.specs.Result.{Result, finished, resultOf}
 use Rattle.umbrella.specs.Best.{planOf}
 use Rattle.plan.specs.Answer.{PlanAnswer, countsOf, planned}
-use Rattle.chart.specs.Chart.{Bar, Chart, barsOf, chartOf}
-use Rattle.chart.specs.Bytes.{bytesOf}
+use Rattle.chart.specs.Chart.{Chart}
 use Rattle.chart.specs.Decode.{chartIn}
 use Rattle.nearest.specs.declared.Cell.{Cell}
 use Rattle.nearest.specs.Nearest.{none, nearest}
 use Rattle.chart_reader.specs.Reader.{chartRead}
 use Rattle.chart_reader.specs.Follow.{FollowAnswer, nearestBar}
-use Rattle.draw.specs.Answer.{drawn, drawnWithBars}
-use Rattle.draw.specs.Label.{labelled, labelledWithBars}
+use Rattle.draw.specs.Answer.{drawn, chartedBoth}
+use Rattle.draw.specs.Label.{label as fifteen, labelled, chartedBothWithin}
 
 -- an operation that is to do o, whatever output is lent
 abbrev pub Answers : List ℕ → Outcome → Type 0
@@ -51,23 +51,9 @@ pub record PlanRefusal (ks : List ℕ) (a : PlanAnswer) : Type 0 where
 abbrev pub PlanAnswers : List ℕ → List ℕ → Type 0
 PlanAnswers ks s = ((p : Polygon) × (readSheet s ≡ held p) × PlanFinished p (planned s)) ⊎ PlanRefusal ks (planned s)
 
--- Draw with the bar list, which writes bytes and records
-pub record BothFinished (c : Chart) (out : List ℕ) (bars : List Bar) (d : BothAnswer Bar) : Type 0 where
-  pub chart : Finished (bytesOf c) out (d .answer)
-  pub told : d .count ≡ length (barsOf c)
-  pub result : take (d .count) (d .second) ≡ barsOf c
-  pub beyond : drop (d .count) (d .second) ≡ drop (d .count) bars
-
-pub record BothRefusal (ks out : List ℕ) (bars : List Bar) (d : BothAnswer Bar) : Type 0 where
-  pub bytes : Refusal ks out (d .answer)
-  pub nothing : d .count ≡ 0
-  pub untouched : d .second ≡ bars
-
-abbrev pub BothSettled : List ℕ → List ℕ → List ℕ → List Bar → BothAnswer Bar → Type 0
-BothSettled ks s out bars d = ((p : Polygon) × (readSheet s ≡ held p) × BothFinished (chartOf p) out bars d) ⊎ BothRefusal ks out bars d
-
-abbrev pub BothAnswers : List ℕ → List ℕ → (List ℕ → List Bar → BothAnswer Bar) → Type 0
-BothAnswers ks s d = (out : List ℕ) (bars : List Bar) → BothSettled ks s out bars (d out bars)
+-- an operation with two outputs that is to do o, whatever is lent: Draw with the bar list, which writes bytes and records, and Cut, which writes two sheets
+abbrev pub BothAnswers : {A : Type 0} → List ℕ → BothOutcome A → Type 0
+BothAnswers {A} ks o = (out : List ℕ) (ys : List A) → BothSettled ks o out ys (writtenBoth o out ys)
 
 -- a list of edits, run over two buffers, with the numbers of the edits written to a third output, two bytes each
 abbrev pub numbersOut : List ℕ → List ℕ → List ℕ → List ℕ → List ℕ
@@ -116,14 +102,16 @@ pub record DemandOne : Type 0 where
   pub turn : (s : List ℕ) (a b : ℕ) → Answers (1 ∷ 2 ∷ 3 ∷ 4 ∷ 5 ∷ 6 ∷ 7 ∷ 23 ∷ 9 ∷ 13 ∷ 8 ∷ []) (edited (flip a b) s)
   -- Join the second sheet's part on side i of the first's (request (i)): the first sheet's, the second's, "then 9 .., 10 .., then 8."
   pub join : (s t : List ℕ) (i : ℕ) → Answers (1 ∷ 2 ∷ 3 ∷ 4 ∷ 5 ∷ 6 ∷ 7 ∷ 23 ∷ 9 ∷ 10 ∷ 8 ∷ []) (joinedSheets s t i)
+  -- Cut along the diagonal (a,b) (request (iii)): those of turning a diagonal, "with 8 if either output is too short."
+  pub cut : (s : List ℕ) (a b : ℕ) → BothAnswers (1 ∷ 2 ∷ 3 ∷ 4 ∷ 5 ∷ 6 ∷ 7 ∷ 23 ∷ 9 ∷ 13 ∷ 8 ∷ []) (cutSheet s a b)
   -- Plan. "1 to 7."
   pub plan : (s : List ℕ) → PlanAnswers (1 ∷ 2 ∷ 3 ∷ 4 ∷ 5 ∷ 6 ∷ 7 ∷ 23 ∷ []) s
-  -- Draw. "1 to 7; 8: either output too short." Without the bar list and with it:
+  -- Draw. "1 to 7; 8: either output too short." Without the bar list and with it (`drawnWithBars`, `labelledWithBars`):
   pub draw : (s : List ℕ) → Answers (1 ∷ 2 ∷ 3 ∷ 4 ∷ 5 ∷ 6 ∷ 7 ∷ 23 ∷ 8 ∷ []) (drawn s)
-  pub draw-bars : (s : List ℕ) → BothAnswers (1 ∷ 2 ∷ 3 ∷ 4 ∷ 5 ∷ 6 ∷ 7 ∷ 23 ∷ 8 ∷ []) s (drawnWithBars s)
+  pub draw-bars : (s : List ℕ) → BothAnswers (1 ∷ 2 ∷ 3 ∷ 4 ∷ 5 ∷ 6 ∷ 7 ∷ 23 ∷ 8 ∷ []) (chartedBoth (readSheet s))
   -- Draw on a label: "19 .. after 7 and before 8" (request (ii)).
   pub label : (s : List ℕ) → Answers (1 ∷ 2 ∷ 3 ∷ 4 ∷ 5 ∷ 6 ∷ 7 ∷ 23 ∷ 19 ∷ 8 ∷ []) (labelled s)
-  pub label-bars : (s : List ℕ) → BothAnswers (1 ∷ 2 ∷ 3 ∷ 4 ∷ 5 ∷ 6 ∷ 7 ∷ 23 ∷ 19 ∷ 8 ∷ []) s (labelledWithBars s)
+  pub label-bars : (s : List ℕ) → BothAnswers (1 ∷ 2 ∷ 3 ∷ 4 ∷ 5 ∷ 6 ∷ 7 ∷ 23 ∷ 19 ∷ 8 ∷ []) (chartedBothWithin fifteen (readSheet s))
   -- Read a chart. "14 .. 15 .. 16 .. 17 .. 18 .. 8."
   pub read-chart : (c : List ℕ) → Answers (14 ∷ 15 ∷ 16 ∷ 17 ∷ 18 ∷ 8 ∷ []) (chartRead c)
   -- The nearest bar: 14, 15, 9 (crate chart_reader, specs/Follow.antt).

@@ -1,33 +1,22 @@
--- The known parts of document 01 that are marked M, with the closed rows of request (v), one part more, the known sheets of requests (i), (ii), (iv), (v), (xi) and (xii), and known bars of request (x), as one list of cases.
+-- The known parts of document 01 that are marked M, with the closed rows of request (v), one part more, the known sheets of requests (i), (ii), (iii), (iv), (v), (xi) and (xii), and known bars of request (x), as one list of cases.
 -- proofs/Known.antt proves them all. (Document 01's own rows, before closing up, are in crate chart, proofs/Known.antt.)
-use mathlib.Core.Path.{_≡_}
 use mathlib.Core.List.{List, [], _∷_, _++_}
-use mathlib.Core.Option.{Option, some}
+use mathlib.Core.Option.{some}
 use Prim.Native.Nat.{ℕ}
-use lib.ListN.{length, getD}
-use Rattle.polygon.specs.Angles.{none as bare}
-use Rattle.polygon.specs.Polygon.{Edge, _—_, Polygon}
-use Rattle.polygon.specs.Tree.{piece}
+use Rattle.polygon.specs.Polygon.{Edge, _—_}
 use Rattle.codec.specs.Numbers.{bytes16}
-use Rattle.codec.specs.Answer.{Outcome, refuse, write, Answer, refusal, written}
-use Rattle.sheet.specs.Sheet.{Reading, refused, held, readSheet, pairBytes, normalSheet, ordered}
-use Rattle.edit.specs.Rules.{Edit, addEar, removeEar, flip}
-use Rattle.edit.specs.Calls.{edited}
-use Rattle.edit.specs.Model.{numberGiven}
-use Rattle.seam.specs.Join.{joinRule, joinedSheets}
-use Rattle.umbrella.specs.Values.{values}
-use Rattle.umbrella.specs.Tight.{tightPart}
-use Rattle.plan.specs.Answer.{planned}
-use Rattle.chart.specs.Chart.{Bar, barsOf, chartOf}
+use Rattle.codec.specs.Answer.{refuse, write, refusal}
+use Rattle.codec.specs.TwoOutputs.{refuseBoth, writeBoth, refusalBoth}
+use Rattle.sheet.specs.Sheet.{pairBytes}
+use Rattle.edit.specs.Rules.{addEar, removeEar}
+use Rattle.chart.specs.Chart.{Bar}
 use Rattle.nearest.specs.declared.Cell.{Cell}
 use Rattle.nearest.specs.Cells.{cell}
 use Rattle.nearest.specs.Nearest as near
-use Rattle.nearest.specs.Nearest.{Found, none, nearest}
-use Rattle.chart_reader.specs.Reader.{chartRead}
-use Rattle.chart_reader.specs.Follow.{FollowAnswer, followRefusal, nearestBar}
-use Rattle.draw.specs.Answer.{drawn}
-use Rattle.draw.specs.Label.{tape, label, chartedWithin}
-use Rattle.draw.specs.Printed.{printed}
+use Rattle.nearest.specs.Nearest.{none}
+use Rattle.chart_reader.specs.Follow.{followRefusal}
+use Rattle.draw.specs.Label.{tape, label}
+use Rattle.promises.specs.Case.{bar, Case, refusedBy, counted, charted, barred, tall, wide, turned, changed, lined, inOrder, valued, readAs, found, followed, limited, tightest, joined, joinedOf, halvedAt, halvedInto}
 
 -- a sheet without bit 2: its corner count, and its pairs as they are listed
 unfoldable pub sheet : ℕ → List Edge → List ℕ
@@ -52,75 +41,12 @@ triangleLine =
     117 ∷ 109 ∷ 98 ∷ 114 ∷ 101 ∷ 108 ∷ 108 ∷ 97 ∷ 115 ∷ 32 ∷ 49 ∷ 32 ∷ 115 ∷ 116 ∷ 101 ∷ 109 ∷ 115 ∷ 32 ∷ 48 ∷ 32 ∷ 114 ∷ 111 ∷ 119 ∷ 115 ∷ 32 ∷ 50 ∷ 32 ∷
     99 ∷ 111 ∷ 108 ∷ 117 ∷ 109 ∷ 110 ∷ 115 ∷ 32 ∷ 50 ∷ 10 ∷ []
 
--- the bars, the rows and the columns of what a sheet holds
-unfoldable pub barsIn : Reading → List Bar
-barsIn (refused k) = []
-barsIn (held p) = barsOf (chartOf p)
+-- a hexagon with (4,0) at 0.2 degrees, (0,2) at 0.1 and (2,4) at 0.3; and the pentagon on its corners 0 to 4
+abbrev pub bentHexagon : List ℕ
+bentHexagon = 11 ∷ 0 ∷ 6 ∷ 0 ∷ 4 ∷ 0 ∷ 0 ∷ 0 ∷ 0 ∷ 0 ∷ 2 ∷ 0 ∷ 2 ∷ 0 ∷ 4 ∷ 0 ∷ 2 ∷ 0 ∷ 1 ∷ 0 ∷ 3 ∷ []
 
-unfoldable pub rowsIn : Reading → ℕ
-rowsIn (refused k) = 0
-rowsIn (held p) = chartOf p .rows
-
-unfoldable pub columnsIn : Reading → ℕ
-columnsIn (refused k) = 0
-columnsIn (held p) = chartOf p .columns
-
--- the six values of its edge (a,b), in the order of document 004, chapter 6
-unfoldable pub valuesIn : Reading → ℕ → ℕ → List ℕ
-valuesIn (refused k) a b = []
-valuesIn (held p) a b = values (piece (p .ds) a b)
-
-abbrev pub bar : ℕ → ℕ → ℕ → Bar
-bar r l s = record { row = r; left = l; right = s }
-
--- a part of which only the corners are asked for
-abbrev pub corners : ℕ → Polygon
-corners n = record { n = n; ds = []; angles = bare }
-
--- a case: a sheet refused by a number; one with these levels, umbrellas and stems; with these chart bytes; with these bars; with so many rows; with so many columns; a sheet whose diagonal is turned; one that is edited; one with this line;
--- a sheet and an output, and the answer of setting in order; a sheet with these six values at the edge (a,b); a chart that is read as a sheet;
--- bars, two cells, and what is found between them; the same for a chart's bytes;
--- a limit of rows, a sheet and an output, and the answer of drawing; the sheet of the part of so many levels that has the fewest corners;
--- two sheets and a side, and what joining is to do; how many corners two parts have, a side, and the number that the rule of joining gives
-pub data Case : Type 0 where
-  refusedBy : List ℕ → ℕ → Case
-  counted : List ℕ → ℕ → ℕ → ℕ → Case
-  charted : List ℕ → List ℕ → Case
-  barred : List ℕ → List Bar → Case
-  tall : List ℕ → ℕ → Case
-  wide : List ℕ → ℕ → Case
-  turned : List ℕ → ℕ → ℕ → List ℕ → Case
-  changed : List ℕ → Edit → List ℕ → Case
-  lined : List ℕ → List ℕ → Case
-  inOrder : List ℕ → List ℕ → Answer → Case
-  valued : List ℕ → ℕ → ℕ → List ℕ → Case
-  readAs : List ℕ → List ℕ → Case
-  found : List Bar → Cell × Cell → Found → Case
-  followed : List ℕ → Cell × Cell → FollowAnswer → Case
-  limited : Option ℕ → List ℕ → List ℕ → Answer → Case
-  tightest : ℕ → List ℕ → Case
-  joined : List ℕ → List ℕ → ℕ → Outcome → Case
-  joinedOf : ℕ → ℕ → ℕ → ℕ → Case
-
-abbrev pub Holds : Case → Type 0
-Holds (refusedBy s k) = readSheet s ≡ refused k
-Holds (counted s l u t) = planned s ≡ record { number = 0; levels = l; umbrellas = u; stems = t }
-Holds (charted s bs) = drawn s ≡ write bs
-Holds (barred s bs) = barsIn (readSheet s) ≡ bs
-Holds (tall s k) = rowsIn (readSheet s) ≡ k
-Holds (wide s k) = columnsIn (readSheet s) ≡ k
-Holds (turned s a b t) = edited (flip a b) s ≡ write t
-Holds (changed s e t) = edited e s ≡ write t
-Holds (lined s bs) = printed s ≡ bs
-Holds (inOrder s out a) = written (ordered s) out ≡ a
-Holds (valued s a b xs) = valuesIn (readSheet s) a b ≡ xs
-Holds (readAs c s) = chartRead c ≡ write s
-Holds (found bs e f) = nearest (λ x. getD bs x (bar 0 0 0)) (length bs) e ≡ f
-Holds (followed c e a) = nearestBar c e ≡ a
-Holds (limited l s out a) = written (chartedWithin l (readSheet s)) out ≡ a
-Holds (tightest D s) = normalSheet (tightPart D) ≡ s
-Holds (joined s t i o) = joinedSheets s t i ≡ o
-Holds (joinedOf n m i k) = numberGiven (joinRule i (corners n) (corners m)) ≡ k
+abbrev pub bentPentagon : List ℕ
+bentPentagon = 11 ∷ 0 ∷ 5 ∷ 0 ∷ 0 ∷ 0 ∷ 2 ∷ 0 ∷ 2 ∷ 0 ∷ 4 ∷ 0 ∷ 1 ∷ 0 ∷ 3 ∷ []
 
 -- the triangle's chart with h rows and corner 1 on row r
 abbrev pub triangleChart : ℕ → ℕ → List ℕ
@@ -330,4 +256,33 @@ cases =
     ∷ joinedOf 1022 5 0 10
     ∷ joinedOf 3 1024 0 10
     ∷ joinedOf 1024 1024 1023 9
+    -- Request (iii), "Two sheets come out: corners a to b, rooted at the cut, and the rest with its old root.": x becomes x-a in the first; in the second the corners from b on move down, and the cut is a diagonal of neither
+    ∷ halvedAt (sheet 4 ((0 — 2) ∷ [])) 0 2 (writeBoth (sheet 3 []) (sheet 3 []))
+    ∷ halvedAt (sheet 5 ((1 — 3) ∷ (1 — 4) ∷ [])) 1 4 (writeBoth (sheet 4 ((0 — 2) ∷ [])) (sheet 3 []))
+    ∷ halvedAt (sheet 5 ((1 — 3) ∷ (1 — 4) ∷ [])) 1 3 (writeBoth (sheet 3 []) (sheet 4 ((1 — 3) ∷ [])))
+    ∷ halvedAt (sheet 7 ((0 — 5) ∷ (1 — 3) ∷ (1 — 5) ∷ (3 — 5) ∷ [])) 1 5 (writeBoth (sheet 5 ((0 — 2) ∷ (2 — 4) ∷ [])) (sheet 4 ((0 — 2) ∷ [])))
+    ∷ halvedAt (sheet 7 ((0 — 5) ∷ (1 — 3) ∷ (1 — 5) ∷ (3 — 5) ∷ [])) 0 5 (writeBoth (sheet 6 ((1 — 3) ∷ (1 — 5) ∷ (3 — 5) ∷ [])) (sheet 3 []))
+    -- either order; and "Joining them again at the same seam gives the part set in order."
+    ∷ halvedAt (sheet 7 ((0 — 5) ∷ (1 — 3) ∷ (1 — 5) ∷ (3 — 5) ∷ [])) 5 3 (writeBoth (sheet 3 []) (sheet 6 ((0 — 4) ∷ (1 — 3) ∷ (1 — 4) ∷ [])))
+    ∷ joined (sheet 6 ((0 — 4) ∷ (1 — 3) ∷ (1 — 4) ∷ [])) (sheet 3 []) 3 (write (sheet 7 ((0 — 5) ∷ (1 — 3) ∷ (1 — 5) ∷ (3 — 5) ∷ [])))
+    -- "Cut halves keep theirs; joined again they give the old part but for a 0 on the seam, or without angles when both halves are triangles."
+    ∷ halvedAt bentHexagon 0 4 (writeBoth bentPentagon (sheet 3 []))
+    ∷ halvedAt bentHexagon 2 0 (writeBoth (sheet 3 []) (11 ∷ 0 ∷ 5 ∷ 0 ∷ 0 ∷ 0 ∷ 3 ∷ 0 ∷ 1 ∷ 0 ∷ 3 ∷ 0 ∷ 2 ∷ 0 ∷ 3 ∷ []))
+    ∷ joined (sheet 3 []) bentPentagon 0 (write (11 ∷ 0 ∷ 6 ∷ 0 ∷ 0 ∷ 0 ∷ 2 ∷ 0 ∷ 0 ∷ 0 ∷ 4 ∷ 0 ∷ 2 ∷ 0 ∷ 4 ∷ 0 ∷ 1 ∷ 0 ∷ 0 ∷ 0 ∷ 3 ∷ []))
+    ∷ halvedAt (bentSquare 0 5) 0 2 (writeBoth (sheet 3 []) (sheet 3 []))
+    -- no bit 2 is kept
+    ∷ halvedAt numberedSquare 2 0 (writeBoth (sheet 3 []) (sheet 3 []))
+    -- "Refusals are those of turning a diagonal": the sheet's, 9, and 13 for a side, the root and equal corners
+    ∷ halvedAt (bentSquare 7 9) 9 9 (refuseBoth 23)
+    ∷ halvedAt (sheet 4 ((0 — 2) ∷ [])) 0 4 (refuseBoth 9)
+    ∷ halvedAt (sheet 4 ((0 — 2) ∷ [])) 4 4 (refuseBoth 9)
+    ∷ halvedAt (sheet 4 ((0 — 2) ∷ [])) 1 2 (refuseBoth 13)
+    ∷ halvedAt (sheet 4 ((0 — 2) ∷ [])) 0 3 (refuseBoth 13)
+    ∷ halvedAt (sheet 4 ((0 — 2) ∷ [])) 2 2 (refuseBoth 13)
+    ∷ halvedAt (sheet 4 ((0 — 2) ∷ [])) 1 3 (refuseBoth 13)
+    -- "with 8 if either output is too short.": and then neither is touched; bytes beyond the results stay
+    ∷ halvedInto (sheet 4 ((0 — 2) ∷ [])) 0 2 (9 ∷ 9 ∷ 9 ∷ 9 ∷ []) (8 ∷ 8 ∷ []) (refusalBoth 8 (9 ∷ 9 ∷ 9 ∷ 9 ∷ []) (8 ∷ 8 ∷ []))
+    ∷ halvedInto (sheet 4 ((0 — 2) ∷ [])) 0 2 (9 ∷ 9 ∷ []) (8 ∷ 8 ∷ 8 ∷ []) (refusalBoth 8 (9 ∷ 9 ∷ []) (8 ∷ 8 ∷ 8 ∷ []))
+    ∷ halvedInto (sheet 5 ((0 — 2) ∷ (0 — 3) ∷ [])) 0 3 (9 ∷ 9 ∷ 9 ∷ 9 ∷ 9 ∷ 9 ∷ 9 ∷ 9 ∷ []) (8 ∷ 8 ∷ 8 ∷ [])
+    (record { answer = record { number = 0; size = 7; bytes = 3 ∷ 0 ∷ 4 ∷ 0 ∷ 0 ∷ 0 ∷ 2 ∷ 9 ∷ [] }; count = 3; second = sheet 3 [] })
     ∷ []

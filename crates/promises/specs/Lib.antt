@@ -1,4 +1,4 @@
--- Read beside document 01, and beside requests (i), (ii), (iv), (v), (x), (xi) and (xii).
+-- Read beside document 01, and beside requests (i), (ii), (iii), (iv), (v), (x), (xi) and (xii).
 pub mod DemandOne
 pub mod DemandTwo
 pub mod DemandThree
@@ -10,4 +10,6 @@ pub mod RowsWithoutBars
 pub mod NearestBar
 pub mod LabelPrinter
 pub mod JoinedAlongSeam
+pub mod CutAlongBend
+pub mod Case
 pub mod Known

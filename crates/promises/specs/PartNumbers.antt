@@ -7,12 +7,14 @@ use Prim.Native.Nat.{ℕ, _+_}
 use lib.ListN.{length, take, getD}
 use Rattle.polygon.specs.Polygon.{Polygon}
 use Rattle.codec.specs.Answer.{Outcome, refuse, write}
+use Rattle.codec.specs.TwoOutputs.{writeBoth}
 use Rattle.sheet.specs.Sheet.{bit2, held, readSheet, ordered}
 use Rattle.sheet.specs.Skipped.{pairsEnd, skipped, OnlyThere}
 use Rattle.edit.specs.Rules.{Edit}
 use Rattle.edit.specs.Model.{taken}
 use Rattle.edit.specs.Calls.{edited, Call, lent, answers, sheetLeft}
 use Rattle.seam.specs.Join.{joinedSheets}
+use Rattle.cut.specs.Cut.{cutSheet}
 use Rattle.edit_list.specs.Result.{Result, resultOf, packedRun}
 use Rattle.log_line.specs.declared.Facts.{Facts}
 use Rattle.log_line.specs.Line.{line}
@@ -42,6 +44,7 @@ pub record SameAnswers (s t : List ℕ) : Type 0 where
   pub edit : (e : Edit) → edited e s ≡ edited e t
   pub join-first : (u : List ℕ) (i : ℕ) → joinedSheets s u i ≡ joinedSheets t u i
   pub join-second : (u : List ℕ) (i : ℕ) → joinedSheets u s i ≡ joinedSheets u t i
+  pub cut : (a b : ℕ) → cutSheet s a b ≡ cutSheet t a b
   pub drawing : SameDrawing s t
   pub run : (list front back outs : List ℕ) → SameRun (resultOf s list front back outs) (resultOf t list front back outs)
   pub numbers : (cs : List Call) → answers s cs ≡ answers t cs
@@ -53,11 +56,12 @@ pub record LeftBy (s : List ℕ) (p : Polygon) (cs : List Call) : Type 0 where
   pub some-taken : taken p (map lent cs) ≡ true → NoBit2 (sheetLeft s cs)
 
 pub record PartNumbersGo : Type 0 where
-  -- "New sheets are written without bit 2.": by Set in order, the edits, Read a chart and joining, of which "the rule in .. (i) .. that a number is kept lapses"
+  -- "New sheets are written without bit 2.": by Set in order, the edits, Read a chart, joining and cutting, of which "the rule in .. (i) and (iii) that a number is kept lapses"
   pub order : (s : List ℕ) → WritesNone (ordered s)
   pub edit : (e : Edit) (s : List ℕ) → WritesNone (edited e s)
   pub read-chart : (c : List ℕ) → WritesNone (chartRead c)
   pub join : (s t : List ℕ) (i : ℕ) → WritesNone (joinedSheets s t i)
+  pub cut : (s t u : List ℕ) (a b : ℕ) → cutSheet s a b ≡ writeBoth t u → NoBit2 t × NoBit2 u
   -- "A sheet that still has it is read and its four bytes are skipped, the result has none,"
   pub skips : (s : List ℕ) → readSheet s ≡ readSheet (skipped s)
   -- "and the log prints `-` always.": it begins `part - `

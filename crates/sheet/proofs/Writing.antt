@@ -9,14 +9,14 @@ use lib.Seq.{sets, length-take-le}
 use Rattle.polygon.specs.Polygon.{Edge}
 use Rattle.codec.specs.Numbers.{bytes16, run16}
 use Rattle.codec.proofs.Numbers.{length-run16, run16-snoc}
-use Rattle.codec.specs.Answer.{Answer, refusal, written, write}
+use Rattle.codec.specs.Answer.{Answer, refusal, whole, written, write}
 use Rattle.lists.proofs.Places.{map-next}
 use Rattle.lists.proofs.Stores.{sets-append, sets-front}
 use Rattle.codec.proofs.Answers.{written-short, written-fits}
 use Rattle.keys.specs.Keys.{edgeOf, edgesOf, keyIn, keysIn, angleIn, anglesIn}
 use Rattle.sheet.specs.declared.Head.{Head}
 use Rattle.sheet.specs.Sheet.{field, pairBytes, angleBytes, mapByte, normalSheet}
-use Rattle.sheet.specs.Held.{bit, anglesBy, partOf, BentInHand}
+use Rattle.sheet.specs.Held.{bit, anglesBy, partOf, normalLength, BentInHand}
 use Rattle.sheet.proofs.Hand.{bends-count}
 use Rattle.sheet.proofs.Normal.{pairs-length}
 
@@ -60,36 +60,40 @@ module _ {h : Head} {bs : List ℕ} (P : BentInHand h bs) (out : List ℕ) where
   abbrev bends : List ℕ
   bends = take (h .n - 3) bs
 
-  abbrev size : ℕ
-  size = 3 + 4 * (h .n - 3) + field (bit (h .angled)) (2 * (h .n - 3))
+  abbrev bytes : List ℕ
+  bytes = normalSheet (partOf h bs)
 
   pairs-size : length (pairBytes (edgesOf (keysIn bends))) ≡ 4 * (h .n - 3)
   pairs-size = omega (arith, pairs-length (edgesOf (keysIn bends)), length-map (keysIn bends) edgeOf, length-map bends keyIn, bends-count P)
 
-  sheet-size : length (normalSheet (partOf h bs)) ≡ size
+  pub sheet-size : length bytes ≡ normalLength h
   unfolding normalSheet
   sheet-size = omega (arith, pairs-size, length-append (pairBytes (edgesOf (keysIn bends))) (angleBytes (anglesBy (h .angled) bends)), rw (bends-count P) at (bytes-by (h .angled) bends))
 
-  pub too-short : length out < size → refusal 8 out ≡ written (write (normalSheet (partOf h bs))) out
-  too-short k = sym (written-short (normalSheet (partOf h bs)) out (omega (arith, sheet-size)))
+  pub too-short : length out < normalLength h → refusal 8 out ≡ written (write bytes) out
+  too-short k = sym (written-short bytes out (omega (arith, sheet-size)))
 
   abbrev pub stored : List ℕ
   stored = sets (sets (set out 0 (mapByte (h .n) (anglesBy (h .angled) []))) 1 (bytes16 (h .n))) 3 (pairBytes (edgesOf (keysIn bends)))
 
-  -- with angles or without; r is the size that the code tells
-  pub finished : (o : List ℕ) (r : ℕ) (b : Bool) → r ≡ size → h .angled ≡ b → r ≤ length out → o ≡ sets stored (3 + 4 * (h .n - 3)) (angleBytes (anglesBy b bends))
-      → _≡_ {A = Answer} (record { number = 0; size = r; bytes = o }) (written (write (normalSheet (partOf h bs))) out)
+  -- all fields are there, with angles or without
+  pub finished : (o : List ℕ) (b : Bool) → h .angled ≡ b → normalLength h ≤ length out → o ≡ sets stored (3 + 4 * (h .n - 3)) (angleBytes (anglesBy b bends))
+      → o ≡ whole bytes out .bytes
   unfolding normalSheet
-  finished o r b told a fits e =
+  finished o b a fits e =
       let es : List ℕ = pairBytes (edgesOf (keysIn bends)) in
       let vs : List ℕ = angleBytes (anglesBy (h .angled) bends) in
       let m : ℕ = mapByte (h .n) (anglesBy (h .angled) bends) in
-      let k : length (normalSheet (partOf h bs)) ≤ length out = omega (arith, sheet-size) in
       let at : 3 + 4 * (h .n - 3) ≡ 3 + length es = omega (arith, pairs-size) in
       let count : List ℕ = sets (set out 0 m) 1 (bytes16 (h .n)) in
-      let one : sets (sets count 3 es) (3 + 4 * (h .n - 3)) vs ≡ normalSheet (partOf h bs) ++ drop (length (normalSheet (partOf h bs))) out =
-      ap (λ (j : ℕ). sets (sets count 3 es) j vs) at ∙ (sym (sets-append es vs count 3) ∙ (sym (sets-append (bytes16 (h .n)) (es ++ vs) (set out 0 m) 1) ∙ sets-front (m ∷ (bytes16 (h .n) ++ (es ++ vs))) out k)) in
+      let one : sets (sets count 3 es) (3 + 4 * (h .n - 3)) vs ≡ bytes ++ drop (length bytes) out =
+      ap (λ (j : ℕ). sets (sets count 3 es) j vs) at ∙ (sym (sets-append es vs count 3) ∙ (sym (sets-append (bytes16 (h .n)) (es ++ vs) (set out 0 m) 1) ∙ sets-front (m ∷ (bytes16 (h .n) ++ (es ++ vs))) out (omega (arith, sheet-size)))) in
       let own = e ∙ sym (ap (λ (b : Bool). sets stored (3 + 4 * (h .n - 3)) (angleBytes (anglesBy b bends))) a) in
-      let b : o ≡ normalSheet (partOf h bs) ++ drop (length (normalSheet (partOf h bs))) out = rw (map-of (h .n) (h .angled) bends) at own ∙ one in
+      rw (map-of (h .n) (h .angled) bends) at own ∙ one
+
+  -- r is the size that the code tells
+  pub told-whole : (o : List ℕ) (r : ℕ) → r ≡ normalLength h → r ≤ length out → o ≡ whole bytes out .bytes
+      → _≡_ {A = Answer} (record { number = 0; size = r; bytes = o }) (written (write bytes) out)
+  told-whole o r told fits e =
       let n = told ∙ sym sheet-size in
-      (λ i. record { number = 0; size = n i; bytes = b i }) ∙ sym (written-fits (normalSheet (partOf h bs)) out k)
+      (λ i. record { number = 0; size = n i; bytes = e i }) ∙ sym (written-fits bytes out (omega (arith, sheet-size)))

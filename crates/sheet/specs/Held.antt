@@ -13,7 +13,7 @@ use Rattle.keys.specs.Keys.{keyOf, edgesOf, keysIn, anglesIn, codeOf}
 use Rattle.sheet.specs.declared.Head.{Head}
 use Rattle.sheet.specs.declared.Read.{Read}
 use Rattle.sheet.specs.declared.Read.the-variants.{Refused, Held}
-use Rattle.sheet.specs.Sheet.{Reading, refused, held, bit3, pairs, angles, readSheet}
+use Rattle.sheet.specs.Sheet.{Reading, refused, held, bit3, field, pairs, angles, readSheet}
 use Rattle.sheet.specs.Framed.{Framed}
 
 -- the part without angles of a head and a table that begins with the keys of its diagonals
@@ -69,6 +69,10 @@ SmallKeys ks = (j : ℕ) → j < length ks → getD ks j 0 < 1048576
 abbrev pub bit : Bool → ℕ
 bit true = 1
 bit false = 0
+
+-- how long the normal sheet of the part is
+abbrev pub normalLength : Head → ℕ
+normalLength h = 3 + 4 * (h .n - 3) + field (bit (h .angled)) (2 * (h .n - 3))
 
 -- a head that was read: the sheet refused, or its frame and what the head holds of it
 pub record HeadOf (s : List ℕ) (h : Head) : Type 0 where

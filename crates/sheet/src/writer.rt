@@ -5,11 +5,11 @@ ghost use mathlib.Core.List.{[], map};
 ghost use Prim.Native.Nat.{_+_, _*_, _-_, _≤_, _<_};
 ghost use lib.ListN.{length, take};
 ghost use lib.Seq.{sets};
-ghost use Rattle.codec.specs.Answer.{answered, written, write};
+ghost use Rattle.codec.specs.Answer.{answered, whole, written, write};
 ghost use Rattle.codec.specs.Numbers.{run16};
 ghost use Rattle.keys.specs.Keys.{edgesOf, keysIn, anglesIn, flatBend};
-ghost use Rattle.sheet.specs.Sheet.{field, more, normalSheet, pairBytes, mapByte};
-ghost use Rattle.sheet.specs.Held.{bit, polygonOf, InHand, SmallKeys, partOf, anglesBy, BentInHand};
+ghost use Rattle.sheet.specs.Sheet.{more, normalSheet, pairBytes, mapByte};
+ghost use Rattle.sheet.specs.Held.{polygonOf, InHand, SmallKeys, partOf, anglesBy, normalLength, BentInHand};
 use crate::Head;
 use codec::Written;
 use codec::put16;
@@ -63,32 +63,41 @@ fn put_angles(out: &mut [u8], at: usize, bends: &[u32])
 }
 
 // How long the sheet of a part is in normal order.
-fn normal_size(h: Head) -> usize
+pub fn normal_size(h: Head) -> usize
     requires { ⌜ (3 ≤ h .n) × (h .n ≤ 1024) ⌝ }
-    ensures { λ r. ⌜ r ≡ 3 + 4 * (h .n - 3) + field (bit (h .angled)) (2 * (h .n - 3)) ⌝ }
+    ensures { λ r. ⌜ r ≡ normalLength h ⌝ }
 {
     let m = h.n - 3;
     if h.angled { 3 + m * 6 } else { 3 + m * 4 }
 }
 
-// Writes the part of a head and its bends in normal order, if the output is long enough.
-pub fn write_sheet(h: Head, bends: &[u32], out: &mut [u8]) -> Written
-    requires { ⌜ BentInHand h (now bends) ⌝ }
-    ensures { λ r. ⌜ answered r (now (out .exit)) ≡ written (write (normalSheet (partOf h (now (bends .entry))))) (now (out .entry)) ⌝ }
+// Writes the part of a head and its bends in normal order into an output that is long enough.
+pub fn put_sheet(h: Head, bends: &[u32], out: &mut [u8])
+    requires part { ⌜ BentInHand h (now bends) ⌝ }
+    requires room { ⌜ normalLength h ≤ length (now out) ⌝ }
+    ensures { λ _. ⌜ now (out .exit) ≡ whole (normalSheet (partOf h (now (bends .entry)))) (now (out .entry)) .bytes ⌝ }
 {
     let n = h.n;
     let angled = h.angled;
     let m = n - 3;
-    let size = normal_size(h);
-    if out.len() < size {
-        return Written::Refused(8);
-    }
     out[0] = map_byte(h);
     put16(out, 1, n);
     put_edges(out, 3, &bends[..m]);
     if angled {
         put_angles(out, 3 + 4 * m, &bends[..m]);
     }
+}
+
+// The same if the output is long enough.
+pub fn write_sheet(h: Head, bends: &[u32], out: &mut [u8]) -> Written
+    requires { ⌜ BentInHand h (now bends) ⌝ }
+    ensures { λ r. ⌜ answered r (now (out .exit)) ≡ written (write (normalSheet (partOf h (now (bends .entry))))) (now (out .entry)) ⌝ }
+{
+    let size = normal_size(h);
+    if out.len() < size {
+        return Written::Refused(8);
+    }
+    put_sheet(h, bends, out);
     Written::Bytes(size)
 }
 

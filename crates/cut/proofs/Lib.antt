@@ -1,0 +1,15 @@
+pub mod Corners
+pub mod Seam
+pub mod Pruned
+pub mod Reglued
+pub mod Valid
+pub mod Angles
+pub mod Rejoined
+pub mod Back
+pub mod Answers
+pub mod Theorems
+pub mod Edges
+pub mod Splitting
+pub mod Holding
+pub mod Writing
+pub mod Cutting
