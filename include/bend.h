@@ -28,7 +28,7 @@
  *    5  some pair is no diagonal: a side, equal corners, or a corner >= n
  *    6  a pair is repeated, either way round
  *    7  two diagonals cross
- *    8  the output is shorter than the result
+ *    8  the output is shorter than the result, or one of two outputs
  *    9  a side or corner that the call names is not below n, or the side to join
  *       on is the root; of two cells, one lies outside the chart, or they are not
  *       of one row or column
@@ -36,7 +36,7 @@
  *       more than 1,024
  *   11  the part is a triangle and can lose no corner
  *   12  a diagonal ends at the corner to be taken off
- *   13  the part lacks the diagonal to be turned
+ *   13  the part lacks the diagonal to be turned or cut
  *   14  the chart has a wrong length, a corner count out of range, or one of
  *       bits 1-7 in a map byte
  *   15  a bar breaks its rule
@@ -51,8 +51,8 @@
  *   35  an edit of the list lends more than one of the buffers has
  *
  * The first that applies, in the order given at each function, is returned; the
- * other bits are then 0 and no byte of the output is changed. If the operation
- * was done, the bytes of the output beyond the result stay as they were.
+ * other bits are then 0 and no byte of any output is changed. If the operation
+ * was done, the bytes of an output beyond its result stay as they were.
  *
  * The inputs are only read: two of them may be the same bytes, or overlap. No output
  * may overlap an input or another output. No pointer may be null, not even with a
@@ -122,6 +122,23 @@ uint64_t bend_flip(const uint8_t *sheet, size_t sheet_len, size_t a, size_t b,
 uint64_t bend_join(const uint8_t *first, size_t first_len,
                    const uint8_t *second, size_t second_len, size_t side,
                    uint8_t *out, size_t out_len);
+
+/*
+ * Cut a part along the diagonal between a and b, named in either order; say a < b.
+ * The inner part has the corners a to b: corner x becomes x - a, and the cut is its
+ * root. The rest has the others, with a, b and the old root: corners up to a stay,
+ * b and higher ones move down by b - a - 1, and the cut is its side a. Angles stay
+ * with their diagonals; the cut's is dropped. Writes both sheets in normal order,
+ * each without bit 3 if it is a triangle's, and gives both lengths. Neither has more
+ * levels than the whole. bend_join with the rest as the first sheet, the inner part
+ * as the second, and side a gives the part back, but for the angle 0 at the seam, or
+ * without angles if both are triangles.
+ * Refusals: 1 to 7 and 23 as for bend_normalize; 9; 13; 8, if either output is
+ * shorter than its result: both are measured before either is written.
+ */
+uint64_t bend_cut(const uint8_t *sheet, size_t sheet_len, size_t a, size_t b,
+                  uint8_t *inner, size_t inner_len,
+                  uint8_t *rest, size_t rest_len);
 
 /*
  * Run a list of edits, from the sheet `first`. Each edit reads the sheet that
@@ -206,6 +223,18 @@ static inline unsigned bend_number(uint64_t answer)
 static inline size_t bend_length(uint64_t answer)
 {
     return (size_t)(answer >> 16);
+}
+
+/* The length of the inner part's sheet, in an answer of bend_cut; 0 if refused. */
+static inline size_t bend_inner_length(uint64_t answer)
+{
+    return (size_t)(answer >> 16 & 0xffff);
+}
+
+/* The length of the rest's sheet, in an answer of bend_cut; 0 if refused. */
+static inline size_t bend_rest_length(uint64_t answer)
+{
+    return (size_t)(answer >> 32 & 0xffff);
 }
 
 /* The place in an answer of bend_run_edits: 0 first, 1 front, 2 back. */

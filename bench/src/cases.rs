@@ -3,6 +3,8 @@
 
 #[cfg(feature = "read_chart")]
 use crate::charts;
+#[cfg(feature = "cut")]
+use crate::cuts;
 #[cfg(feature = "draw")]
 use crate::drawings;
 #[cfg(feature = "join")]
@@ -251,6 +253,8 @@ pub fn all() -> Vec<Case> {
     }
     #[cfg(feature = "join")]
     cases.extend(joins::all(sizes));
+    #[cfg(feature = "cut")]
+    cases.extend(cuts::all(sizes));
     #[cfg(feature = "run_edits")]
     cases.extend(sizes.map(|n| {
         case(

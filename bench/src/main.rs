@@ -6,6 +6,8 @@
 mod cases;
 #[cfg(feature = "read_chart")]
 mod charts;
+#[cfg(feature = "cut")]
+mod cuts;
 #[cfg(feature = "draw")]
 mod drawings;
 #[cfg(feature = "join")]

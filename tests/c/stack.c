@@ -1,9 +1,9 @@
 /*
  * Calls every function on the sheets that the arguments name, each sheet in a
  * thread with 128 KiB of stack: sets it in order, plans, draws, also on a label, reads
- * the chart back, asks it for the nearest bar, edits it, and joins it and two halves.
- * The last line is `N passed, M failed`; the exit status is 1 if any check failed. A
- * stack that is too small ends the program.
+ * the chart back, asks it for the nearest bar, edits it, joins it and two halves, and cuts
+ * it along each diagonal. The last line is `N passed, M failed`; the exit status is 1 if
+ * any check failed. A stack that is too small ends the program.
  */
 #include "bend.h"
 
@@ -18,6 +18,7 @@ static size_t sheet_len;
 static uint8_t chart[20465];
 static uint8_t out[6144];
 static uint8_t back[6144];
+static uint8_t again[6144];
 static uint8_t half[3 + 6 * 510];
 
 static unsigned number16(const uint8_t *at)
@@ -70,6 +71,19 @@ static int join_all(unsigned n)
     return holds && bend_number(joined) == 0 && bend_length(joined) == 6129 && number16(out + 1) == 1024;
 }
 
+/* Whether the sheet is cut along each of its diagonals, and the halves are joined again to a part of as many corners. */
+static int cut_all(unsigned n)
+{
+    int holds = 1;
+    for (const uint8_t *pair = sheet + 3; holds && pair < sheet + 3 + 4 * (n - 3); pair += 4) {
+        unsigned a = number16(pair), b = number16(pair + 2);
+        uint64_t cut = bend_cut(sheet, sheet_len, a, b, out, sizeof out, back, sizeof back);
+        uint64_t joined = bend_join(back, bend_rest_length(cut), out, bend_inner_length(cut), a < b ? a : b, again, sizeof again);
+        holds = bend_number(cut) == 0 && bend_number(joined) == 0 && number16(again + 1) == n;
+    }
+    return holds;
+}
+
 /* The sheet if every function does what it should, else nothing. */
 static void *call_all(void *unused)
 {
@@ -87,7 +101,7 @@ static void *call_all(void *unused)
     holds = holds && bend_number(bend_plan(sheet, sheet_len)) == 0;
     holds = holds && bend_number(bend_add_ear(sheet, sheet_len, 0, out, sizeof out)) == (n == 1024 ? 10 : 0);
     holds = holds && bend_number(bend_flip(sheet, sheet_len, a, b, out, sizeof out)) == 0;
-    holds = holds && take_off(n) && run_list(a, b) && join_all(n);
+    holds = holds && take_off(n) && run_list(a, b) && join_all(n) && cut_all(n);
     return holds ? sheet : NULL;
 }
 

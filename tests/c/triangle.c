@@ -4,11 +4,12 @@
  * edits is run on it, refused, and run with no edit taken. It is drawn, and charts
  * of it are read, with an empty row and without. A square with an angle is set in
  * order, turned, planned, drawn and edited. On the chart of a part with 7 corners
- * the nearest bar is asked for. Parts are drawn on labels, and joined. The last line is
- * `N passed, M failed`; the exit status is 1 if any check failed.
+ * the nearest bar is asked for. Parts are drawn on labels, joined, and cut. The last line
+ * is `N passed, M failed`; the exit status is 1 if any check failed.
  */
 #include "bend.h"
 #include "check.h"
+#include "cut.h"
 #include "join.h"
 #include "label.h"
 
@@ -250,6 +251,7 @@ int main(void)
     nearest_bars();
     labels();
     joins();
+    cuts();
     through_a_triangle();
 
     memset(not_run, 0xaa, sizeof not_run);

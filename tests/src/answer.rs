@@ -1,7 +1,8 @@
 //! Refusals and their numbers.
 //! Follows "Operations and their refusals" of document 01; by request (xi) "refusal
 //! 1 now covers bits 4 to 7", and there is refusal 23; by request (ii) there is 19; by
-//! request (i) there are 9 and 10 of two joined parts.
+//! request (i) there are 9 and 10 of two joined parts; by request (iii) 8 and 13 of a part
+//! that is cut.
 
 /// Why an operation refuses; the value is the number that it gives.
 #[derive(Clone, Copy, Debug, PartialEq, Eq, PartialOrd, Ord)]
@@ -22,7 +23,7 @@ pub enum Refusal {
     Repeated = 6,
     /// Two diagonals cross.
     Crossing = 7,
-    /// The output is shorter than the result.
+    /// The output is shorter than the result, or one of two outputs.
     OutputShort = 8,
     /// A number that an edit names is too high; the side to join on is the root or none;
     /// of two cells that the nearest bar is asked for, one lies outside the chart or
@@ -34,7 +35,7 @@ pub enum Refusal {
     Triangle = 11,
     /// A diagonal ends at the corner to be taken off.
     NotAnEar = 12,
-    /// The part lacks the diagonal to be turned.
+    /// The part lacks the diagonal to be turned or cut.
     Lacking = 13,
     /// The chart's length, corner count or a map byte is wrong.
     ChartForm = 14,
@@ -61,3 +62,6 @@ impl Refusal {
 
 /// What an operation that writes gives: the length of its result, or a refusal.
 pub type Written = Result<usize, Refusal>;
+
+/// The same of an operation with two outputs: the lengths of both results.
+pub type WrittenTwo = Result<[usize; 2], Refusal>;

@@ -29,6 +29,17 @@ fn below(n: Corner, number: u64) -> Result<Corner, Refusal> {
     }
 }
 
+/// The diagonal between a and b, named in either order, or why it can be neither turned
+/// nor cut: 9 and 13.
+pub fn diagonal(part: &Part, a: u64, b: u64) -> Result<Pair, Refusal> {
+    let pair = lower_first((below(part.n, a)?, below(part.n, b)?));
+    if part.has(pair) {
+        Ok(pair)
+    } else {
+        Err(Refusal::Lacking)
+    }
+}
+
 impl Edit {
     /// Does the edit to the part. A refused edit changes nothing.
     pub fn apply(self, part: &mut Part) -> Result<(), Refusal> {
@@ -50,13 +61,7 @@ impl Edit {
                 }
                 take_off(part, k);
             }
-            Edit::Turn { a, b } => {
-                let diagonal = lower_first((below(part.n, a)?, below(part.n, b)?));
-                if !part.has(diagonal) {
-                    return Err(Refusal::Lacking);
-                }
-                turn(part, diagonal);
-            }
+            Edit::Turn { a, b } => turn(part, diagonal(part, a, b)?),
         }
         Ok(())
     }

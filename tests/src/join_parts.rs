@@ -76,69 +76,27 @@ pub fn at_either_bound(levels: u16) -> [Halves; 3] {
 #[cfg(test)]
 mod tests {
     use super::*;
+    use crate::cut::cut;
+    use crate::cut_joined::cut_again;
     use crate::label_parts::any_fewest;
-    use crate::part::{Angle, Pair};
     use crate::plan::Pieces;
     use crate::random::Random;
-    use crate::shapes::{all_parts, part, SHAPES};
+    use crate::shapes::{all_parts, kinds, part, SHAPES};
 
     fn levels(part: &Part) -> u16 {
         Pieces::of(part).counts().levels
     }
 
-    /// What is left of the part: `n` corners, and some of the diagonals under new numbers.
-    fn kept(
-        part: &Part,
-        n: Corner,
-        keep: impl Fn(Pair) -> bool,
-        new: impl Fn(Corner) -> Corner,
-    ) -> Part {
-        let mut places: Vec<usize> = (0..part.diagonals.len()).collect();
-        places.retain(|&place| keep(part.diagonals[place]));
-        let renumbered = |place: &usize| {
-            let (a, b) = part.diagonals[*place];
-            (new(a), new(b))
-        };
-        let listed = |angles: &Vec<Angle>| places.iter().map(|&place| angles[place]).collect();
-        Part {
-            n,
-            diagonals: places.iter().map(renumbered).collect(),
-            angles: part.angles.as_ref().map(listed),
-        }
-    }
-
-    /// The piece (a,b), from corner 0 on.
-    fn piece(part: &Part, (a, b): Pair) -> Part {
-        let inside = |(p, q): Pair| a <= p && q <= b && (p, q) != (a, b);
-        kept(part, b - a + 1, inside, |x| x - a)
-    }
-
-    /// The part without the piece (a,b), of which the side is left.
-    fn rest(part: &Part, (a, b): Pair) -> Part {
-        let outside = |(p, q): Pair| p < a || q > b;
-        let gone = b - a - 1;
-        let down = |x: Corner| if x <= a { x } else { x - gone };
-        kept(part, part.n - gone, outside, down)
-    }
-
-    /// The parts joined, and the joined one taken apart at the seam: "The seam turns
-    /// into a diagonal", the second is the piece on it and the first the rest.
+    /// The parts joined, and the joined one cut at the seam: "The seam turns into a
+    /// diagonal", the second is the piece on it and the first the rest.
     fn check(first: &Part, second: &Part, i: Corner) -> Part {
         let whole = join(first, second, i.into()).unwrap();
         let (n, m) = (first.n, second.n);
         assert!(whole.is_valid() && whole.n == n + m - 2, "{whole:?}");
         let seam = (i, i + m - 1);
+        let halves = cut(&whole, seam.0.into(), seam.1.into());
+        assert_eq!(halves, Ok(cut_again(first, second)));
         let angled = first.angles.is_some() || second.angles.is_some();
-        let with_angles = |part: &Part| {
-            let zeros = || vec![0; part.diagonals.len()];
-            let angles = angled.then(|| part.angles.clone().unwrap_or_else(zeros));
-            Part {
-                angles,
-                ..part.clone()
-            }
-        };
-        assert_eq!(piece(&whole, seam), with_angles(second));
-        assert_eq!(rest(&whole, seam), with_angles(first));
         let place = whole.diagonals.binary_search(&seam).unwrap();
         let angle = whole.angles.as_ref().map(|angles| angles[place]);
         assert_eq!(angle, angled.then_some(0));
@@ -157,14 +115,6 @@ mod tests {
         );
         assert!(joined <= one.max(other) + 1, "{whole:?}");
         all
-    }
-
-    /// The part without angles and, unless it is a triangle, with different ones.
-    fn kinds(part: &Part) -> Vec<Part> {
-        let angles: Vec<Angle> = (1..part.n as Angle - 2).collect();
-        let mut kinds = vec![part.clone(), part.clone().angled(&angles)];
-        kinds.truncate(if part.n == 3 { 1 } else { 2 });
-        kinds
     }
 
     #[test]

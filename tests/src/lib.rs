@@ -1,7 +1,7 @@
 //! A model of the operations on bend charts, written sentence by sentence from
-//! document 01 and from requests (i), (ii), (iv), (v), (x), (xi) and (xii) of document
-//! 02, (iv) with chapter 6 of document 004. It shares nothing with the library that it
-//! is compared with.
+//! document 01 and from requests (i) to (v), (x), (xi) and (xii) of document 02, (iv) with
+//! chapter 6 of document 004. It shares nothing with the library that it is compared
+//! with.
 //!
 //! Each module's header names the heading of document 01 that it follows, and the
 //! request where it rules instead.
@@ -10,6 +10,8 @@ pub mod answer;
 pub mod changes;
 pub mod chart;
 pub mod closing;
+pub mod cut;
+pub mod cut_joined;
 pub mod depth;
 pub mod depth_parts;
 pub mod depth_search;

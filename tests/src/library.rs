@@ -39,6 +39,17 @@ extern "C" {
         out: *mut u8,
         out_len: usize,
     ) -> u64;
+    #[cfg(feature = "cut")]
+    fn bend_cut(
+        sheet: *const u8,
+        sheet_len: usize,
+        a: usize,
+        b: usize,
+        inner: *mut u8,
+        inner_len: usize,
+        rest: *mut u8,
+        rest_len: usize,
+    ) -> u64;
     #[cfg(feature = "run_edits")]
     fn bend_run_edits(
         first: *const u8,
@@ -130,6 +141,23 @@ pub fn join(first: &[u8], second: &[u8], side: usize, out: &mut [u8]) -> u64 {
             side,
             out.as_mut_ptr(),
             out.len(),
+        )
+    }
+}
+
+/// The two outputs are the inner part's and the rest's.
+#[cfg(feature = "cut")]
+pub fn cut(sheet: &[u8], a: usize, b: usize, [inner, rest]: [&mut [u8]; 2]) -> u64 {
+    unsafe {
+        bend_cut(
+            sheet.as_ptr(),
+            sheet.len(),
+            a,
+            b,
+            inner.as_mut_ptr(),
+            inner.len(),
+            rest.as_mut_ptr(),
+            rest.len(),
         )
     }
 }

@@ -1,7 +1,7 @@
 //! Parts to test with: all small ones, and random large ones of several shapes.
 //! Follows "The part" of document 01.
 
-use crate::part::{Corner, Pair, Part};
+use crate::part::{Angle, Corner, Pair, Part};
 use crate::random::Random;
 
 /// How the triangles of a random part lie.
@@ -165,6 +165,14 @@ pub fn rotated(part: &Part, turn: Corner) -> Part {
         .map(|&(a, b)| ((a + turn) % n, (b + turn) % n))
         .collect();
     Part::new(n, &pairs)
+}
+
+/// The part without angles and, unless it is a triangle, with different ones, none 0.
+pub fn kinds(part: &Part) -> Vec<Part> {
+    let angles: Vec<Angle> = (1..part.n as Angle - 2).collect();
+    let mut kinds = vec![part.clone(), part.clone().angled(&angles)];
+    kinds.truncate(if part.n == 3 { 1 } else { 2 });
+    kinds
 }
 
 /// Every part with `n` corners.

@@ -1,13 +1,13 @@
 //! Writes what the library answers to the sheets of the folder that the argument
 //! names, and to the sheets of parts that the comparison plans and draws: a line for
 //! each call of Plan, Set in order, Draw, and Read a chart on the chart drawn; behind
-//! these, on charts drawn, for calls of the nearest bar; then for Draw on a label; at the
-//! end for Join. (Draw with the bar list and the log line are no exports for C.)
+//! these, on charts drawn, for calls of the nearest bar; then for Draw on a label; then for
+//! Join; at the end for Cut. (Draw with the bar list and the log line are no exports for C.)
 //!
-//! A line has the sheet's digest (for Join that of both and the side), the operation, the
-//! number and the values of the answer and, if the operation writes, a digest of the lent
-//! bytes and of those round them. Every run writes the same lines, so that two libraries
-//! can be compared.
+//! A line has the sheet's digest (for Join that of both and the side, for Cut with the two
+//! corners), the operation, the number and the values of the answer and, if the operation
+//! writes, a digest of the lent bytes and of those round them. Every run writes the same
+//! lines, so that two libraries can be compared.
 
 // The comparison's own sheets; `Tests` below stands for its tests.
 #[allow(dead_code)]
@@ -216,6 +216,47 @@ fn joins(tests: &mut Tests) {
     });
 }
 
+/// The line of Cut.
+fn cut_line(sheet: &[u8], (a, b): (u64, u64), lent: [usize; 2]) {
+    let name = digest(&[sheet, &a.to_be_bytes(), &b.to_be_bytes()].concat());
+    let mut outputs = lent.map(guarded);
+    let both = outputs.each_mut().map(|bytes| inside(bytes));
+    let answer = library::cut(sheet, a as usize, b as usize, both);
+    let [number, inner, rest] = [answer & 0xffff, answer >> 16 & 0xffff, answer >> 32];
+    let output = digest(&outputs.concat());
+    println!("{name:016x} cut {number} {inner} {rest} {output:016x}");
+}
+
+/// Cut, for small parts at every two numbers up to n, and for parts of every shape along
+/// some of their diagonals: with outputs that are long enough, and with either empty.
+fn cuts(tests: &mut Tests) {
+    tests.test("cut", || {
+        let mut random = Random::new(108);
+        for part in (3..=6).flat_map(all_parts) {
+            let n = u64::from(part.n);
+            for (a, b) in (0..=n).flat_map(|a| (0..=n).map(move |b| (a, b))) {
+                for part in both_kinds(&part, &mut random) {
+                    cut_line(&any_sheet(&part, &mut random), (a, b), [LONGEST; 2]);
+                }
+            }
+        }
+        for (n, shape) in [20, 300, 1024]
+            .into_iter()
+            .flat_map(|n| SHAPES.map(|s| (n, s)))
+        {
+            let part = maybe_angled(part(shape, n, &mut random), &mut random);
+            let sheet = any_sheet(&part, &mut random);
+            for _ in 0..20 {
+                let &(a, b) = random.pick(&part.diagonals);
+                for lent in [[LONGEST; 2], [0, LONGEST], [LONGEST, 0]] {
+                    cut_line(&sheet, (b.into(), a.into()), lent);
+                }
+            }
+        }
+        Ok(())
+    });
+}
+
 fn main() -> io::Result<()> {
     let folder = env::args().nth(1).expect("a folder of sheets");
     let tests = &mut Tests;
@@ -237,5 +278,6 @@ fn main() -> io::Result<()> {
     });
     labels(tests);
     joins(tests);
+    cuts(tests);
     Ok(())
 }

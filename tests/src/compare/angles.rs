@@ -4,7 +4,7 @@
 //! names.
 
 use super::any_edits::one_of_each_kind;
-use super::calls::{number_due, Call};
+use super::calls::Call;
 use super::checks::Outcome;
 use super::sheets::{any_angle, any_angled, any_four, any_order, any_part, any_sheet};
 use super::sheets::{ordered, pairs_end, ORDERS};
@@ -114,7 +114,7 @@ fn map_bytes_and_lengths<C: Call>(
                 let sheet = [&[map], &sheet[1..]].concat();
                 (0..=sheet.len()).try_for_each(|length| {
                     let sheet = &sheet[..length];
-                    call.gives(number_due(n, sheet), sheet, room)
+                    call.gives(call.due(n, sheet, room), sheet, room)
                 })
             };
             for (call, room) in calls(&part, &one_of_each_kind(&part, &mut random)) {
@@ -245,11 +245,7 @@ fn damaged_behind_the_pairs<C: Call>(
                 _ => {}
             }
             for (call, room) in calls(&part, &one_of_each_kind(&part, &mut random)) {
-                let due = match number_due(part.n, &sheet) {
-                    0 => call.on_valid(room, room),
-                    number => number,
-                };
-                call.gives(due, &sheet, room)?;
+                call.gives(call.due(part.n, &sheet, room), &sheet, room)?;
             }
         }
         Ok(())
@@ -271,7 +267,11 @@ pub fn output_lengths<C: Call>(
             let part = any_bent(n, &mut random);
             let sheet = any_sheet(&part, &mut random);
             for (call, room) in calls(&part, &one_of_each_kind(&part, &mut random)) {
-                let first = if n < 25 { 0 } else { room - 2 * usize::from(n) };
+                let first = if n < 25 {
+                    0
+                } else {
+                    room.saturating_sub(2 * usize::from(n))
+                };
                 let lengths = (first..=room + 1).step_by(1 + usize::from(n) / 300);
                 for lent in lengths.chain([room - 1, room]) {
                     call.gives(call.on_valid(lent, room), &sheet, lent)?;

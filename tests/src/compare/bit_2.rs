@@ -4,7 +4,7 @@
 //! names.
 
 use super::any_edits::{all_edits, one_of_each_kind, taken_edits};
-use super::calls::{number_due, Call};
+use super::calls::Call;
 use super::sheets::{any_four, any_order, any_part, both_kinds, length_of, maybe_angled};
 use super::sheets::{ordered, ORDERS};
 use super::Tests;
@@ -43,7 +43,7 @@ fn map_bytes_and_lengths<C: Call>(
                     sheet[0] = map;
                     for length in 0..=sheet.len() {
                         let sheet = &sheet[..length];
-                        call.gives(number_due(n, sheet), sheet, room)?;
+                        call.gives(call.due(n, sheet, room), sheet, room)?;
                     }
                 }
             }

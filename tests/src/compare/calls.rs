@@ -23,6 +23,15 @@ pub trait Call: Copy + Debug {
         }
     }
 
+    /// The number for the sheet of a part with `n` corners, as `number_due` has it, and
+    /// an output of the length that the result needs.
+    fn due(self, n: Corner, sheet: &[u8], room: usize) -> u16 {
+        match number_due(n, sheet) {
+            0 => self.on_valid(room, room),
+            number => number,
+        }
+    }
+
     /// Both sides, and the number that the test was made to get.
     fn gives(self, number: u16, sheet: &[u8], lent: usize) -> Outcome {
         must_be(number, self.by_library(sheet, &mut vec![0; lent]), sheet)
@@ -77,7 +86,7 @@ pub trait Call: Copy + Debug {
 /// or one of bits 4 to 7 set. "2: under 3 bytes. .. 4: bit 1 disagrees with n. 2:
 /// length not exact", of which the four bytes of bit 2 count. 23, last: an angle
 /// outside -1,800 to 1,800, or bit 3 with n = 3.
-pub fn number_due(n: Corner, sheet: &[u8]) -> u16 {
+fn number_due(n: Corner, sheet: &[u8]) -> u16 {
     let angles = 2 * usize::from(n - 3);
     let behind_pairs = match (sheet.first(), n) {
         (None | Some(0 | 2 | 4 | 6 | 8 | 10 | 12 | 14 | 16..), _) => return 1,

@@ -1,7 +1,7 @@
 //! Calling the library and the model side by side, and what is told if they
 //! differ.
 
-use bend_tests::answer::Written;
+use bend_tests::answer::{Refusal, Written};
 use std::fmt::Write;
 use std::hint::black_box;
 
@@ -41,10 +41,14 @@ pub fn inside(bytes: &mut [u8]) -> &mut [u8] {
     &mut bytes[GUARD..end]
 }
 
-/// The model's answer as the library packs it.
-pub fn packed(answer: Written) -> u64 {
+/// The model's answer as the library packs it: the length of one result or, of two, 16
+/// bits each.
+pub fn packed<const N: usize>(answer: Result<[usize; N], Refusal>) -> u64 {
     match answer {
-        Ok(length) => (length as u64) << 16,
+        Ok(lengths) => {
+            let placed = |(place, length)| (length as u64) << (16 * place);
+            (1..).zip(lengths).map(placed).sum()
+        }
         Err(refusal) => u64::from(refusal.number()),
     }
 }
@@ -58,33 +62,56 @@ pub fn same_writing(
     library: impl FnOnce(&[u8], &mut [u8]) -> u64,
     model: impl FnOnce(&[u8], &mut [u8]) -> Written,
 ) -> Outcome {
-    let mut by_library = guarded(lent);
+    same_writings(
+        input,
+        [lent],
+        |input, [out]| library(input, out),
+        |input, [out]| model(input, out).map(|length| [length]),
+    )
+}
+
+/// The same with several outputs.
+pub fn same_writings<const N: usize>(
+    input: &[u8],
+    lent: [usize; N],
+    library: impl FnOnce(&[u8], [&mut [u8]; N]) -> u64,
+    model: impl FnOnce(&[u8], [&mut [u8]; N]) -> Result<[usize; N], Refusal>,
+) -> Outcome {
+    let mut by_library = lent.map(guarded);
     let mut by_model = by_library.clone();
     let kept_input = input.to_vec();
-    let answer = library(input, inside(&mut by_library));
+    let answer = library(input, by_library.each_mut().map(|bytes| inside(bytes)));
     let input = black_box(input);
-    let expected = packed(model(&kept_input, inside(&mut by_model)));
+    let outputs = by_model.each_mut().map(|bytes| inside(bytes));
+    let expected = packed(model(&kept_input, outputs));
     if answer == expected && by_library == by_model && input == kept_input {
         return Ok(());
     }
-    let told = |answer: u64, bytes: &[u8]| {
-        let (number, length) = (answer & 0xffff, answer >> 16);
-        format!("number {number}, length {length}, output {}", hex(bytes))
-    };
-    let mut library = told(answer, &by_library[GUARD..GUARD + lent]);
-    if by_library[..GUARD] != by_model[..GUARD]
-        || by_library[GUARD + lent..] != by_model[GUARD + lent..]
-    {
+    let mut library = told(answer, &by_library);
+    let around = |bytes: &Vec<u8>| [&bytes[..GUARD], &bytes[bytes.len() - GUARD..]].concat();
+    if by_library.each_ref().map(around) != by_model.each_ref().map(around) {
         library += ", bytes outside the output changed";
     }
     if input != kept_input {
         library += ", input changed";
     }
+    let lengths = lent.map(|length| length.to_string()).join(" and ");
     Err(Failure {
-        input: format!("{} with {lent} bytes of output", hex(&kept_input)),
+        input: format!("{} with {lengths} bytes of output", hex(&kept_input)),
         library,
-        model: told(expected, &by_model[GUARD..GUARD + lent]),
+        model: told(expected, &by_model),
     })
+}
+
+/// An answer in words, with the outputs, of which each has its length in 16 bits.
+fn told<const N: usize>(answer: u64, outputs: &[Vec<u8>; N]) -> String {
+    let mut text = format!("answer {answer:#x}, number {}", answer & 0xffff);
+    for (place, bytes) in outputs.iter().enumerate() {
+        let length = answer >> (16 + 16 * place) & 0xffff;
+        let output = hex(&bytes[GUARD..bytes.len() - GUARD]);
+        let _ = write!(text, ", length {length}, output {output}");
+    }
+    text
 }
 
 /// The bytes in hexadecimal, or `-` for none.

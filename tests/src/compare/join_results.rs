@@ -7,16 +7,15 @@ use super::checks::{must_be, same_bytes, Outcome};
 use super::join::every_two_shapes;
 use super::join_calls::{any_sheets, joined, number_due};
 use super::sheets::{any_part, any_sheet, maybe_angled, ENOUGH};
+use super::written::is_sheet_of;
+#[cfg(feature = "plan")]
+use super::written::levels;
 use super::Tests;
 use crate::library;
-#[cfg(all(feature = "plan", feature = "draw"))]
-use bend_tests::draw::chart;
 use bend_tests::join::join;
 #[cfg(feature = "plan")]
 use bend_tests::join_parts;
 use bend_tests::part::{Corner, Part};
-#[cfg(all(feature = "plan", feature = "draw"))]
-use bend_tests::plan::Pieces;
 use bend_tests::random::Random;
 use bend_tests::shapes::all_parts;
 use bend_tests::sheet::normal;
@@ -26,25 +25,6 @@ pub fn run(tests: &mut Tests) {
     chains(tests);
     #[cfg(feature = "plan")]
     at_either_bound(tests);
-}
-
-/// The sheet that the library wrote is the part's in normal order, so that setting it in
-/// order changes nothing; its plan and its chart are the part's.
-fn is_sheet_of(part: &Part, written: &[u8]) -> Outcome {
-    same_bytes(written, written, &normal(part))?;
-    #[cfg(feature = "normalize")]
-    {
-        let mut out = vec![0; written.len()];
-        must_be(0, library::normalize(written, &mut out), written)?;
-        same_bytes(written, &out, written)?;
-    }
-    #[cfg(all(feature = "plan", feature = "draw"))]
-    {
-        let plan = Pieces::of(part).plan();
-        super::plan::gives(written, Ok(plan.counts))?;
-        super::draw::draws(written, &chart(part, &plan))?;
-    }
-    Ok(())
 }
 
 /// Two parts that can be joined, in any order: the joined part, and what becomes of it.
@@ -128,12 +108,6 @@ fn chains(tests: &mut Tests) {
             (0..count).try_for_each(|_| chain(most, &mut random))
         });
     }
-}
-
-/// The levels that the library gives for the sheet.
-#[cfg(feature = "plan")]
-fn levels(sheet: &[u8]) -> u64 {
-    library::plan(sheet) >> 16 & 0xffff
 }
 
 /// "Its levels are at least those of either half and at most their sum."

@@ -4,6 +4,22 @@
 mod chart_faults;
 #[cfg(all(feature = "draw", feature = "read_chart"))]
 mod closing;
+#[cfg(feature = "cut")]
+mod cut;
+#[cfg(feature = "cut")]
+mod cut_calls;
+#[cfg(all(feature = "cut", feature = "edits"))]
+mod cut_edits;
+#[cfg(feature = "cut")]
+mod cut_faults;
+#[cfg(all(feature = "cut", feature = "join"))]
+mod cut_joins;
+#[cfg(feature = "cut")]
+mod cut_known;
+#[cfg(feature = "cut")]
+mod cut_limits;
+#[cfg(feature = "cut")]
+mod cut_results;
 #[cfg(feature = "plan")]
 mod depth;
 #[cfg(feature = "draw")]
@@ -70,6 +86,8 @@ mod groups;
 mod lists;
 #[allow(dead_code)]
 mod sheets;
+#[allow(dead_code)]
+mod written;
 
 use checks::Outcome;
 use std::process::ExitCode;
@@ -92,6 +110,20 @@ pub fn run(tests: &mut Tests) {
     join_results::run(tests);
     #[cfg(all(feature = "join", feature = "edits"))]
     join_adding::run(tests);
+    #[cfg(feature = "cut")]
+    cut_known::run(tests);
+    #[cfg(feature = "cut")]
+    cut::run(tests);
+    #[cfg(feature = "cut")]
+    cut_limits::run(tests);
+    #[cfg(feature = "cut")]
+    cut_faults::run(tests);
+    #[cfg(feature = "cut")]
+    cut_results::run(tests);
+    #[cfg(all(feature = "cut", feature = "join"))]
+    cut_joins::run(tests);
+    #[cfg(all(feature = "cut", feature = "edits"))]
+    cut_edits::run(tests);
     #[cfg(feature = "run_edits")]
     run_edits::run(tests);
     #[cfg(feature = "run_edits")]
