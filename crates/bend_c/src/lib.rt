@@ -45,7 +45,7 @@ pub extern "C" fn bend_normalize(sheet: &[u8], out: &mut [u8]) -> u64
     ensures answer { λ r. ⌜ r ≡ packed (written (ordered (now (sheet .entry))) (now (out .entry))) ⌝ }
     ensures bytes { λ r. ⌜ now (out .exit) ≡ written (ordered (now (sheet .entry))) (now (out .entry)) .bytes ⌝ }
 {
-    pack(sheet::normalize(sheet, out))
+    pack(sheet_writer::normalize(sheet, out))
 }
 
 // An edit.

@@ -20,7 +20,7 @@ use nearest::Cell;
 use nearest::bars::bars_keep;
 use sheet::Head;
 use sheet::Read;
-use sheet::writer::write_keys;
+use sheet_writer::write_keys;
 
 pub mod follow;
 pub mod frame;

@@ -10,7 +10,7 @@ use Rattle.codec.proofs.TwoOutputs.{both-is, both-short}
 use Rattle.sheet.specs.declared.Head.{Head}
 use Rattle.sheet.specs.Sheet.{normalSheet}
 use Rattle.sheet.specs.Held.{partOf, normalLength, BentInHand}
-use Rattle.sheet.proofs.Writing.{sheet-size}
+use Rattle.sheet_writer.proofs.Writing.{sheet-size}
 
 module _ {g h : Head} {bs cs : List ℕ} (P : BentInHand g bs) (Q : BentInHand h cs) (inner rest : List ℕ) where
   abbrev first : List ℕ

@@ -21,8 +21,8 @@ use keys::high;
 use keys::key;
 use keys::low;
 use sheet::Head;
-use sheet::writer::normal_size;
-use sheet::writer::put_sheet;
+use sheet_writer::normal_size;
+use sheet_writer::put_sheet;
 
 // Whether an edge joins two of the corners a to b.
 fn beneath(k: u32, a: usize, b: usize) -> bool

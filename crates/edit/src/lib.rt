@@ -12,7 +12,7 @@ use codec::Written;
 use keys::DIAGONALS;
 use sheet::Read;
 use sheet::reader::read_sheet;
-use sheet::writer::write_sheet;
+use sheet_writer::write_sheet;
 
 pub mod held;
 pub mod near;

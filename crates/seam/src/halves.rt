@@ -20,7 +20,7 @@ use keys::merge::merge;
 use sheet::Head;
 use sheet::Read;
 use sheet::reader::read_sheet;
-use sheet::writer::flat_bends;
+use sheet_writer::flat_bends;
 
 // What a bend grows by when both its corners go up by one: 1,025 in its key.
 const FURTHER: u32 = 4198400;

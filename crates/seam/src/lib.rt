@@ -14,7 +14,7 @@ use codec::Written;
 use keys::DIAGONALS;
 use sheet::Head;
 use sheet::Read;
-use sheet::writer::write_sheet;
+use sheet_writer::write_sheet;
 
 pub mod halves;
 

@@ -9,7 +9,6 @@ pub mod Coded
 pub mod Pairs
 pub mod Frame
 pub mod Found
-pub mod Writing
 pub mod Hand
 pub mod Size
 pub mod Alike

@@ -5,10 +5,10 @@ use native.Mathlib.Omega.{arith}
 use lib.ListN.{length, take}
 use lib.Seq.{sets, take-all}
 use Rattle.keys.specs.Keys.{edgesOf, keysIn}
 use Rattle.sheet.specs.Sheet.{pairBytes}
-use Rattle.sheet.proofs.Writing.{edges-next}
-use Rattle.sheet.proofs.writer.put_edges.Statement.{statement}
-use Rattle.sheet.proofs.writer.put_edges.Tie as tie
+use Rattle.sheet_writer.proofs.Writing.{edges-next}
+use Rattle.sheet_writer.proofs.put_edges.Statement.{statement}
+use Rattle.sheet_writer.proofs.put_edges.Tie as tie
 
 abbrev Inv-loop : tie.InvT-loop
 Inv-loop out₀ at bends i₀ out i = (i ≤ length bends) × (length out ≡ length out₀) × (out ≡ sets out₀ at (pairBytes (edgesOf (keysIn (take i bends)))))

@@ -7,8 +7,8 @@ use lib.ListN.{length, take, length-set}
 use lib.Seq.{take-all}
 use Rattle.lists.proofs.Places.{mapped-next}
 use Rattle.keys.specs.Keys.{flatBend}
-use Rattle.sheet.proofs.writer.flat_bends.Statement.{statement}
-use Rattle.sheet.proofs.writer.flat_bends.Tie as tie
+use Rattle.sheet_writer.proofs.flat_bends.Statement.{statement}
+use Rattle.sheet_writer.proofs.flat_bends.Tie as tie
 
 abbrev Inv-loop : tie.InvT-loop
 Inv-loop keys bends₀ j₀ bends j = (j ≤ length keys) × (length bends ≡ length bends₀) × (take j bends ≡ map flatBend (take j keys))

@@ -2,10 +2,10 @@
 use mathlib.Core.Path.{_∙_}
 use borrow.Author.Needs.{needs}
 use Rattle.codec.specs.Answer.{written}
 use Rattle.sheet.specs.Sheet.{Reading, outcome, ordered}
 use Rattle.sheet.proofs.Hand.{read-is, in-hand}
-use Rattle.sheet.proofs.normalize.Statement.{statement}
-use Rattle.sheet.proofs.normalize.Tie as tie
+use Rattle.sheet_writer.proofs.normalize.Statement.{statement}
+use Rattle.sheet_writer.proofs.normalize.Tie as tie
 
 write-sheet-requires : tie.Need-write-sheet-requires
 write-sheet-requires c κs = in-hand (c .before .before .before .before .before .before .before .read-sheet .ensures .0) (c .before .before .before .h .given .1)

@@ -1,8 +1,8 @@
 -- By the test.
 use borrow.Author.Needs.{needs}
 use native.Mathlib.Omega.{arith}
-use Rattle.sheet.proofs.writer.normal_size.Statement.{statement}
-use Rattle.sheet.proofs.writer.normal_size.Tie as tie
+use Rattle.sheet_writer.proofs.normal_size.Statement.{statement}
+use Rattle.sheet_writer.proofs.normal_size.Tie as tie
 
 returns : tie.Need-returns
 returns c = rw (c .if1 .taken) (omega arith)

@@ -1,4 +1,5 @@
-// Writing a part as a sheet in normal order.
+// Writing a part as a sheet in normal order, and the operation that sets a sheet in order.
+// The definitions that the contracts cite are those of the crate sheet: specs/Sheet.antt says what a sheet is, specs/Held.antt how the code holds a part.
 ghost use mathlib.Core.Path.{_≡_};
 ghost use mathlib.Core.Bool.{false};
 ghost use mathlib.Core.List.{[], map};
@@ -8,9 +9,8 @@ ghost use lib.Seq.{sets};
 ghost use Rattle.codec.specs.Answer.{answered, whole, written, write};
 ghost use Rattle.codec.specs.Numbers.{run16};
 ghost use Rattle.keys.specs.Keys.{edgesOf, keysIn, anglesIn, flatBend};
-ghost use Rattle.sheet.specs.Sheet.{more, normalSheet, pairBytes, mapByte};
+ghost use Rattle.sheet.specs.Sheet.{more, normalSheet, ordered, pairBytes, mapByte};
 ghost use Rattle.sheet.specs.Held.{polygonOf, InHand, SmallKeys, partOf, anglesBy, normalLength, BentInHand};
-use crate::Head;
 use codec::Written;
 use codec::put16;
 use keys::DIAGONALS;
@@ -20,6 +20,9 @@ use keys::bend::bend;
 use keys::bend::key_in;
 use keys::high;
 use keys::low;
+use sheet::Head;
+use sheet::Read;
+use sheet::reader::read_sheet;
 
 // Bits 0 and 1 of the map byte: bit 0, and bit 1 if there are more than 3 corners.
 fn low_bits(n: usize) -> u8
@@ -122,4 +125,16 @@ pub fn write_keys(h: Head, keys: &[u32], out: &mut [u8]) -> Written
     let mut bends = [0u32; DIAGONALS];
     flat_bends(&keys[..m], &mut bends);
     write_sheet(h, &bends, out)
+}
+
+// Set in order: the sheet's part as a sheet in normal order.
+pub fn normalize(sheet: &[u8], out: &mut [u8]) -> Written
+    ensures { λ r. ⌜ answered r (now (out .exit)) ≡ written (ordered (now (sheet .entry))) (now (out .entry)) ⌝ }
+{
+    let mut bends = [0u32; DIAGONALS];
+    let mut keys = [0u32; DIAGONALS];
+    match read_sheet(sheet, &mut bends, &mut keys) {
+        Read::Refused(k) => Written::Refused(k),
+        Read::Held(h) => write_sheet(h, &bends, out),
+    }
 }

@@ -1,9 +1,9 @@
 -- The low bits, and bit 3 by the test.
 use borrow.Author.Needs.{needs}
 use native.Mathlib.Omega.{arith}
 use Rattle.sheet.specs.Sheet.{mapByte}
-use Rattle.sheet.proofs.writer.map_byte.Statement.{statement}
-use Rattle.sheet.proofs.writer.map_byte.Tie as tie
+use Rattle.sheet_writer.proofs.map_byte.Statement.{statement}
+use Rattle.sheet_writer.proofs.map_byte.Tie as tie
 
 returns : tie.Need-returns
 unfolding mapByte

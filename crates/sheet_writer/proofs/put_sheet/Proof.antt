@@ -5,12 +5,12 @@ use Prim.Native.Nat.{_*_, _-_}
 use borrow.Author.Needs.{needs}
 use native.Mathlib.Omega.{arith}
 use lib.ListN.{length-set}
 use Rattle.sheet.specs.Sheet.{field}
 use Rattle.sheet.specs.Held.{bit}
 use Rattle.sheet.proofs.Hand.{bends-count}
-use Rattle.sheet.proofs.Writing.{finished}
-use Rattle.sheet.proofs.writer.put_sheet.Statement.{statement}
-use Rattle.sheet.proofs.writer.put_sheet.Tie as tie
+use Rattle.sheet_writer.proofs.Writing.{finished}
+use Rattle.sheet_writer.proofs.put_sheet.Statement.{statement}
+use Rattle.sheet_writer.proofs.put_sheet.Tie as tie
 
 put16-requires : tie.Need-put16-requires
 put16-requires c κs = simp length-set (omega (arith, c .before .before .before .before .pre .0 .valid .most, c .before .before .before .before .pre .1))

@@ -1,9 +1,9 @@
 -- The length is known before the first byte is written.
 use borrow.Author.Needs.{needs}
 use native.Mathlib.Omega.{arith}
-use Rattle.sheet.proofs.Writing.{too-short, told-whole}
-use Rattle.sheet.proofs.writer.write_sheet.Statement.{statement}
-use Rattle.sheet.proofs.writer.write_sheet.Tie as tie
+use Rattle.sheet_writer.proofs.Writing.{too-short, told-whole}
+use Rattle.sheet_writer.proofs.write_sheet.Statement.{statement}
+use Rattle.sheet_writer.proofs.write_sheet.Tie as tie
 
 returns : tie.Need-returns
 returns c = too-short (c .before .before .before .before .pre) (c .before .before .before .before .args .out .now) (omega (arith, c .if1 .taken, c .before .normal-size .ensures))

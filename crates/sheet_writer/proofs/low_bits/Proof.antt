@@ -1,8 +1,8 @@
 -- By the test.
 use native.Mathlib.Omega.{arith}
 use Rattle.sheet.proofs.Fields.{more-yes, more-no}
-use Rattle.sheet.proofs.writer.low_bits.Statement.{statement}
-use Rattle.sheet.proofs.writer.low_bits.Tie as tie
+use Rattle.sheet_writer.proofs.low_bits.Statement.{statement}
+use Rattle.sheet_writer.proofs.low_bits.Tie as tie
 
 returns : tie.Need-returns
 returns c = (rw (more-yes (c .before .args .n) (c .if1 .taken)), omega arith)

@@ -2,9 +2,9 @@
 use mathlib.Core.Path.{sym}
 use borrow.Author.Needs.{needs}
 use native.Mathlib.Omega.{arith}
 use Rattle.sheet.proofs.Hand.{keys-count, keys-small, flat-same, flat-in-hand}
-use Rattle.sheet.proofs.writer.write_keys.Statement.{statement}
-use Rattle.sheet.proofs.writer.write_keys.Tie as tie
+use Rattle.sheet_writer.proofs.write_keys.Statement.{statement}
+use Rattle.sheet_writer.proofs.write_keys.Tie as tie
 
 slice-aggregate-flat-bends : tie.Need-slice-aggregate-flat-bends
 slice-aggregate-flat-bends c = sym (keys-count (c .before .before .before .before .pre .0))

@@ -6,9 +6,9 @@ use lib.ListN.{length, take}
 use lib.Seq.{sets, take-all}
 use Rattle.codec.specs.Numbers.{run16}
 use Rattle.keys.specs.Keys.{anglesIn}
-use Rattle.sheet.proofs.Writing.{angles-next}
-use Rattle.sheet.proofs.writer.put_angles.Statement.{statement}
-use Rattle.sheet.proofs.writer.put_angles.Tie as tie
+use Rattle.sheet_writer.proofs.Writing.{angles-next}
+use Rattle.sheet_writer.proofs.put_angles.Statement.{statement}
+use Rattle.sheet_writer.proofs.put_angles.Tie as tie
 
 abbrev Inv-loop : tie.InvT-loop
 Inv-loop out₀ at bends i₀ out i = (i ≤ length bends) × (length out ≡ length out₀) × (out ≡ sets out₀ at (run16 (anglesIn (take i bends))))
