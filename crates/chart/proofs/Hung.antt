@@ -9,7 +9,8 @@ use Rattle.lists.specs.Lists.{Mem, Sub, tail}
 use Rattle.lists.proofs.Lists.{here, mem-left, mem-right}
 use Rattle.polygon.specs.Polygon.{Edge, _—_}
 use Rattle.polygon.specs.Tree.{Tree, node, span}
-use Rattle.umbrella.specs.Plan.{Plan, none, plain, stemLeft, stemRight, LeftRim, leftEnd, leftOn, RightRim, rightEnd, rightOn, LeftGate, leftGate, leftPast, RightGate, rightGate, rightPast, Stem, endBoth, endLeft, endRight, goLeft, goRight}
+use Rattle.umbrella.proofs.Parts.{Claims, Steps, of-plan}
+use Rattle.umbrella.specs.Plan.{Plan, LeftRim, leftEnd, leftOn, RightRim, rightEnd, rightOn, LeftGate, leftGate, leftPast, RightGate, rightGate, rightPast, Stem, endBoth, endLeft, endRight, goLeft, goRight}
 use Rattle.umbrella.specs.Best.{Node, two}
 use Rattle.chart.specs.Places.{cols, leftCols, rightCols, leftGateCols, rightGateCols, stemCols, backCols}
 use Rattle.chart.specs.Chart.{Meets}
@@ -75,112 +76,123 @@ module _ (Q : (s : Tree) → Plan s → ℕ → ℕ → Type 0) (us fs : List Ed
       → ((Node s → Q s q a b) → Segment us (cols q a b) → EveryPiece Q q a b) → EveryPiece Q q a b
   hang q a b e f h i j k m r = r (λ n. hung _ q a b e f n h i j k m) (segment-part k (within-middle (e ∷ []) (cols q a b) (f ∷ [])))
 
-  mutual
-    unfolding span cols flats EveryPiece
+  abbrev Hangs : Claims
+  Hangs = record {
+    Piece = λ t p. (u v : ℕ) → u + span t ≡ v → (Node t → Q t p u v) → Segment us (cols p u v) → Sub (flats p u v) fs → EveryPiece Q p u v;
+    Left = λ t A. (u v : ℕ) → u + span t ≡ v → Segment us (leftCols A u v) → Sub (leftFlats A u v) fs → EveryLeft Q A u v;
+    Right = λ t B. (u v : ℕ) → u + span t ≡ v → Segment us (rightCols B u v) → Sub (rightFlats B u v) fs → EveryRight Q B u v;
+    LeftGated = λ t G. (u v : ℕ) → u + span t ≡ v → Segment us (leftGateCols G u v) → Sub (leftGateFlats G u v) fs → EveryLeftGate Q G u v;
+    RightGated = λ t G. (u v : ℕ) → u + span t ≡ v → Segment us (rightGateCols G u v) → Sub (rightGateFlats G u v) fs → EveryRightGate Q G u v;
+    Entered = λ t S. ((p q : ℕ) → p + span t ≡ q → Segment us (stemCols S p q) → Sub (stemFlats S p q) fs → EveryStem Q S p q) × ((p q : ℕ) → p + span t ≡ q → Segment us (backCols S p q) → Sub (backFlats S p q) fs → EveryStem Q S p q);
+  }
 
-    pub every-piece : {t : Tree} (p : Plan t) (u v : ℕ) → u + span t ≡ v → (Node t → Q t p u v) → Segment us (cols p u v) → Sub (flats p u v) fs → EveryPiece Q p u v
-    every-piece none u v h q g s = tt
-    every-piece (plain {l} A B) u v h q g s =
+  hangs : Steps Hangs
+  unfolding span cols flats EveryPiece
+  hangs = record {
+    empty = λ u v h q g s. tt;
+    bare = λ l r A B left right u v h q g s.
         let c : ℕ = u + span l in (
           q two,
-          every-left A u c refl (segment-part g (within-left (leftCols A u c) (rightCols B c v))) (sub-left (rightFlats B c v) s),
-          every-right B c v (omega arith) (segment-part g (within-right (leftCols A u c) (rightCols B c v))) (sub-right (leftFlats A u c) s),
-        )
-    every-piece (stemLeft {l} G B) u v h q g s =
+          left u c refl (segment-part g (within-left (leftCols A u c) (rightCols B c v))) (sub-left (rightFlats B c v) s),
+          right c v (omega arith) (segment-part g (within-right (leftCols A u c) (rightCols B c v))) (sub-right (leftFlats A u c) s),
+        );
+    stem-below = λ l r G B left right u v h q g s.
         let c : ℕ = u + span l in (
           q two,
-          every-left-gate G u c refl (segment-part g (within-left (leftGateCols G u c) (rightCols B c v))) (sub-left (rightFlats B c v) s),
-          every-right B c v (omega arith) (segment-part g (within-right (leftGateCols G u c) (rightCols B c v))) (sub-right (leftGateFlats G u c) s),
-        )
-    every-piece (stemRight {l} A G) u v h q g s =
+          left u c refl (segment-part g (within-left (leftGateCols G u c) (rightCols B c v))) (sub-left (rightFlats B c v) s),
+          right c v (omega arith) (segment-part g (within-right (leftGateCols G u c) (rightCols B c v))) (sub-right (leftGateFlats G u c) s),
+        );
+    stem-above = λ l r A G left right u v h q g s.
         let c : ℕ = u + span l in (
           q two,
-          every-left A u c refl (segment-part g (within-left (leftCols A u c) (rightGateCols G c v))) (sub-left (rightGateFlats G c v) s),
-          every-right-gate G c v (omega arith) (segment-part g (within-right (leftCols A u c) (rightGateCols G c v))) (sub-right (leftFlats A u c) s),
-        )
-
-    every-left : {t : Tree} (A : LeftRim t) (u v : ℕ) → u + span t ≡ v → Segment us (leftCols A u v) → Sub (leftFlats A u v) fs → EveryLeft Q A u v
-    every-left leftEnd u v h g s = tt
-    every-left (leftOn {a} {b} A p) u v h g s =
+          left u c refl (segment-part g (within-left (leftCols A u c) (rightGateCols G c v))) (sub-left (rightGateFlats G c v) s),
+          right c v (omega arith) (segment-part g (within-right (leftCols A u c) (rightGateCols G c v))) (sub-right (leftFlats A u c) s),
+        );
+    left-end = λ u v h g s. tt;
+    left-on = λ a b A p rim hung u v h g s.
         let c : ℕ = u + span a in
         let k : Segment us ((u — c) ∷ (cols p c v ++ ((u — v) ∷ []))) = segment-part g (within-last (cols p c v ++ ((u — v) ∷ [])) (left-last A u c)) in (
-          every-left A u c refl (segment-part g (within-left (leftCols A u c) (cols p c v ++ ((u — v) ∷ [])))) (sub-left _ s),
-          hang p c v (u — c) (u — v) (omega arith) (inr refl) (inr refl) k (s _ (mem-right (leftFlats A u c) here)) (λ n j. every-piece p c v (omega arith) n j (sub-left [] (sub-tail (sub-right (leftFlats A u c) s)))),
-        )
-
-    every-right : {t : Tree} (B : RightRim t) (u v : ℕ) → u + span t ≡ v → Segment us (rightCols B u v) → Sub (rightFlats B u v) fs → EveryRight Q B u v
-    every-right rightEnd u v h g s = tt
-    every-right (rightOn {a} {b} p B) u v h g s =
+          rim u c refl (segment-part g (within-left (leftCols A u c) (cols p c v ++ ((u — v) ∷ [])))) (sub-left _ s),
+          hang p c v (u — c) (u — v) (omega arith) (inr refl) (inr refl) k (s _ (mem-right (leftFlats A u c) here)) (λ n j. hung c v (omega arith) n j (sub-left [] (sub-tail (sub-right (leftFlats A u c) s)))),
+        );
+    right-end = λ u v h g s. tt;
+    right-on = λ a b p B hung rim u v h g s.
         let c : ℕ = u + span a in
         let k : Segment us ((u — v) ∷ (cols p u c ++ ((c — v) ∷ []))) = segment-part g (within-first ((u — v) ∷ cols p u c) (right-first B c v)) in (
-          hang p u c (u — v) (c — v) refl (inl refl) (inl refl) k (s _ here) (λ n j. every-piece p u c refl n j (sub-left _ (sub-tail s))),
-          every-right B c v (omega arith) (segment-part g (within-right ((u — v) ∷ cols p u c) (rightCols B c v))) (sub-right (flats p u c) (sub-tail s)),
-        )
-
-    every-left-gate : {t : Tree} (G : LeftGate t) (u v : ℕ) → u + span t ≡ v → Segment us (leftGateCols G u v) → Sub (leftGateFlats G u v) fs → EveryLeftGate Q G u v
-    every-left-gate (leftGate {a} A S) u v h g s =
+          hang p u c (u — v) (c — v) refl (inl refl) (inl refl) k (s _ here) (λ n j. hung u c refl n j (sub-left _ (sub-tail s))),
+          rim c v (omega arith) (segment-part g (within-right ((u — v) ∷ cols p u c) (rightCols B c v))) (sub-right (flats p u c) (sub-tail s)),
+        );
+    left-gate = λ a b A S rim stem u v h g s.
         let c : ℕ = u + span a in (
-          every-left A u c refl (segment-turn (segment-part g (within-middle (backCols S c v) (reverse (leftCols A u c)) ((u — v) ∷ [])))) (sub-left [] (sub-right (backFlats S c v) s)),
-          every-back S c v (omega arith) (segment-part g (within-left (backCols S c v) (reverse (leftCols A u c) ++ ((u — v) ∷ [])))) (sub-left _ s),
-        )
-    every-left-gate (leftPast {a} {b} G p) u v h g s =
+          rim u c refl (segment-turn (segment-part g (within-middle (backCols S c v) (reverse (leftCols A u c)) ((u — v) ∷ [])))) (sub-left [] (sub-right (backFlats S c v) s)),
+          stem .1 c v (omega arith) (segment-part g (within-left (backCols S c v) (reverse (leftCols A u c) ++ ((u — v) ∷ [])))) (sub-left _ s),
+        );
+    left-past = λ a b G p gate hung u v h g s.
         let c : ℕ = u + span a in
         let k : Segment us ((u — c) ∷ (cols p c v ++ ((u — v) ∷ []))) = segment-part g (within-last (cols p c v ++ ((u — v) ∷ [])) (left-gate-last G u c)) in (
-          every-left-gate G u c refl (segment-part g (within-left (leftGateCols G u c) (cols p c v ++ ((u — v) ∷ [])))) (sub-left _ s),
-          hang p c v (u — c) (u — v) (omega arith) (inr refl) (inr refl) k (s _ (mem-right (leftGateFlats G u c) here)) (λ n j. every-piece p c v (omega arith) n j (sub-left [] (sub-tail (sub-right (leftGateFlats G u c) s)))),
-        )
-
-    every-right-gate : {t : Tree} (G : RightGate t) (u v : ℕ) → u + span t ≡ v → Segment us (rightGateCols G u v) → Sub (rightGateFlats G u v) fs → EveryRightGate Q G u v
-    every-right-gate (rightGate {a} S B) u v h g s =
+          gate u c refl (segment-part g (within-left (leftGateCols G u c) (cols p c v ++ ((u — v) ∷ [])))) (sub-left _ s),
+          hang p c v (u — c) (u — v) (omega arith) (inr refl) (inr refl) k (s _ (mem-right (leftGateFlats G u c) here)) (λ n j. hung c v (omega arith) n j (sub-left [] (sub-tail (sub-right (leftGateFlats G u c) s)))),
+        );
+    right-gate = λ a b S B stem rim u v h g s.
         let c : ℕ = u + span a in (
-          every-stem S u c refl (segment-part g (within-right ((u — v) ∷ reverse (rightCols B c v)) (stemCols S u c))) (sub-right (rightFlats B c v) s),
-          every-right B c v (omega arith) (segment-turn (segment-part g (within-middle ((u — v) ∷ []) (reverse (rightCols B c v)) (stemCols S u c)))) (sub-left _ s),
-        )
-    every-right-gate (rightPast {a} {b} p G) u v h g s =
+          stem .0 u c refl (segment-part g (within-right ((u — v) ∷ reverse (rightCols B c v)) (stemCols S u c))) (sub-right (rightFlats B c v) s),
+          rim c v (omega arith) (segment-turn (segment-part g (within-middle ((u — v) ∷ []) (reverse (rightCols B c v)) (stemCols S u c)))) (sub-left _ s),
+        );
+    right-past = λ a b p G hung gate u v h g s.
         let c : ℕ = u + span a in
         let k : Segment us ((u — v) ∷ (cols p u c ++ ((c — v) ∷ []))) = segment-part g (within-first ((u — v) ∷ cols p u c) (right-gate-first G c v)) in (
-          hang p u c (u — v) (c — v) refl (inl refl) (inl refl) k (s _ here) (λ n j. every-piece p u c refl n j (sub-left _ (sub-tail s))),
-          every-right-gate G c v (omega arith) (segment-part g (within-right ((u — v) ∷ cols p u c) (rightGateCols G c v))) (sub-right (flats p u c) (sub-tail s)),
-        )
+          hang p u c (u — v) (c — v) refl (inl refl) (inl refl) k (s _ here) (λ n j. hung u c refl n j (sub-left _ (sub-tail s))),
+          gate c v (omega arith) (segment-part g (within-right ((u — v) ∷ cols p u c) (rightGateCols G c v))) (sub-right (flats p u c) (sub-tail s)),
+        );
+    ends = (
+      λ p q h g s. tt,
+      λ p q h g s. tt,
+    );
+    ends-left = λ a b c hung. (
+      λ p q h g s.
+          let k : Segment us ((p — suc p) ∷ (cols c (suc p) q ++ ((p — q) ∷ []))) = segment-between (p — suc p) (p — q) (cols c (suc p) q) g in
+          hang c (suc p) q (p — suc p) (p — q) (omega arith) (inr refl) (inr refl) k (s _ here) (λ n j. hung (suc p) q (omega arith) n j (sub-left [] (sub-tail s))),
+      λ p q h g s.
+          hang c (suc p) q (p — suc p) (p — q) (omega arith) (inr refl) (inr refl) g (s _ here) (λ n j. hung (suc p) q (omega arith) n j (sub-left [] (sub-tail s))),
+    );
+    ends-right = λ a b c hung. (
+      λ p q h g s.
+          let x : ℕ = p + (span a + span b) in
+          hang c p x (p — q) (x — q) refl (inl refl) (inl refl) g (s _ here) (λ n j. hung p x refl n j (sub-left [] (sub-tail s))),
+      λ p q h g s.
+          let x : ℕ = p + (span a + span b) in
+          let k : Segment us ((p — q) ∷ (cols c p x ++ ((x — q) ∷ []))) = segment-between (p — q) (x — q) (cols c p x) g in
+          hang c p x (p — q) (x — q) refl (inl refl) (inl refl) k (s _ here) (λ n j. hung p x refl n j (sub-left [] (sub-tail s))),
+    );
+    goes-left = λ a b S c stem hung. (
+      λ p q h g s.
+          let x : ℕ = p + span a in
+          let k : Segment us ((p — x) ∷ (cols c x q ++ ((p — q) ∷ []))) = segment-between (p — x) (p — q) (cols c x q) (segment-part g (within-first ((p — q) ∷ reverse (cols c x q)) (stem-first S p x))) in (
+            stem .0 p x refl (segment-part g (within-right ((p — q) ∷ reverse (cols c x q)) (stemCols S p x))) (sub-right (flats c x q) (sub-tail s)),
+            hang c x q (p — x) (p — q) (omega arith) (inr refl) (inr refl) k (s _ here) (λ n j. hung x q (omega arith) n j (sub-left _ (sub-tail s))),
+          ),
+      λ p q h g s.
+          let x : ℕ = p + span a in
+          let k : Segment us ((p — x) ∷ (cols c x q ++ ((p — q) ∷ []))) = segment-part g (within-last (cols c x q ++ ((p — q) ∷ [])) (back-last S p x)) in (
+            stem .1 p x refl (segment-part g (within-left (backCols S p x) (cols c x q ++ ((p — q) ∷ [])))) (sub-left _ s),
+            hang c x q (p — x) (p — q) (omega arith) (inr refl) (inr refl) k (s _ (mem-right (backFlats S p x) here)) (λ n j. hung x q (omega arith) n j (sub-left [] (sub-tail (sub-right (backFlats S p x) s)))),
+          ),
+    );
+    goes-right = λ a b c S hung stem. (
+      λ p q h g s.
+          let x : ℕ = p + span a in
+          let k : Segment us ((p — q) ∷ (cols c p x ++ ((x — q) ∷ []))) = segment-part g (within-first ((p — q) ∷ cols c p x) (stem-first S x q)) in (
+            hang c p x (p — q) (x — q) refl (inl refl) (inl refl) k (s _ here) (λ n j. hung p x refl n j (sub-left _ (sub-tail s))),
+            stem .0 x q (omega arith) (segment-part g (within-right ((p — q) ∷ cols c p x) (stemCols S x q))) (sub-right (flats c p x) (sub-tail s)),
+          ),
+      λ p q h g s.
+          let x : ℕ = p + span a in
+          let k : Segment us ((p — q) ∷ (cols c p x ++ ((x — q) ∷ []))) = segment-between (p — q) (x — q) (cols c p x) (segment-part g (within-last (reverse (cols c p x) ++ ((p — q) ∷ [])) (back-last S x q))) in (
+            hang c p x (p — q) (x — q) refl (inl refl) (inl refl) k (s _ (mem-right (backFlats S x q) here)) (λ n j. hung p x refl n j (sub-left [] (sub-tail (sub-right (backFlats S x q) s)))),
+            stem .1 x q (omega arith) (segment-part g (within-left (backCols S x q) (reverse (cols c p x) ++ ((p — q) ∷ [])))) (sub-left _ s),
+          ),
+    );
+  }
 
-    every-stem : {t : Tree} (S : Stem t) (p q : ℕ) → p + span t ≡ q → Segment us (stemCols S p q) → Sub (stemFlats S p q) fs → EveryStem Q S p q
-    every-stem endBoth p q h g s = tt
-    every-stem (endLeft {a} {b} c) p q h g s =
-        let k : Segment us ((p — suc p) ∷ (cols c (suc p) q ++ ((p — q) ∷ []))) = segment-between (p — suc p) (p — q) (cols c (suc p) q) g in
-        hang c (suc p) q (p — suc p) (p — q) (omega arith) (inr refl) (inr refl) k (s _ here) (λ n j. every-piece c (suc p) q (omega arith) n j (sub-left [] (sub-tail s)))
-    every-stem (endRight {a} {b} c) p q h g s =
-        let x : ℕ = p + (span a + span b) in
-        hang c p x (p — q) (x — q) refl (inl refl) (inl refl) g (s _ here) (λ n j. every-piece c p x refl n j (sub-left [] (sub-tail s)))
-    every-stem (goLeft {a} {b} S c) p q h g s =
-        let x : ℕ = p + span a in
-        let k : Segment us ((p — x) ∷ (cols c x q ++ ((p — q) ∷ []))) = segment-between (p — x) (p — q) (cols c x q) (segment-part g (within-first ((p — q) ∷ reverse (cols c x q)) (stem-first S p x))) in (
-          every-stem S p x refl (segment-part g (within-right ((p — q) ∷ reverse (cols c x q)) (stemCols S p x))) (sub-right (flats c x q) (sub-tail s)),
-          hang c x q (p — x) (p — q) (omega arith) (inr refl) (inr refl) k (s _ here) (λ n j. every-piece c x q (omega arith) n j (sub-left _ (sub-tail s))),
-        )
-    every-stem (goRight {a} {b} c S) p q h g s =
-        let x : ℕ = p + span a in
-        let k : Segment us ((p — q) ∷ (cols c p x ++ ((x — q) ∷ []))) = segment-part g (within-first ((p — q) ∷ cols c p x) (stem-first S x q)) in (
-          hang c p x (p — q) (x — q) refl (inl refl) (inl refl) k (s _ here) (λ n j. every-piece c p x refl n j (sub-left _ (sub-tail s))),
-          every-stem S x q (omega arith) (segment-part g (within-right ((p — q) ∷ cols c p x) (stemCols S x q))) (sub-right (flats c p x) (sub-tail s)),
-        )
-
-    every-back : {t : Tree} (S : Stem t) (p q : ℕ) → p + span t ≡ q → Segment us (backCols S p q) → Sub (backFlats S p q) fs → EveryStem Q S p q
-    every-back endBoth p q h g s = tt
-    every-back (endLeft {a} {b} c) p q h g s =
-        hang c (suc p) q (p — suc p) (p — q) (omega arith) (inr refl) (inr refl) g (s _ here) (λ n j. every-piece c (suc p) q (omega arith) n j (sub-left [] (sub-tail s)))
-    every-back (endRight {a} {b} c) p q h g s =
-        let x : ℕ = p + (span a + span b) in
-        let k : Segment us ((p — q) ∷ (cols c p x ++ ((x — q) ∷ []))) = segment-between (p — q) (x — q) (cols c p x) g in
-        hang c p x (p — q) (x — q) refl (inl refl) (inl refl) k (s _ here) (λ n j. every-piece c p x refl n j (sub-left [] (sub-tail s)))
-    every-back (goLeft {a} {b} S c) p q h g s =
-        let x : ℕ = p + span a in
-        let k : Segment us ((p — x) ∷ (cols c x q ++ ((p — q) ∷ []))) = segment-part g (within-last (cols c x q ++ ((p — q) ∷ [])) (back-last S p x)) in (
-          every-back S p x refl (segment-part g (within-left (backCols S p x) (cols c x q ++ ((p — q) ∷ [])))) (sub-left _ s),
-          hang c x q (p — x) (p — q) (omega arith) (inr refl) (inr refl) k (s _ (mem-right (backFlats S p x) here)) (λ n j. every-piece c x q (omega arith) n j (sub-left [] (sub-tail (sub-right (backFlats S p x) s)))),
-        )
-    every-back (goRight {a} {b} c S) p q h g s =
-        let x : ℕ = p + span a in
-        let k : Segment us ((p — q) ∷ (cols c p x ++ ((x — q) ∷ []))) = segment-between (p — q) (x — q) (cols c p x) (segment-part g (within-last (reverse (cols c p x) ++ ((p — q) ∷ [])) (back-last S x q))) in (
-          hang c p x (p — q) (x — q) refl (inl refl) (inl refl) k (s _ (mem-right (backFlats S x q) here)) (λ n j. every-piece c p x refl n j (sub-left [] (sub-tail (sub-right (backFlats S x q) s)))),
-          every-back S x q (omega arith) (segment-part g (within-left (backCols S x q) (reverse (cols c p x) ++ ((p — q) ∷ [])))) (sub-left _ s),
-        )
+  pub every-piece : {t : Tree} (p : Plan t) (u v : ℕ) → u + span t ≡ v → (Node t → Q t p u v) → Segment us (cols p u v) → Sub (flats p u v) fs → EveryPiece Q p u v
+  every-piece = of-plan Hangs hangs

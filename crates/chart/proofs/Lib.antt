@@ -5,6 +5,7 @@ pub mod False
 pub mod Hull
 pub mod Strokes
 pub mod Cells
+pub mod Cut
 pub mod Runs
 pub mod Labels
 pub mod Column
@@ -17,6 +18,9 @@ pub mod Rungs
 pub mod NoStem
 pub mod Rim
 pub mod Flats
+pub mod Drawn
+pub mod DrawRims
+pub mod DrawStems
 pub mod Draw
 pub mod Width
 pub mod EachEdge

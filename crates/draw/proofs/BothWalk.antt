@@ -185,16 +185,21 @@ module _ (Def : Drawing) {M : Type 1} (𝓤 : URA M) (H : Heap 𝓤) (A : Atoms 
           ∷ 0 ∷ 1 ∷ 2 ∷ 3 ∷ 4 ∷ 5 ∷ 6 ∷ []) $ free1 ! $ free1 ! $ free1 ! $ free1 ! $ free1 ! $ free1 ! $ free1 ! $
           free1 ! $ free1 ! $ free1 ! $ free1 ! $ free1 ! $ free1 ! $ free1 ! $ free0 ! $ by ! (exits d zs k .prf)
 
-      -- the match, before which the bars are still owned, by cases on the answer: the tag is then a numeral
-      matched : (d : BothWritten) (zs : List ℕ) → Known d zs → Sq W (Had d zs BarsOwn (Locals d)) (runs C Λ E match Then)
-      matched (Refused r) zs k =
+      -- the match, before which the bars are still owned, at each answer: the tag is then a numeral
+      abbrev Matches : BothWritten → Type 1
+      Matches d = (zs : List ℕ) → Known d zs → Sq W (Had d zs BarsOwn (Locals d)) (runs C Λ E match Then)
+
+      refused : (r : ℕ) → Matches (Refused r)
+      refused r zs k =
           switches-on ! (load ! (from ! (vrt ! refl (fld ! refl (stop !)))) (look-tag ! 12 (whole !))) $ exec ! C Λ E skip Then $ skips ! $
           -- the bars are given up as they are
           exec ! C Λ E answer (atRet E Post) $ move ! (5 ∷ []) $ fsplit ! $ drop ! $ fsplit ! $
           use1 W (‵ (fres γ (codedHoleys T.the-row .code (heres T.the-row ys)))) (W .names .obs-res γ (codedHoleys T.the-row .code (heres T.the-row ys))) $
           use1 W (‵ (finally T.the-row γ ys)) (res-finally 𝓤 H A W (named 2) κ₂ T.the-row γ ys) $ move ! (1 ∷ []) $ drop ! $
           move ! (1 ∷ 2 ∷ 3 ∷ 4 ∷ 5 ∷ 0 ∷ []) $ leaves (Refused r) zs k
-      matched (Lengths m n) zs k =
+
+      lengths : (m n : ℕ) → Matches (Lengths m n)
+      lengths m n zs k =
           switches ! (load ! (from ! (vrt ! refl (fld ! refl (stop !)))) (look-tag ! 12 (whole !))) (
             (λ _.
                 assigns ! (of-opd ! (load ! (from ! (vrt ! refl (fld ! refl (stop !)))) (look-in ! 12 (in-variant ! 0 1 refl refl (whole !)))))
@@ -245,6 +250,10 @@ module _ (Def : Drawing) {M : Type 1} (𝓤 : URA M) (H : Heap 𝓤) (A : Atoms 
 
           enough : (n ≤ length ys) × (6 + 6 * n ≤ length zs)
           enough = (k .1 .0, omega (arith, k .1 .1, k .2))
+
+      matched : (d : BothWritten) → Matches d
+      matched (Refused r) = refused r
+      matched (Lengths m n) = lengths m n
 
     module _ (callee : Name) (known-draw : Triple 𝓤 (C callee) (Draws Def 𝓤 H A)) where
       pub walk : ent 𝓤 (onEntry 𝓤 H A draw-with-bars.signature (κ₀, (κ₁, (κ₂, tt))) (q₀, (q₁, (q₂, tt))) a vals)

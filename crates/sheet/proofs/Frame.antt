@@ -12,19 +12,37 @@ use Rattle.sheet.specs.Sheet.{bit0, bit1, bit3, more, readSheet, refused
 use Rattle.sheet.specs.Held.{bit, HeadOf}
 use Rattle.sheet.proofs.Asks.{refused-4, refused-2b}
 
--- over a count n that was read, in range
-module _ (s : List ℕ) (n : ℕ) (some-bytes : 1 ≤ length s) (low : bit0 (getD s 0 0) ≡ 1) (small : getD s 0 0 < 16) (three : 3 ≤ length s) (count : n ≡ get16 s 1) (least : 3 ≤ n) (most : n ≤ 1024) where
+-- the tests that are passed when the count n has been read and is in range
+pub record Tested (s : List ℕ) (n : ℕ) : Type 0 where
+  pub some-bytes : 1 ≤ length s
+  pub low : bit0 (getD s 0 0) ≡ 1
+  pub small : getD s 0 0 < 16
+  pub three : 3 ≤ length s
+  pub count : n ≡ get16 s 1
+  pub least : 3 ≤ n
+  pub most : n ≤ 1024
+
+module _ {s : List ℕ} {n : ℕ} (T : Tested s n) where
   pub disagrees : (bit1 (getD s 0 0) ≡ more n → ⊥) → readSheet s ≡ refused 4
-  disagrees f = refused-4 s some-bytes low small three (omega arith) (omega arith) (λ e. f (e ∙ ap more (sym count)))
+  disagrees f = refused-4 s (T .some-bytes) (T .low) (T .small) (T .three) (omega arith) (omega arith) (λ e. f (e ∙ ap more (sym (T .count))))
 
   module _ (agrees : bit1 (getD s 0 0) ≡ more n) (size : ℕ) (fields : size ≡ sheetLength (getD s 0 0) n) where
     pub inexact : (length s ≡ size → ⊥) → readSheet s ≡ refused 2
-    inexact f = refused-2b s some-bytes low small three (omega arith) (omega arith) (agrees ∙ ap more count) (λ e. f (e ∙ (ap (sheetLength (getD s 0 0)) (sym count) ∙ sym fields)))
+    inexact f = refused-2b s (T .some-bytes) (T .low) (T .small) (T .three) (omega arith) (omega arith) (agrees ∙ ap more (T .count)) (λ e. f (e ∙ (ap (sheetLength (getD s 0 0)) (sym (T .count)) ∙ sym fields)))
 
     pub framed : length s ≡ size → (angled : Bool) → bit angled ≡ bit3 (getD s 0 0) → HeadOf s (record { n = n; angled = angled })
     framed exact angled a = record {
-      frame = record { some = some-bytes; low = low; small = small; three = three; least = omega arith; most = omega arith; agrees = agrees ∙ ap more count; exact = exact ∙ (fields ∙ ap (sheetLength (getD s 0 0)) count) };
-      corners = count;
+      frame = record {
+        some = T .some-bytes;
+        low = T .low;
+        small = T .small;
+        three = T .three;
+        least = omega arith;
+        most = omega arith;
+        agrees = agrees ∙ ap more (T .count);
+        exact = exact ∙ (fields ∙ ap (sheetLength (getD s 0 0)) (T .count));
+      };
+      corners = T .count;
       with-angles = a;
     }
 

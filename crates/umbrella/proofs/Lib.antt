@@ -10,6 +10,7 @@ pub mod Unique
 pub mod Wide
 pub mod Tight
 pub mod Bounds
+pub mod Parts
 pub mod Triangles
 pub mod Corners
 pub mod Rim

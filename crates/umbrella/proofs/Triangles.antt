@@ -12,7 +12,8 @@ use Rattle.lists.proofs.Occurs.{mem-occurs, occurs-append, occurs-flatten, occu
 use Rattle.polygon.specs.Tree.{Tree, leaf, node, span}
 use Rattle.polygon.proofs.Chords.{span-pos}
 use Rattle.umbrella.specs.Plan.{Plan, none, plain, stemLeft, stemRight, LeftRim, leftEnd, leftOn, RightRim, rightEnd, rightOn, LeftGate, leftGate, leftPast, RightGate}
-use Rattle.umbrella.specs.Plan.{rightGate, rightPast, Stem, endBoth, endLeft, endRight, goLeft, goRight, fold, foldLeft, foldRight, foldLeftGate, foldRightGate, foldStem, umbrellas}
+use Rattle.umbrella.specs.Plan.{rightGate, rightPast, fold, foldLeft, foldRight, foldLeftGate, foldRightGate, foldStem, umbrellas}
+use Rattle.umbrella.proofs.Parts.{Claims, Steps, of-plan}
 use Rattle.umbrella.specs.Triangles.{Triangle, same-triangle?, triangles, AtRoot, own, ownLeft, ownRight, ownLeftGate, ownRightGate, ownStem, shares, sharesLeft, sharesRight, sharesLeftGate, sharesRightGate, sharesStem, Taken}
 
 -- where the triangles of a piece lie; by their middle corners they ascend
@@ -55,12 +56,21 @@ module _ (x : Triangle) where
   both : (s t : List (List Triangle)) → o (flatten (s ++ t)) ≡ o (flatten s) + o (flatten t)
   both = occurs-flatten same-triangle? x
 
-  mutual
-    unfolding span triangles own ownLeft ownRight ownLeftGate ownRightGate ownStem shares occurs flatten
+  abbrev Counted : Claims
+  Counted = record {
+    Piece = λ t p. (u v : ℕ) → u + span t ≡ v → o (flatten (shares p u v)) ≡ o (triangles u t);
+    Left = λ t A. (u v : ℕ) → u + span t ≡ v → o (ownLeft A u v) + o (flatten (sharesLeft A u v)) ≡ o (triangles u t);
+    Right = λ t B. (u v : ℕ) → u + span t ≡ v → o (ownRight B u v) + o (flatten (sharesRight B u v)) ≡ o (triangles u t);
+    LeftGated = λ t G. (u v : ℕ) → u + span t ≡ v → o (ownLeftGate G u v) + o (flatten (sharesLeftGate G u v)) ≡ o (triangles u t);
+    RightGated = λ t G. (u v : ℕ) → u + span t ≡ v → o (ownRightGate G u v) + o (flatten (sharesRightGate G u v)) ≡ o (triangles u t);
+    Entered = λ t S. (p q : ℕ) → p + span t ≡ q → o (ownStem S p q) + o (flatten (sharesStem S p q)) ≡ o (triangles p t);
+  }
 
-    taken : {t : Tree} (p : Plan t) (u v : ℕ) → u + span t ≡ v → o (flatten (shares p u v)) ≡ o (triangles u t)
-    taken none u v h = refl
-    taken (plain {l} {r} A B) u v h =
+  counted : Steps Counted
+  unfolding span triangles own ownLeft ownRight ownLeftGate ownRightGate ownStem shares occurs flatten
+  counted = record {
+    empty = λ u v h. refl;
+    bare = λ l r A B left right u v h.
         let c : ℕ = u + span l in
         omega (
           arith,
@@ -68,10 +78,10 @@ module _ (x : Triangle) where
           occurs-append same-triangle? x (own (plain A B) u v) (flatten (sharesLeft A u c ++ sharesRight B c v)),
           around (ownLeft A u c) (ownRight B c v) u c v,
           both (sharesLeft A u c) (sharesRight B c v),
-          taken-left A u c refl,
-          taken-right B c v (omega arith),
-        )
-    taken (stemLeft {l} {r} G B) u v h =
+          left u c refl,
+          right c v (omega arith),
+        );
+    stem-below = λ l r G B left right u v h.
         let c : ℕ = u + span l in
         omega (
           arith,
@@ -79,10 +89,10 @@ module _ (x : Triangle) where
           occurs-append same-triangle? x (own (stemLeft G B) u v) (flatten (sharesLeftGate G u c ++ sharesRight B c v)),
           around (ownLeftGate G u c) (ownRight B c v) u c v,
           both (sharesLeftGate G u c) (sharesRight B c v),
-          taken-left-gate G u c refl,
-          taken-right B c v (omega arith),
-        )
-    taken (stemRight {l} {r} A G) u v h =
+          left u c refl,
+          right c v (omega arith),
+        );
+    stem-above = λ l r A G left right u v h.
         let c : ℕ = u + span l in
         omega (
           arith,
@@ -90,81 +100,72 @@ module _ (x : Triangle) where
           occurs-append same-triangle? x (own (stemRight A G) u v) (flatten (sharesLeft A u c ++ sharesRightGate G c v)),
           around (ownLeft A u c) (ownRightGate G c v) u c v,
           both (sharesLeft A u c) (sharesRightGate G c v),
-          taken-left A u c refl,
-          taken-right-gate G c v (omega arith),
-        )
-
-    taken-left : {t : Tree} (A : LeftRim t) (u v : ℕ) → u + span t ≡ v → o (ownLeft A u v) + o (flatten (sharesLeft A u v)) ≡ o (triangles u t)
-    taken-left leftEnd u v h = refl
-    taken-left (leftOn {a} {b} A p) u v h =
+          left u c refl,
+          right c v (omega arith),
+        );
+    left-end = λ u v h. refl;
+    left-on = λ a b A p rim hung u v h.
         let c : ℕ = u + span a in
-        omega (arith, at-node u v a b h, around (ownLeft A u c) [] u c v, both (sharesLeft A u c) (shares p c v), taken-left A u c refl, taken p c v (omega arith))
-
-    taken-right : {t : Tree} (B : RightRim t) (u v : ℕ) → u + span t ≡ v → o (ownRight B u v) + o (flatten (sharesRight B u v)) ≡ o (triangles u t)
-    taken-right rightEnd u v h = refl
-    taken-right (rightOn {a} {b} p B) u v h =
+        omega (arith, at-node u v a b h, around (ownLeft A u c) [] u c v, both (sharesLeft A u c) (shares p c v), rim u c refl, hung c v (omega arith));
+    right-end = λ u v h. refl;
+    right-on = λ a b p B hung rim u v h.
         let c : ℕ = u + span a in
-        omega (arith, at-node u v a b h, both (shares p u c) (sharesRight B c v), taken p u c refl, taken-right B c v (omega arith))
-
-    taken-left-gate : {t : Tree} (G : LeftGate t) (u v : ℕ) → u + span t ≡ v → o (ownLeftGate G u v) + o (flatten (sharesLeftGate G u v)) ≡ o (triangles u t)
-    taken-left-gate (leftGate {a} {b} A S) u v h =
+        omega (arith, at-node u v a b h, both (shares p u c) (sharesRight B c v), hung u c refl, rim c v (omega arith));
+    left-gate = λ a b A S rim stem u v h.
         let c : ℕ = u + span a in
-        omega (arith, at-node u v a b h, around (ownLeft A u c) (ownStem S c v) u c v, both (sharesLeft A u c) (sharesStem S c v), taken-left A u c refl, taken-stem S c v (omega arith))
-    taken-left-gate (leftPast {a} {b} G p) u v h =
+        omega (arith, at-node u v a b h, around (ownLeft A u c) (ownStem S c v) u c v, both (sharesLeft A u c) (sharesStem S c v), rim u c refl, stem c v (omega arith));
+    left-past = λ a b G p gate hung u v h.
         let c : ℕ = u + span a in
-        omega (arith, at-node u v a b h, around (ownLeftGate G u c) [] u c v, both (sharesLeftGate G u c) (shares p c v), taken-left-gate G u c refl, taken p c v (omega arith))
-
-    taken-right-gate : {t : Tree} (G : RightGate t) (u v : ℕ) → u + span t ≡ v → o (ownRightGate G u v) + o (flatten (sharesRightGate G u v)) ≡ o (triangles u t)
-    taken-right-gate (rightGate {a} {b} S B) u v h =
+        omega (arith, at-node u v a b h, around (ownLeftGate G u c) [] u c v, both (sharesLeftGate G u c) (shares p c v), gate u c refl, hung c v (omega arith));
+    right-gate = λ a b S B stem rim u v h.
         let c : ℕ = u + span a in
-        omega (arith, at-node u v a b h, around (ownStem S u c) (ownRight B c v) u c v, both (sharesStem S u c) (sharesRight B c v), taken-stem S u c refl, taken-right B c v (omega arith))
-    taken-right-gate (rightPast {a} {b} p G) u v h =
+        omega (arith, at-node u v a b h, around (ownStem S u c) (ownRight B c v) u c v, both (sharesStem S u c) (sharesRight B c v), stem u c refl, rim c v (omega arith));
+    right-past = λ a b p G hung gate u v h.
         let c : ℕ = u + span a in
-        omega (arith, at-node u v a b h, both (shares p u c) (sharesRightGate G c v), taken p u c refl, taken-right-gate G c v (omega arith))
-
-    taken-stem : {t : Tree} (S : Stem t) (p q : ℕ) → p + span t ≡ q → o (ownStem S p q) + o (flatten (sharesStem S p q)) ≡ o (triangles p t)
-    taken-stem endBoth p q h = omega (arith, at-node p q leaf leaf h)
-    taken-stem (endLeft {a} {b} c) p q h = omega (arith, at-node p q leaf (node a b) h, taken c (p + 1) q (omega arith))
-    taken-stem (endRight {a} {b} c) p q h = omega (arith, at-node p q (node a b) leaf h, taken c p (p + (span a + span b)) refl)
-    taken-stem (goLeft {a} {b} S c) p q h =
+        omega (arith, at-node u v a b h, both (shares p u c) (sharesRightGate G c v), hung u c refl, gate c v (omega arith));
+    ends = λ p q h. omega (arith, at-node p q leaf leaf h);
+    ends-left = λ a b c hung p q h. omega (arith, at-node p q leaf (node a b) h, hung (p + 1) q (omega arith));
+    ends-right = λ a b c hung p q h. omega (arith, at-node p q (node a b) leaf h, hung p (p + (span a + span b)) refl);
+    goes-left = λ a b S c stem hung p q h.
         let x : ℕ = p + span a in
-        omega (arith, at-node p q a b h, both (sharesStem S p x) (shares c x q), taken-stem S p x refl, taken c x q (omega arith))
-    taken-stem (goRight {a} {b} c S) p q h =
+        omega (arith, at-node p q a b h, both (sharesStem S p x) (shares c x q), stem p x refl, hung x q (omega arith));
+    goes-right = λ a b c S hung stem p q h.
         let x : ℕ = p + span a in
-        omega (arith, at-node p q a b h, both (shares c p x) (sharesStem S x q), taken c p x refl, taken-stem S x q (omega arith))
+        omega (arith, at-node p q a b h, both (shares c p x) (sharesStem S x q), hung p x refl, stem x q (omega arith));
+  }
 
 -- there is one share for each umbrella
-mutual
-  unfolding shares fold
+abbrev OneEach : Claims
+OneEach = record {
+  Piece = λ t p. (u v : ℕ) → length (shares p u v) ≡ umbrellas p;
+  Left = λ t A. (u v : ℕ) → length (sharesLeft A u v) ≡ foldLeft _+_ suc suc A;
+  Right = λ t B. (u v : ℕ) → length (sharesRight B u v) ≡ foldRight _+_ suc suc B;
+  LeftGated = λ t G. (u v : ℕ) → length (sharesLeftGate G u v) ≡ foldLeftGate _+_ suc suc G;
+  RightGated = λ t G. (u v : ℕ) → length (sharesRightGate G u v) ≡ foldRightGate _+_ suc suc G;
+  Entered = λ t S. (p q : ℕ) → length (sharesStem S p q) ≡ foldStem _+_ suc suc S;
+}
 
-  share-each : {t : Tree} (p : Plan t) (u v : ℕ) → length (shares p u v) ≡ umbrellas p
-  share-each none u v = refl
-  share-each (plain {l} A B) u v = let c : ℕ = u + span l in omega (arith, length-append (sharesLeft A u c) (sharesRight B c v), each-left A u c, each-right B c v)
-  share-each (stemLeft {l} G B) u v = let c : ℕ = u + span l in omega (arith, length-append (sharesLeftGate G u c) (sharesRight B c v), each-left-gate G u c, each-right B c v)
-  share-each (stemRight {l} A G) u v = let c : ℕ = u + span l in omega (arith, length-append (sharesLeft A u c) (sharesRightGate G c v), each-left A u c, each-right-gate G c v)
-
-  each-left : {t : Tree} (A : LeftRim t) (u v : ℕ) → length (sharesLeft A u v) ≡ foldLeft _+_ suc suc A
-  each-left leftEnd u v = refl
-  each-left (leftOn {a} A p) u v = let c : ℕ = u + span a in omega (arith, length-append (sharesLeft A u c) (shares p c v), each-left A u c, share-each p c v)
-
-  each-right : {t : Tree} (B : RightRim t) (u v : ℕ) → length (sharesRight B u v) ≡ foldRight _+_ suc suc B
-  each-right rightEnd u v = refl
-  each-right (rightOn {a} p B) u v = let c : ℕ = u + span a in omega (arith, length-append (shares p u c) (sharesRight B c v), share-each p u c, each-right B c v)
-
-  each-left-gate : {t : Tree} (G : LeftGate t) (u v : ℕ) → length (sharesLeftGate G u v) ≡ foldLeftGate _+_ suc suc G
-  each-left-gate (leftGate {a} A S) u v = let c : ℕ = u + span a in omega (arith, length-append (sharesLeft A u c) (sharesStem S c v), each-left A u c, each-stem S c v)
-  each-left-gate (leftPast {a} G p) u v = let c : ℕ = u + span a in omega (arith, length-append (sharesLeftGate G u c) (shares p c v), each-left-gate G u c, share-each p c v)
-
-  each-right-gate : {t : Tree} (G : RightGate t) (u v : ℕ) → length (sharesRightGate G u v) ≡ foldRightGate _+_ suc suc G
-  each-right-gate (rightGate {a} S B) u v = let c : ℕ = u + span a in omega (arith, length-append (sharesStem S u c) (sharesRight B c v), each-stem S u c, each-right B c v)
-  each-right-gate (rightPast {a} p G) u v = let c : ℕ = u + span a in omega (arith, length-append (shares p u c) (sharesRightGate G c v), share-each p u c, each-right-gate G c v)
-
-  each-stem : {t : Tree} (S : Stem t) (p q : ℕ) → length (sharesStem S p q) ≡ foldStem _+_ suc suc S
-  each-stem endBoth p q = refl
-  each-stem (endLeft c) p q = share-each c (p + 1) q
-  each-stem (endRight {a} {b} c) p q = share-each c p (p + span (node a b))
-  each-stem (goLeft {a} S c) p q = let x : ℕ = p + span a in omega (arith, length-append (sharesStem S p x) (shares c x q), each-stem S p x, share-each c x q)
-  each-stem (goRight {a} c S) p q = let x : ℕ = p + span a in omega (arith, length-append (shares c p x) (sharesStem S x q), share-each c p x, each-stem S x q)
+one-each : Steps OneEach
+unfolding shares fold
+one-each = record {
+  empty = λ u v. refl;
+  bare = λ l r A B left right u v. let c : ℕ = u + span l in omega (arith, length-append (sharesLeft A u c) (sharesRight B c v), left u c, right c v);
+  stem-below = λ l r G B left right u v. let c : ℕ = u + span l in omega (arith, length-append (sharesLeftGate G u c) (sharesRight B c v), left u c, right c v);
+  stem-above = λ l r A G left right u v. let c : ℕ = u + span l in omega (arith, length-append (sharesLeft A u c) (sharesRightGate G c v), left u c, right c v);
+  left-end = λ u v. refl;
+  left-on = λ a b A p rim hung u v. let c : ℕ = u + span a in omega (arith, length-append (sharesLeft A u c) (shares p c v), rim u c, hung c v);
+  right-end = λ u v. refl;
+  right-on = λ a b p B hung rim u v. let c : ℕ = u + span a in omega (arith, length-append (shares p u c) (sharesRight B c v), hung u c, rim c v);
+  left-gate = λ a b A S rim stem u v. let c : ℕ = u + span a in omega (arith, length-append (sharesLeft A u c) (sharesStem S c v), rim u c, stem c v);
+  left-past = λ a b G p gate hung u v. let c : ℕ = u + span a in omega (arith, length-append (sharesLeftGate G u c) (shares p c v), gate u c, hung c v);
+  right-gate = λ a b S B stem rim u v. let c : ℕ = u + span a in omega (arith, length-append (sharesStem S u c) (sharesRight B c v), stem u c, rim c v);
+  right-past = λ a b p G hung gate u v. let c : ℕ = u + span a in omega (arith, length-append (shares p u c) (sharesRightGate G c v), hung u c, gate c v);
+  ends = λ p q. refl;
+  ends-left = λ a b c hung p q. hung (p + 1) q;
+  ends-right = λ a b c hung p q. hung p (p + span (node a b));
+  goes-left = λ a b S c stem hung p q. let x : ℕ = p + span a in omega (arith, length-append (sharesStem S p x) (shares c x q), stem p x, hung x q);
+  goes-right = λ a b c S hung stem p q. let x : ℕ = p + span a in omega (arith, length-append (shares c p x) (sharesStem S x q), hung p x, stem x q);
+}
 
 -- the umbrella takes all triangles at u, and all at v
 none-at-low : (Q : Triangle → Type 0) (u c : ℕ) (t : Tree) → u < c → All (λ x. x .0 ≡ u → Q x) (triangles c t)
@@ -227,8 +228,8 @@ fan-plan (stemRight {l} {r} A G) u v h = fan-both _ _ u v l r h (fan-left A u (u
 
 pub taken-once : {t : Tree} (p : Plan t) (u v : ℕ) → u + span t ≡ v → Taken p u v
 taken-once {t} p u v h = record {
-  each = λ x m. omega (arith, taken x p u v h, mem-occurs same-triangle? x m, occurs-once same-triangle? x (λ y z. y .1 < z .1) (λ y k. omega arith) (triangles-ascend u t));
-  only = λ x m. occurs-mem same-triangle? x (triangles u t) (omega (arith, taken x p u v h, mem-occurs same-triangle? x m));
-  umbrella-each = share-each p u v;
+  each = λ x m. omega (arith, of-plan (Counted x) (counted x) p u v h, mem-occurs same-triangle? x m, occurs-once same-triangle? x (λ y z. y .1 < z .1) (λ y k. omega arith) (triangles-ascend u t));
+  only = λ x m. occurs-mem same-triangle? x (triangles u t) (omega (arith, of-plan (Counted x) (counted x) p u v h, mem-occurs same-triangle? x m));
+  umbrella-each = of-plan OneEach one-each p u v;
   at-root = λ x m. all-mem (fan-plan p u v h) m;
 }

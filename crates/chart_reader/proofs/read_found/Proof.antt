@@ -1,6 +1,5 @@
 -- The tests in their order, by the laws of Found.antt.
 use mathlib.Core.Path.{refl, ap, sym, _∙_}
-use borrow.Author.Needs.{needs}
 use borrow.Author.Tests.{not-true, not-false}
 use native.Mathlib.Omega.{arith}
 use lib.ListN.{length}
@@ -55,10 +54,23 @@ returns-4 c = (no-part (edged (c .before .before .before .before .before .before
 returns-5 : tie.Need-returns-5
 returns-5 c = (part-read (edged (c .before .before .before .before .before .before .before .before .before .before)) (c .before .before .before .before .before .before .before .gaps-keep .ensures .0 (not-false _ (c .before .before .before .before .before .before .if3 .left))) (c .before .before .before .part .last .1 .1 .0) (c .before .before .before .part .ensures .0 (not-false _ (c .if4 .left))) (omega (arith, c .before .before .before .part .kept .1 .1 .0, c .before .before .before .before .before .before .before .before .before .before .before .before .before .before .before .before .before .before .before .before .before .before .before .before .before .before .before .before .before .before .before .before .before .before .before .before .pre .1 .1)), refl)
 
+-- places that lie before others: where the bars were kept, the strokes, the gaps
+abbrev bars-at : tie.After-slice-known9 → tie.After-corners
+bars-at c = c .before .before .before .before .before .before .before .before .before
+
+abbrev strokes-at : tie.After-gaps-keep → tie.After-slice-known9
+strokes-at c = c .before .before .before .before
+
+abbrev gaps-at : tie.After-slice-known10 → tie.After-gaps-keep
+gaps-at c = c .before .before .before .before .before .before
+
 pub read-found-spec : {M : Type 1} → statement M
 read-found-spec =
     tie.close
-    (tie.spec bars-keep-requires (λ c. search needs) (λ c. search needs) (λ c. search needs) returns strokes-keep-requires (λ c. search needs) (λ c. search needs) (λ c. search needs)
-    (λ c. search needs) returns-2 gaps-keep-requires (λ c. search needs) (λ c. search needs) (λ c. search needs) (λ c. search needs) returns-3 part-requires (λ c. search needs)
-    (λ c. search needs) (λ c. search needs) (λ c. search needs) (λ c. search needs) returns-4 (λ c. search needs) (λ c. search needs) (λ c. search needs) (λ c. search needs)
-    (λ c. search needs) returns-5)
+    (tie.spec bars-keep-requires (λ c. c .before .before .before .before .before .before .starts .given) (λ c. c .before .before .before .before .ends .given) (λ c. c .before .before .corners .given) returns strokes-keep-requires
+    (λ c. bars-at (c .before) .before .before .before .before .starts .given) (λ c. bars-at (c .before) .before .before .ends .given) (λ c. bars-at (c .before) .corners .given) (λ c. c .before .before .edges .given) returns-2 gaps-keep-requires
+    (λ c. bars-at (strokes-at (c .before)) .before .before .before .before .starts .given) (λ c. bars-at (strokes-at (c .before)) .before .before .ends .given) (λ c. bars-at (strokes-at (c .before)) .corners .given) (λ c. strokes-at (c .before) .before .edges .given) returns-3 part-requires
+    (λ c. bars-at (strokes-at (gaps-at (c .before))) .before .before .before .before .starts .given) (λ c. bars-at (strokes-at (gaps-at (c .before))) .before .before .ends .given) (λ c. bars-at (strokes-at (gaps-at (c .before))) .corners .given) (λ c. strokes-at (gaps-at (c .before)) .before .edges .given)
+    (λ c. c .before .before .keys .given) returns-4
+    (λ c. bars-at (strokes-at (gaps-at (c .before))) .before .before .before .before .starts .given) (λ c. bars-at (strokes-at (gaps-at (c .before))) .before .before .ends .given) (λ c. bars-at (strokes-at (gaps-at (c .before))) .corners .given) (λ c. strokes-at (gaps-at (c .before)) .before .edges .given)
+    (λ c. c .before .before .keys .given) returns-5)

@@ -81,4 +81,5 @@ returns-2 c =
 pub show-part-spec : {M : Type 1} → statement M
 show-part-spec = tie.close
     (tie.spec (λ c. search needs) slice-aggregate-fill fill-requires (λ c κs. search needs) (λ c κs. search needs) counts-line-requires
-    (λ c. search needs) (λ c. search needs) (λ c. search needs) (λ c. search needs) returns (λ c. search needs) (λ c. search needs) returns-2)
+    (λ c. search needs) (λ c. search needs) (λ c. c .before .before .before .before .before .before .before .before .before .before .chart .given) (λ c. c .before .before .before .text .given) returns
+    (λ c. c .before .before .before .before .before .before .before .before .before .before .before .chart .given) (λ c. c .before .before .before .before .text .given) returns-2)

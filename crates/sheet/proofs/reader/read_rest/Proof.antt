@@ -1,9 +1,11 @@
 -- The tests of the pairs in their order, and that of the angles, by the laws of Found.antt.
-use mathlib.Core.Path.{sym, _∙_}
+use mathlib.Core.Path.{_≡_, sym, _∙_}
+use mathlib.Core.List.{_++_}
 use Prim.Native.Nat.{_-_}
 use borrow.Author.Needs.{needs}
 use borrow.Author.Tests.{not-true, not-false}
 use native.Mathlib.Omega.{arith}
+use lib.ListN.{length, drop}
 use lib.Seq.{length-take-le}
 use Rattle.sheet.specs.Held.{refuses}
 use Rattle.sheet.proofs.Found.{small-all, room, no-diagonals, Ordered, first-count, repeated, in-order, crossing, forbidden, read, keys-said}
@@ -104,9 +106,15 @@ returns-5 c =
     let free = c .before .before .crosses .ensures .0 (c .before .if3 .left) in
     (read F (s .args .keys .now) up free (at-order .before .before .before .allowed .ensures .0 (not-false _ (c .if4 .left))), keys-said F (s .args .keys .now) (s .pre .1 .1))
 
+-- the bends keep their length when they are put in order
+bends-kept : (c : tie.After-bends2) → let at = c .before in length (at .order .last .0 ++ drop (start at .args .h .n - 3) (at-read at .read-bends .last .1 .1 .1 .0)) ≡ length (start at .args .bends .now)
+bends-kept c = c .bends2 .given .1 ∙ at-read (c .before) .read-bends .kept .1 .1 .1 .0
+
 pub read-rest-spec : {M : Type 1} → statement M
 read-rest-spec = tie.close
-    (tie.spec (λ c. search needs) read-bends-requires (λ c. search needs) returns (λ c. search needs) slice-aggregate-allowed allowed-requires
-    (λ c. search needs) slice-aggregate-order (λ c. search needs) slice-aggregate-order-2 order-requires (λ c. search needs) (λ c. search needs)
-    returns-2 (λ c. search needs) slice-aggregate-crosses crosses-requires (λ c. search needs) (λ c. search needs) returns-3 (λ c. search needs)
-    (λ c. search needs) returns-4 (λ c. search needs) (λ c. search needs) returns-5)
+    (tie.spec (λ c. search needs) read-bends-requires (λ c. c .before .before .bends .given) returns (λ c. search needs) slice-aggregate-allowed allowed-requires
+    (λ c. search needs) slice-aggregate-order (λ c. search needs) slice-aggregate-order-2 order-requires (λ c. bends-kept (c .before .before .before .before))
+    (λ c. c .before .before .keys .given .1) returns-2 (λ c. search needs) slice-aggregate-crosses crosses-requires
+    (λ c. bends-kept (c .before .before .before .before .before .before .before)) (λ c. c .before .before .before .before .before .keys .given .1) returns-3
+    (λ c. bends-kept (c .before .before .before .before .before .before .before .before)) (λ c. c .before .before .before .before .before .before .keys .given .1) returns-4
+    (λ c. bends-kept (c .before .before .before .before .before .before .before .before)) (λ c. c .before .before .before .before .before .before .keys .given .1) returns-5)
