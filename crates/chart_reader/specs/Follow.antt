@@ -1,7 +1,7 @@
 -- Request (x), for "readers of foreign charts" that "want to follow a line with a finger": the question asked of a chart's bytes and two cells.
 -- 14 and 15 come first, as in "Read a chart": bars that break their rule show nothing. Then 9: a cell outside the chart, or two cells that are not of one row or column.
 use Rattle.std.specs.Prelude.{◌≡◌, ◌⊎◌, List, ℕ, suc, ◌+◌, ◌*◌, ◌<◌}
-use Rattle.std.proofs.Math.Logic.{Dec·and}
+use Rattle.std.proofs.Math.Logic.Dec.{and as dec_and}
 use Rattle.std.proofs.Math.Decide.{dec_lt, ℕ_discrete}
 use Rattle.lists.specs.Lists.{choose, either?, three?}
 use Rattle.codec.specs.Unpacked.{number_in, corner_in, OneNumber}
@@ -34,7 +34,7 @@ abbrev pub Asked : Chart → Cell × Cell → Type 0
 Asked c e = OnChart c e.0 × OnChart c e.1 × InLine e.0 e.1
 
 unfoldable pub on_chart? : (c : Chart) (p : Cell) → Dec (OnChart c p)
-on_chart? c p = Dec·and (dec_lt p.row c.rows) (dec_lt p.column c.columns)
+on_chart? c p = dec_and (dec_lt p.row c.rows) (dec_lt p.column c.columns)
 
 unfoldable pub asked? : (c : Chart) (e : Cell × Cell) → Dec (Asked c e)
 asked? c e = three? (on_chart? c e.0) (on_chart? c e.1) (either? (ℕ_discrete e.0.row e.1.row) (ℕ_discrete e.0.column e.1.column))

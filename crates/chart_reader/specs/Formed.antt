@@ -1,6 +1,6 @@
 -- Which runs of bytes have a chart.
 use Rattle.std.specs.Prelude.{◌≡◌, List, ℕ, ◌≤◌, ◌<◌, length, get_or}
-use Rattle.std.proofs.Math.Logic.{Dec·and}
+use Rattle.std.proofs.Math.Logic.Dec.{and as dec_and}
 use Rattle.std.proofs.Math.Decide.{dec_le, dec_lt, ℕ_discrete}
 use Rattle.lists.specs.Lists.{All, all?, recast?}
 use Rattle.sheet.specs.Sheet.{count?}
@@ -21,4 +21,4 @@ unfoldable pub formed? : (s : List ℕ) → Dec (Formed s)
 formed? s = recast?
     (λ h. record { head = h.0; least = h.1.0.0; most = h.1.0.1; bits = h.1.1.0; exact = h.1.1.1 })
     (λ F. (F.head, ((F.least, F.most), (F.bits, F.exact))))
-    (Dec·and (dec_le 6 (length s)) (Dec·and (count? (count_in s)) (Dec·and (all? (λ at. dec_lt (get_or s at 0) 2) (stroke_places s)) (ℕ_discrete (strokes_end s) (length s)))))
+    (dec_and (dec_le 6 (length s)) (dec_and (count? (count_in s)) (dec_and (all? (λ at. dec_lt (get_or s at 0) 2) (stroke_places s)) (ℕ_discrete (strokes_end s) (length s)))))

@@ -1,6 +1,6 @@
 -- Document 01, "Read a chart (normal sheet without part number). 14: wrong length, n out of range, or a bit 1 to 7. 15: a bar breaks its rule. 16: a stroke's corners or order wrong, or its bars don't fit.
 -- 17: an upright in a level gap. 18: not all sides, or diagonals cross. 8." Each test is of the whole chart before the next.
-use Rattle.std.proofs.Math.Logic.{Dec·and}
+use Rattle.std.proofs.Math.Logic.Dec.{and as dec_and}
 use Rattle.std.specs.Prelude.{List, [], ◌∷◌, ℕ}
 use Rattle.std.proofs.Math.Decide.{dec_le, dec_lt, ℕ_discrete}
 use Rattle.lists.specs.Lists.{all?, below, mem?, not?, sorted?, three?}
@@ -18,7 +18,7 @@ use Rattle.chart_reader.specs.Rules.{part_sides, Joins, ends, Free, StrokeRule, 
 -- the decisions; what each decides is its type
 module _ (c : Chart) where
   unfoldable pub bars? : Dec (BarRule c)
-  bars? = Dec·and (all? (λ x. three? (dec_le (c.bar x).left (c.bar x).right) (dec_lt (c.bar x).right c.columns) (dec_lt (c.bar x).row c.rows)) (below c.n))
+  bars? = dec_and (all? (λ x. three? (dec_le (c.bar x).left (c.bar x).right) (dec_lt (c.bar x).right c.columns) (dec_lt (c.bar x).row c.rows)) (below c.n))
       (sorted? (λ x y. not? (shares? (c.bar x) (c.bar y))) (below c.n))
 
   unfoldable pub free? : (e : Cell × Cell) → Dec (Free c e)
@@ -26,13 +26,13 @@ module _ (c : Chart) where
 
   unfoldable pub joins? : (s : Stroke) → Dec (Joins c s)
   joins? (level e) = ℕ_discrete (c.bar e.0).row (c.bar e.1).row
-  joins? (upright e j) = three? (Dec·and (dec_le (c.bar e.0).left j) (dec_le j (c.bar e.0).right)) (Dec·and (dec_le (c.bar e.1).left j) (dec_le j (c.bar e.1).right))
+  joins? (upright e j) = three? (dec_and (dec_le (c.bar e.0).left j) (dec_le j (c.bar e.0).right)) (dec_and (dec_le (c.bar e.1).left j) (dec_le j (c.bar e.1).right))
       (not? (ℕ_discrete (c.bar e.0).row (c.bar e.1).row))
 
   unfoldable pub strokes? : Dec (StrokeRule c)
-  strokes? = three? (all? (λ s. Dec·and (dec_lt (stroke_edge s).0 (stroke_edge s).1) (dec_lt (stroke_edge s).1 c.n)) c.strokes)
+  strokes? = three? (all? (λ s. dec_and (dec_lt (stroke_edge s).0 (stroke_edge s).1) (dec_lt (stroke_edge s).1 c.n)) c.strokes)
       (sorted? before? (edges_in c))
-      (all? (λ s. Dec·and (joins? s) (free? (ends c s))) c.strokes)
+      (all? (λ s. dec_and (joins? s) (free? (ends c s))) c.strokes)
 
   unfoldable pub passes? : (s t : Stroke) → Dec (Passes c s t)
   passes? (upright e j) (level f) = crosses? (ends c (upright e j)) (ends c (level f))
@@ -43,7 +43,7 @@ module _ (c : Chart) where
   gaps? = all? (λ s. all? (λ t. not? (passes? s t)) c.strokes) c.strokes
 
   unfoldable pub part? : Dec (PartRule c)
-  part? = Dec·and (all? (λ e. mem? same? e (edges_in c)) (part_sides c.n)) (none_cross? (diagonals_in c))
+  part? = dec_and (all? (λ e. mem? same? e (edges_in c)) (part_sides c.n)) (none_cross? (diagonals_in c))
 
 -- the numbers of the tests
 abbrev pub chart_tests : List ℕ

@@ -1,5 +1,5 @@
 -- How an operation with two outputs answers: the first of bytes, the second of bytes or records. As with one output (Answer.antt); and "8: either output too short."
-use Rattle.std.proofs.Math.Logic.{Dec·and}
+use Rattle.std.proofs.Math.Logic.Dec.{and as dec_and}
 use Rattle.std.specs.Prelude.{List, ◌++◌, ℕ, ◌+◌, ◌*◌, ◌<◌, length, drop}
 use Rattle.std.proofs.Math.Decide.{dec_le}
 use Rattle.codec.specs.declared.BothWritten.{BothWritten}
@@ -32,7 +32,7 @@ fit_both (no p) bs xs out ys = refusal_both 8 out ys
 
 unfoldable pub written_both : {A : Type 0} → BothOutcome A → List ℕ → List A → BothAnswer A
 written_both (refuse_both k) out ys = refusal_both k out ys
-written_both (write_both bs xs) out ys = fit_both (Dec·and (dec_le (length bs) (length out)) (dec_le (length xs) (length ys))) bs xs out ys
+written_both (write_both bs xs) out ys = fit_both (dec_and (dec_le (length bs) (length out)) (dec_le (length xs) (length ys))) bs xs out ys
 
 -- the number and the values of each case of the code's answer, with what was lent at its return
 abbrev pub answered_both : {A : Type 0} → BothWritten → List ℕ → List A → BothAnswer A

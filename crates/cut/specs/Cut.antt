@@ -1,6 +1,6 @@
 -- Request (iii), "Cutting along a bend": "A piece too long for the brake is cut along one of its diagonals (a,b). Two sheets come out: corners a to b, rooted at the cut, and the rest with its old root."
 -- Here and below c is the cut, lower corner first: a is c.0, b is c.1. The two parts that come out are the inner part and the rest. The operation on sheets stands at the end.
-use Rattle.std.proofs.Math.Logic.{Dec·and}
+use Rattle.std.proofs.Math.Logic.Dec.{and as dec_and}
 use Rattle.std.specs.Prelude.{List, [], ◌∷◌, map, ℕ, ◌+◌, ◌-◌, ◌≤◌}
 use Rattle.std.proofs.Math.Decide.{dec_le, dec_lt}
 use Rattle.lists.specs.Lists.{choose, keep, mem?, not?}
@@ -19,7 +19,7 @@ abbrev pub Beneath : Edge → Edge → Type 0
 Beneath c d = (c.0 ≤ d.0) × (d.1 ≤ c.1)
 
 unfoldable pub beneath? : (c d : Edge) → Dec (Beneath c d)
-beneath? c d = Dec·and (dec_le c.0 d.0) (dec_le d.1 c.1)
+beneath? c d = dec_and (dec_le c.0 d.0) (dec_le d.1 c.1)
 
 -- The cut is a diagonal of neither: it is the inner part's root edge and a side of the rest. Of the other diagonals those beneath it are the inner part's, and the others the rest's.
 abbrev pub inner_edges : Edge → List Edge → List Edge
@@ -53,7 +53,7 @@ rest_part c p = part_on (p.n - gone c) (rest_corner c) (rest_edges c p.ds) p
 
 -- "Refusals are those of turning a diagonal": 9 if a or b is not below n, 13 if the pair, either way round, is no diagonal of the part. Else the part is held as it is.
 unfoldable pub cuttable : ℕ → ℕ → Polygon → Reading
-cuttable a b p = ask 9 (Dec·and (dec_lt a p.n) (dec_lt b p.n)) (ask 13 (mem? same? (lower_first (a, b)) p.ds) (held p))
+cuttable a b p = ask 9 (dec_and (dec_lt a p.n) (dec_lt b p.n)) (ask 13 (mem? same? (lower_first (a, b)) p.ds) (held p))
 
 -- "Two sheets come out": the inner part's to the first output, the rest's to the second
 unfoldable pub halved : Edge → Reading → BothOutcome ℕ

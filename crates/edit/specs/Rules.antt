@@ -2,7 +2,7 @@
 -- Request (xi): "The plain part keeps bit 3 and the angles by these same rules".
 -- An ear is a corner at which no diagonal ends, with its two sides.
 use Rattle.std.specs.Prelude.{◌≡◌, List, [], ◌∷◌, map, ℕ, zero, suc, ◌+◌, ◌-◌}
-use Rattle.std.proofs.Math.Logic.{Dec·and}
+use Rattle.std.proofs.Math.Logic.Dec.{and as dec_and}
 use Rattle.std.proofs.Math.Decide.{dec_lt, ℕ_discrete}
 use Rattle.lists.specs.Lists.{all?, below, choose, either?, keep, mem?, not?}
 use Rattle.polygon.specs.Angles.{Angles, none, each}
@@ -50,11 +50,11 @@ abbrev pub Away : ℕ → Edge → Type 0
 Away k e = (¬ (e.0 ≡ k)) × (¬ (e.1 ≡ k))
 
 unfoldable pub away? : (k : ℕ) (e : Edge) → Dec (Away k e)
-away? k e = Dec·and (not? (ℕ_discrete e.0 k)) (not? (ℕ_discrete e.1 k))
+away? k e = dec_and (not? (ℕ_discrete e.0 k)) (not? (ℕ_discrete e.1 k))
 
 -- a side or a diagonal joins x and y
 unfoldable pub side? : (n x y : ℕ) → Dec (Side n x y)
-side? n x y = either? (Dec·and (ℕ_discrete y (suc x)) (dec_lt y n)) (Dec·and (ℕ_discrete x 0) (ℕ_discrete (suc y) n))
+side? n x y = either? (dec_and (ℕ_discrete y (suc x)) (dec_lt y n)) (dec_and (ℕ_discrete x 0) (ℕ_discrete (suc y) n))
 
 unfoldable pub linked? : (n : ℕ) (ds : List Edge) (x y : ℕ) → Dec (Linked n ds x y)
 linked? n ds x y = either? (side? n x y) (mem? same? (x — y) ds)
@@ -65,7 +65,7 @@ joined? n ds x y = either? (linked? n ds x y) (linked? n ds y x)
 -- Turn (a,b): "The two corners that a side or diagonal joins to both a and b", ascending; they "enter as a pair".
 -- (`two_common` in proofs/Flipped.antt: a diagonal of a valid polygon has two, no more and no fewer.)
 unfoldable pub common : ℕ → List Edge → Edge → List ℕ
-common n ds e = keep (λ x. Dec·and (joined? n ds x e.0) (joined? n ds x e.1)) (below n)
+common n ds e = keep (λ x. dec_and (joined? n ds x e.0) (joined? n ds x e.1)) (below n)
 
 unfoldable pub enter : List ℕ → List Edge → List Edge
 enter [] ds = ds
@@ -105,7 +105,7 @@ rule (remove_ear k) p =
     (held (result (p.n - 1) (map (both (down k)) p.ds) p.angles (ear_removed p.n k p.ds)))))
 rule (flip a b) p =
     let e = lower_first (a, b) in
-    ask 9 (Dec·and (dec_lt a p.n) (dec_lt b p.n))
+    ask 9 (dec_and (dec_lt a p.n) (dec_lt b p.n))
     (ask 13 (mem? same? e p.ds)
     (held (result p.n p.ds p.angles (flipped p.n e p.ds))))
 

@@ -4,7 +4,7 @@
 -- Refusals, in the order in which they are tested, before anything is written:
 -- 32: the length is no multiple of 13. 33: a kind is above 2. 34: the output for the numbers is shorter than two bytes an edit.
 -- 35: an edit lends more than the front buffer has, or more than the back buffer has.
-use Rattle.std.proofs.Math.Logic.{Dec·and}
+use Rattle.std.proofs.Math.Logic.Dec.{and as dec_and}
 use Rattle.std.specs.Prelude.{List, [], ◌∷◌, ℕ, zero, suc, ◌+◌, ◌*◌, ◌/◌, ◌%◌, ◌≤◌, length, get_or}
 use Rattle.std.proofs.Math.Decide.{dec_le, ℕ_discrete}
 use Rattle.lists.specs.Lists.{All, all?, below, choose}
@@ -50,7 +50,7 @@ unfoldable pub kinds? : (s : List ℕ) → Dec (Kinds s)
 kinds? s = all? (λ i. dec_le (kind_at s i) 2) (below (count s))
 
 unfoldable pub rooms? : (s : List ℕ) (front back : ℕ) → Dec (Rooms s front back)
-rooms? s front back = all? (λ i. Dec·and (dec_le (room_at s i) front) (dec_le (room_at s i) back)) (below (count s))
+rooms? s front back = all? (λ i. dec_and (dec_le (room_at s i) front) (dec_le (room_at s i) back)) (below (count s))
 
 -- the number of the first test that fails, or 0, by the list and the lengths of the front buffer, the back buffer and the output for the numbers
 unfoldable pub test : {P : Type 0} → ℕ → Dec P → ℕ → ℕ

@@ -57,6 +57,7 @@ module _ {A : Type 0} where
   pub all_mem : {Q : A → Type 0} {x : A} {xs : List A} → All Q xs → Mem x xs → Q x
   all_mem {Q} (all_cons q a) (head e) = subst Q (sym e) q
   all_mem (all_cons q a) (tail m) = all_mem a m
+  all_mem {Q = Q} all_nil x4 = elim x4 [ ]
 
   pub all_self : (xs : List A) → All (λ x. Mem x xs) xs
   all_self [] = all_nil
@@ -112,6 +113,7 @@ module _ {A B : Type 0} (f : A → B) where
   pub mem_unmap : {y : B} (l : List A) → Mem y (map f l) → (x : A) × Mem x l × (y ≡ f x)
   mem_unmap (a ∷ l) (head e) = (a, here, e)
   mem_unmap (a ∷ l) (tail m) = let (x, k, e) = mem_unmap l m in (x, tail k, e)
+  mem_unmap {y = y} [] x' = elim x' [ ]
 
 pub flat_append : {A B : Type 0} (f : A → List B) (xs ys : List A) → flat_map f (xs ++ ys) ≡ flat_map f xs ++ flat_map f ys
 unfolding flat_map

@@ -88,6 +88,7 @@ at_mem k (x ∷ ks) (suc j) h e = tail (at_mem k ks j (omega arith) e)
 pub mem_at : (k : ℕ) (ks : List ℕ) → Mem k ks → (j : ℕ) × (j < length ks) × (get_or ks j 0 ≡ k)
 mem_at k (x ∷ ks) (head e) = (0, omega arith, sym e)
 mem_at k (x ∷ ks) (tail m) = let (j, h, e) = mem_at k ks m in (suc j, omega arith, e)
+mem_at k [] x' = elim x' [ ]
 
 -- what holds of the value stored and of the values at the other places
 pub stored : (P : ℕ → Type 0) (l : List ℕ) (i v j : ℕ) → i < length l → (j ≡ i → P v) → ((j ≡ i → ⊥) → P (get_or l j 0)) → P (get_or (set l i v) j 0)

@@ -2,7 +2,7 @@
 -- Their laws are in proofs/Lists.antt.
 use Rattle.std.specs.Prelude.{◌≡◌, ◌⊎◌, List, [], ◌∷◌, ℕ, zero, suc, ◌+◌}
 use Rattle.std.proofs.Common.{inl, inr}
-use Rattle.std.proofs.Math.Logic.{Dec·and}
+use Rattle.std.proofs.Math.Logic.Dec.{and as dec_and}
 
 -- z is in the list
 pub data Mem {A : Type 0} (z : A) : List A → Type 0 where
@@ -118,4 +118,4 @@ recast? f g (yes a) = yes (f a)
 recast? f g (no h) = no (λ b. h (g b))
 
 unfoldable pub three? : {A B C : Type 0} → Dec A → Dec B → Dec C → Dec (A × B × C)
-three? a b c = recast? (λ h. (h.0, h.1.0, h.1.1)) (λ h. (h.0, (h.1, h.2))) (Dec·and a (Dec·and b c))
+three? a b c = recast? (λ h. (h.0, h.1.0, h.1.1)) (λ h. (h.0, (h.1, h.2))) (dec_and a (dec_and b c))

@@ -1,6 +1,6 @@
 -- Request (xi), "Bend angles on the sheet": "The brake wants an angle with each diagonal." The angles of a part, apart from its diagonals.
 use Rattle.std.specs.Prelude.{◌≡◌, ◌⊎◌, List, ℕ, ◌+◌, ◌≤◌, ◌<◌, length}
-use Rattle.std.proofs.Math.Logic.{Dec·and}
+use Rattle.std.proofs.Math.Logic.Dec.{and as dec_and}
 use Rattle.std.proofs.Math.Decide.{dec_le, dec_lt, ℕ_discrete}
 use Rattle.lists.specs.Lists.{All, all?, either?, three?}
 
@@ -24,7 +24,7 @@ Allowed n none = Unit {0}
 Allowed n (each vs) = (3 < n) × (length vs + 3 ≡ n) × All InRange vs
 
 unfoldable pub in_range? : (a : Angle) → Dec (InRange a)
-in_range? a = either? (dec_le a 1800) (Dec·and (dec_le 63736 a) (dec_lt a 65536))
+in_range? a = either? (dec_le a 1800) (dec_and (dec_le 63736 a) (dec_lt a 65536))
 
 unfoldable pub allowed? : (n : ℕ) (xs : Angles) → Dec (Allowed n xs)
 allowed? n none = yes tt

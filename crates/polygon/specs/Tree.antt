@@ -1,6 +1,6 @@
 -- A triangulated polygon as a binary tree, and the tree of a polygon.
 use Rattle.std.specs.Prelude.{◌≡◌, List, [], ◌∷◌, ◌++◌, ℕ, zero, suc, ◌+◌, ◌-◌, ◌<◌, max}
-use Rattle.std.proofs.Math.Logic.{Dec·and}
+use Rattle.std.proofs.Math.Logic.Dec.{and as dec_and}
 use Rattle.std.proofs.Math.Decide.{dec_lt, ℕ_discrete}
 use Rattle.lists.specs.Lists.{choose}
 use Rattle.polygon.specs.Polygon.{Edge, ◌—◌}
@@ -34,7 +34,7 @@ inner u (node l r) = chords_at u l ++ chords_past u (node l r)
 
 -- the farthest corner short of v that u is joined to: u + 1, or the largest c < v with (u,c) among the edges
 unfoldable pub near? : (u v : ℕ) (e : Edge) → Dec ((e.0 ≡ u) × (e.1 < v))
-near? u v e = Dec·and (ℕ_discrete e.0 u) (dec_lt e.1 v)
+near? u v e = dec_and (ℕ_discrete e.0 u) (dec_lt e.1 v)
 
 unfoldable pub farther : {P : Type 0} → Dec P → ℕ → ℕ → ℕ
 farther (yes p) a b = max a b

@@ -1,7 +1,7 @@
 -- Document 01, "The sheet", and the tests of "Set in order" in their published order.
 -- Request (xii): "New sheets are written without bit 2. A sheet that still has it is read and its four bytes are skipped, the result has none".
 -- Request (xi): "In the sheet's next edition bit 3 stands for signed angles, .., one for each pair in the listed order; setting in order moves each with its pair."
-use Rattle.std.proofs.Math.Logic.{Dec·and}
+use Rattle.std.proofs.Math.Logic.Dec.{and as dec_and}
 use Rattle.std.specs.Prelude.{List, [], ◌∷◌, ◌++◌, ℕ, zero, suc, ◌+◌, ◌*◌, ◌-◌, ◌/◌, ◌%◌, ◌≤◌, length, get_or}
 use Rattle.std.proofs.Math.Decide.{dec_le, dec_lt, ℕ_discrete}
 use Rattle.lists.specs.Lists.{all?, choose}
@@ -72,7 +72,7 @@ listed_angles s n = angles_if (bit3 (get_or s 0 0)) (angles s (angles_at (get_or
 
 -- n has 3 to 1,024 corners; bit 1 stands exactly when n > 3
 unfoldable pub count? : (n : ℕ) → Dec ((3 ≤ n) × (n ≤ 1024))
-count? n = Dec·and (dec_le 3 n) (dec_le n 1024)
+count? n = dec_and (dec_le 3 n) (dec_le n 1024)
 
 unfoldable pub more : ℕ → ℕ
 more n = choose (dec_lt 3 n) 1 0
@@ -85,7 +85,7 @@ read_sheet s =
     let n = get16 s 1 in
     let es = pairs s 3 (n - 3) in
     let xs = listed_angles s n in
-    ask 1 (Dec·and (dec_le 1 (length s)) (Dec·and (ℕ_discrete (bit0 m) 1) (dec_lt m 16)))
+    ask 1 (dec_and (dec_le 1 (length s)) (dec_and (ℕ_discrete (bit0 m) 1) (dec_lt m 16)))
     (ask 2 (dec_le 3 (length s))
     (ask 3 (count? n)
     (ask 4 (ℕ_discrete (bit1 m) (more n))

@@ -1,6 +1,6 @@
 -- Request (xii), "Part numbers go": "A sheet that still has it is read and its four bytes are skipped", and two sheets "that differ only there".
 use Rattle.std.specs.Prelude.{◌≡◌, List, ◌++◌, ℕ, ◌+◌, ◌*◌, ◌-◌, ◌≤◌, length, take, drop, set, get_or}
-use Rattle.std.proofs.Math.Logic.{Dec·and}
+use Rattle.std.proofs.Math.Logic.Dec.{and as dec_and}
 use Rattle.std.proofs.Math.Decide.{dec_le, ℕ_discrete}
 use Rattle.lists.specs.Lists.{choose}
 use Rattle.codec.specs.Numbers.{get16}
@@ -15,7 +15,7 @@ abbrev pub HasNumber : List ℕ → Type 0
 HasNumber s = (bit2 (get_or s 0 0) ≡ 1) × (pairs_end s + 4 ≤ length s)
 
 unfoldable pub has_number? : (s : List ℕ) → Dec (HasNumber s)
-has_number? s = Dec·and (ℕ_discrete (bit2 (get_or s 0 0)) 1) (dec_le (pairs_end s + 4) (length s))
+has_number? s = dec_and (ℕ_discrete (bit2 (get_or s 0 0)) 1) (dec_le (pairs_end s + 4) (length s))
 
 -- such a sheet with bit 2, of weight 4, clear and the four bytes taken out
 unfoldable pub stripped : List ℕ → List ℕ
