@@ -34,41 +34,41 @@ touch_cases u l r p q (inr m) = go (node_cases u l r (p — q) m)
     go (inr (inr k)) = inr (inl ((all_mem (chords_in (u + span l) r) k).lo, inr k))
 
 -- where a piece lies, and that its edges are edges of the whole
-pub piece_lies : {u x : ℕ} {t s : Tree} → Piece u t x s → (x ≤ u) × (u + span t ≤ x + span s)
+pub piece_lies : {u : ℕ} {t : Tree} {x : ℕ} {s : Tree} → Piece u t x s → (x ≤ u) × (u + span t ≤ x + span s)
 unfolding span
 piece_lies itself = omega arith
 piece_lies (beyond_left {x} {l} {r} q) = omega (arith, piece_lies q)
 piece_lies (beyond_right {x} {l} {r} q) = omega (arith, piece_lies q)
 
-pub piece_chords : {u x : ℕ} {t s : Tree} → Piece u t x s → Sub (chords u t) (chords x s)
+pub piece_chords : {u : ℕ} {t : Tree} {x : ℕ} {s : Tree} → Piece u t x s → Sub (chords u t) (chords x s)
 piece_chords itself e m = m
 piece_chords (beyond_left {x} {l} {r} q) e m = inner_chords x l r e (inner_left x l r e (piece_chords q e m))
 piece_chords (beyond_right {x} {l} {r} q) e m = inner_chords x l r e (inner_right x l r e (piece_chords q e m))
 
-piece_inner : {u x : ℕ} {t s : Tree} → Piece u t x s → Sub (inner u t) (inner x s)
+piece_inner : {u : ℕ} {t : Tree} {x : ℕ} {s : Tree} → Piece u t x s → Sub (inner u t) (inner x s)
 piece_inner itself e m = m
 piece_inner {u} {t = t} (beyond_left {x} {l} {r} q) e m = inner_left x l r e (piece_chords q e (inner_sub u t e m))
 piece_inner {u} {t = t} (beyond_right {x} {l} {r} q) e m = inner_right x l r e (piece_chords q e (inner_sub u t e m))
 
 -- with a piece, what lies beyond the other two edges of the triangle at its root edge
-pub left_piece : {u x : ℕ} {l r s : Tree} → Piece u (node l r) x s → Piece u l x s
+pub left_piece : {u : ℕ} {l r : Tree} {x : ℕ} {s : Tree} → Piece u (node l r) x s → Piece u l x s
 left_piece itself = beyond_left itself
 left_piece (beyond_left a) = beyond_left (left_piece a)
 left_piece (beyond_right a) = beyond_right (left_piece a)
 
-pub right_piece : {u x : ℕ} {l r s : Tree} → Piece u (node l r) x s → Piece (u + span l) r x s
+pub right_piece : {u : ℕ} {l r : Tree} {x : ℕ} {s : Tree} → Piece u (node l r) x s → Piece (u + span l) r x s
 right_piece itself = beyond_right itself
 right_piece (beyond_left a) = beyond_left (right_piece a)
 right_piece (beyond_right a) = beyond_right (right_piece a)
 
 -- a piece of a piece
-pub piece_of_piece : {u x y : ℕ} {t s w : Tree} → Piece u t x s → Piece x s y w → Piece u t y w
+pub piece_of_piece : {u x : ℕ} {t s : Tree} {y : ℕ} {w : Tree} → Piece u t x s → Piece x s y w → Piece u t y w
 piece_of_piece a itself = a
 piece_of_piece a (beyond_left b) = beyond_left (piece_of_piece a b)
 piece_of_piece a (beyond_right b) = beyond_right (piece_of_piece a b)
 
 -- two corners of a piece that are joined in the whole are joined in the piece
-pub into_piece : {u x : ℕ} {t s : Tree} → Piece u t x s → (p q : ℕ) → u ≤ p → p < q → q ≤ u + span t → JoinedIn (chords x s) p q → JoinedIn (chords u t) p q
+pub into_piece : {u : ℕ} {t : Tree} {x : ℕ} {s : Tree} → Piece u t x s → (p q : ℕ) → u ≤ p → p < q → q ≤ u + span t → JoinedIn (chords x s) p q → JoinedIn (chords u t) p q
 into_piece itself p q h i j k = k
 into_piece (beyond_left {x} {l} {r} a) p q h i j k = elim (touch_cases x l r p q k) [
   | inl w ↦ into_piece a p q h i j w.1

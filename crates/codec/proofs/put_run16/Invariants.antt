@@ -1,0 +1,16 @@
+-- The loop's invariant: the first i numbers of the run are stored.
+use Prim.Native.Nat.{◌≤◌, ◌-◌}
+use mathlib.Core.Path.{◌≡◌, ap, ◌∙◌}
+use native.Mathlib.Omega.{arith}
+use borrow.Author.Rules.{rules}
+use lib.ListN.{length, take}
+use lib.Seq.{sets, length-sets}
+use Rattle.codec.specs.Numbers.{run16}
+use Rattle.codec.proofs.Numbers.{run16_next}
+use Rattle.codec.proofs.put_run16.Given as goal
+
+abbrev pub invariant-loop-i : goal.invariant-loop-i
+invariant-loop-i l = (l.i ≤ l.m) × (l.s ≡ sets l.initial.s l.at (run16 (take l.i l.xs)))
+
+abbrev pub decreases-loop-i : goal.decreases-loop-i
+decreases-loop-i l = l.m - l.i
