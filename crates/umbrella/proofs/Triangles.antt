@@ -215,9 +215,9 @@ fan_both : (xs ys : List Triangle) (u v : ℕ) (l r : Tree) → u + (span l + sp
     → All (λ x. AtRoot u v x → Mem x (xs ++ ((u, u + span l, v) ∷ ys))) (triangles u (node l r))
 fan_both xs ys u v l r h a b =
     fan_node _ _ u v l r h
-    (all_both (λ x f g s. elim s [ inl e ↦ mem_left _ (f e) | inr e ↦ g e ]) a (none_at_high _ u v l (omega (arith, span_pos r))))
+    (all_both {Q = λ x. x.0 ≡ u → Mem x xs} {R = λ x. x.2 ≡ v → Mem x (xs ++ ((u, u + span l, v) ∷ ys))} (λ x f g s. elim s [ inl e ↦ mem_left _ (f e) | inr e ↦ g e ]) a (none_at_high _ u v l (omega (arith, span_pos r))))
     (mem_right xs here)
-    (all_both (λ x f g s. elim s [ inl e ↦ g e | inr e ↦ mem_right xs (there (f e)) ]) b (none_at_low _ u (u + span l) r (omega (arith, span_pos l))))
+    (all_both {Q = λ x. x.2 ≡ v → Mem x ys} {R = λ x. x.0 ≡ u → Mem x (xs ++ ((u, u + span l, v) ∷ ys))} (λ x f g s. elim s [ inl e ↦ g e | inr e ↦ mem_right xs (there (f e)) ]) b (none_at_low _ u (u + span l) r (omega (arith, span_pos l))))
 
 fan_plan : {t : Tree} (p : Plan t) (u v : ℕ) → u + span t ≡ v → All (λ x. AtRoot u v x → Mem x (own p u v)) (triangles u t)
 unfolding span triangles own
