@@ -64,16 +64,19 @@ row_of e = ap (λ (w : Cell). w.1) e
 asc_above : {hi lo : ℕ} {c : List Cell} (x r : ℕ) → Asc hi lo c → CellOn x r c → lo ≤ r
 asc_above x r (rise {y = y} h a) (head e) = omega (arith, row_of e)
 asc_above x r (rise h a) (tail m) = omega (arith, asc_above x r a m)
+asc_above {hi = hi} x r (end {lo = lo} _) x9 = elim x9 [ ]
 
 pub asc_below : {hi lo : ℕ} {c : List Cell} (x r : ℕ) → Asc hi lo c → CellOn x r c → r < hi
 asc_below x r (rise {y = y} h a) (head e) = omega (arith, row_of e, asc_le a)
 asc_below x r (rise h a) (tail m) = asc_below x r a m
+asc_below {hi = hi} x r (end {lo = lo} _) x9 = elim x9 [ ]
 
 pub asc_one : {hi lo : ℕ} {c : List Cell} (x y r : ℕ) → Asc hi lo c → CellOn x r c → CellOn y r c → x ≡ y
 asc_one x y r (rise h a) (head e) (head g) = ap (λ (w : Cell). w.0) (e ∙ sym g)
 asc_one x y r (rise {y = z} h a) (head e) (tail m) = absurd (omega (arith, row_of e, asc_above y r a m))
 asc_one x y r (rise {y = z} h a) (tail m) (head g) = absurd (omega (arith, row_of g, asc_above x r a m))
 asc_one x y r (rise h a) (tail m) (tail k) = asc_one x y r a m k
+asc_one {hi = hi} x y r (end {lo = lo} _) x12 _ = elim x12 [ ]
 
 asc_tail : {hi lo : ℕ} {y : Cell} {c : List Cell} → Asc hi lo (y ∷ c) → Asc hi (suc y.1) c
 asc_tail (rise h a) = a

@@ -27,14 +27,14 @@ pub served_reverse : {x : ℕ} {us : List Edge} → Served x us → Served x (re
 served_reverse s = (s.0, mem_reverse s.1, s.2)
 
 module _ (x : ℕ) where
-  pub first_le : (j : ℕ) (e : Edge) {us : List Edge} → Nth e j us → Meets x e → first x us ≤ j
+  pub first_le : (e : Edge) (j : ℕ) {us : List Edge} → Nth e j us → Meets x e → first x us ≤ j
   unfolding first choose
-  first_le j e (now {x = f} {l} h) m = pick (meets? x f)
+  first_le e j (now {x = f} {l} h) m = pick (meets? x f)
     where
       pick : (k : Dec (Meets x f)) → choose k 0 (suc (first x l)) ≤ 0
       pick (yes k) = omega arith
       pick (no k) = absurd (k (subst (Meets x) h m))
-  first_le j e (next {j = i} {x = f} {l} n) m = pick (meets? x f) (first_le i e n m)
+  first_le e j (next {j = i} {x = f} {l} n) m = pick (meets? x f) (first_le e i n m)
     where
       pick : (k : Dec (Meets x f)) → first x l ≤ i → choose k 0 (suc (first x l)) ≤ suc i
       pick (yes k) h = omega arith
@@ -52,7 +52,7 @@ module _ (x : ℕ) where
 
   pub last_ge : (j : ℕ) (e : Edge) {us : List Edge} → Nth e j us → Meets x e → j ≤ last x us
   unfolding last
-  last_ge j e {us} n m = omega (arith, nth_lt n, first_le ((length us - 1) - j) e (nth_reverse ((length us - 1) - j) (omega (arith, nth_lt n)) n) m)
+  last_ge j e {us} n m = omega (arith, nth_lt n, first_le e ((length us - 1) - j) (nth_reverse ((length us - 1) - j) (omega (arith, nth_lt n)) n) m)
 
   pub last_at : (us : List Edge) → Served x us → (e : Edge) × Nth e (last x us) us × Meets x e
   unfolding last
@@ -67,7 +67,7 @@ module _ (x : ℕ) where
     where
       pick : (k : Dec (x ≡ 0)) → choose k 0 (first x us) ≤ j
       pick (yes k) = omega arith
-      pick (no k) = first_le j e n m
+      pick (no k) = first_le e j n m
 
   pub right_ge : (v j : ℕ) (e : Edge) {us : List Edge} → Nth e j us → Meets x e → j ≤ choose (ℕ_discrete x v) (length us - 1) (last x us)
   unfolding choose

@@ -1,5 +1,7 @@
 // The chart of a triangulated polygon, and the one reader of a bar and of a stroke in a chart's bytes.
 // specs/ has the definitions, proofs/ the laws; proofs/Theorems.antt is the place to start reading.
+#![tactic(auto)]
+
 ghost use Rattle.std.specs.Prelude.{◌≡◌, ◌+◌, ◌*◌, ◌≤◌, length, get_or};
 ghost use Rattle.codec.specs.Numbers.{get16};
 ghost use Rattle.chart.specs.Decode.{bar_at, stroke_size, stroke_at, chart_in, bar_of, stroke_of};
