@@ -1,6 +1,10 @@
 // Standard input and output for the programs. What the system refuses is said on standard error, with its reason.
+#![tactic(auto)]
+
 ghost use Rattle.std.specs.Prelude.{◌≤◌, length};
 ghost use Rattle.console.specs.Within.{Within};
+
+use std::io::{Error, Read};
 
 // So many bytes were read, all of the input or as many as there is room for; or the system refused.
 #[derive(Drop)]
@@ -9,26 +13,32 @@ pub enum Input {
     Failed,
 }
 
+// Says on standard error what the system refused, and why.
+pub fn fail(rt: &impl Eprint, what: &str, why: &Error) {
+    let _ = eprintln!(rt; "{what}: {why}");
+}
+
 // One read into the buffer from `done` on: so many bytes, 0 at the end of the input.
-fn read_on(buf: &mut [u8], done: usize) -> Input
+fn read_on<R: Read>(rt: &impl Eprint, reader: &mut R, buf: &mut [u8], done: usize) -> Input
     requires { done ≤ length buf.old }
     ensures { Within result done (length buf.old) }
 {
-    let got = libc::read(libc::STDIN_FILENO, &mut buf[done..]);
-    if got < 0 {
-        os::fail(b"standard input");
-        return Input::Failed;
+    match reader.read(&mut buf[done..]) {
+        Ok(more) => Input::Bytes(more),
+        Err(why) => {
+            fail(rt, "standard input", &why);
+            Input::Failed
+        }
     }
-    Input::Bytes(io::count(got, &buf[done..]))
 }
 
-// Reads standard input until the buffer is full or the input ends.
-pub fn read_input(buf: &mut [u8]) -> Input
+// Reads until the buffer is full or the input ends. The reader is standard input, `rt.stdin()`, or what a test takes for it.
+pub fn read_input<R: Read>(rt: &impl Eprint, reader: &mut R, buf: &mut [u8]) -> Input
     ensures { Within result 0 (length buf.old) }
 {
     let mut done = 0;
     while done < buf.len() {
-        match read_on(buf, done) {
+        match read_on(rt, reader, buf, done) {
             Input::Failed => return Input::Failed,
             Input::Bytes(more) => {
                 if more == 0 {
@@ -42,8 +52,8 @@ pub fn read_input(buf: &mut [u8]) -> Input
 }
 
 // Prints the text.
-pub fn print(text: &[u8]) {
-    if !io::write_all(libc::STDOUT_FILENO, text) {
-        os::fail(b"standard output");
+pub fn print(rt: &(impl Print + Eprint), text: &[u8]) {
+    if let Err(why) = rt.write_all(text) {
+        fail(rt, "standard output", &why);
     }
 }
