@@ -48,12 +48,25 @@ bend_edge b = edge_of (key_in b)
 pub mem_edge : {b : ℕ} {bs : List ℕ} → Mem b bs → Mem (bend_edge b) (bend_edges bs)
 mem_edge m = mem_map edge_of (mem_map key_in m)
 
+mem_cases : {x y : ℕ} {xs : List ℕ} → Mem x (y ∷ xs) → (x ≡ y) ⊎ Mem x xs
+mem_cases (head e) = inl e
+mem_cases (tail m) = inr m
+
+distinct_first : {e : Edge} {es : List Edge} → Distinct (e ∷ es) → All (λ q. ¬ (q ≡ e)) es
+distinct_first (sorted_cons o d) = o
+
+distinct_rest : {e : Edge} {es : List Edge} → Distinct (e ∷ es) → Distinct es
+distinct_rest (sorted_cons o d) = d
+
 -- among bends of different diagonals each has its own angle
-angle_own : {bs : List ℕ} (b : ℕ) → Distinct (bend_edges bs) → Mem b bs → angle_of (bend_edges bs) (angles_in bs) (bend_edge b) ≡ angle_in b
-angle_own {bs = []} b d m = absurd (not_empty m)
-angle_own {bs = c ∷ bs} b (sorted_cons o d) (head e) = angle_here (bend_edge c) (bend_edges bs) (angle_in c) (angles_in bs) (bend_edge b) (ap bend_edge (sym e)) ∙ ap angle_in (sym e)
-angle_own {bs = c ∷ bs} b (sorted_cons o d) (tail m) =
-    angle_there (bend_edge c) (bend_edges bs) (angle_in c) (angles_in bs) (bend_edge b) (λ q. all_mem o (mem_edge m) (sym q)) ∙ angle_own b d m
+angle_own : (bs : List ℕ) (b : ℕ) → Distinct (bend_edges bs) → Mem b bs → angle_of (bend_edges bs) (angles_in bs) (bend_edge b) ≡ angle_in b
+angle_own [] b d m = absurd (not_empty m)
+angle_own (c ∷ bs) b d m = elim (mem_cases m) [
+  | inl e ↦ angle_here (bend_edge c) (bend_edges bs) (angle_in c) (angles_in bs) (bend_edge b) (ap bend_edge (sym e)) ∙ ap angle_in (sym e)
+  | inr k ↦
+    angle_there (bend_edge c) (bend_edges bs) (angle_in c) (angles_in bs) (bend_edge b) (λ q. all_mem (distinct_first d) (mem_edge k) (sym q))
+    ∙ angle_own bs b (distinct_rest d) k
+]
 
 -- a bend that comes from the bends bs: it is one of them, or its diagonal is new and its angle 0
 abbrev pub ComesFrom : List ℕ → ℕ → Type 0
@@ -62,5 +75,5 @@ ComesFrom bs b = Mem b bs ⊎ ((angle_in b ≡ 0) × (¬ Mem (bend_edge b) (bend
 -- Bends that all come from others have the angles that those have, and 0.
 pub carry : (bs : List ℕ) {cs : List ℕ} → Distinct (bend_edges bs) → All (ComesFrom bs) cs → angles_in cs ≡ map (angle_of (bend_edges bs) (angles_in bs)) (bend_edges cs)
 carry bs d all_nil = refl
-carry bs d (all_cons {x} (inl m) a) = ap₂ ◌∷◌ (sym (angle_own x d m)) (carry bs d a)
+carry bs d (all_cons {x} (inl m) a) = ap₂ ◌∷◌ (sym (angle_own bs x d m)) (carry bs d a)
 carry bs d (all_cons {x} (inr (z, f)) a) = ap₂ ◌∷◌ (z ∙ sym (angle_unlisted (bend_edges bs) (angles_in bs) (bend_edge x) f)) (carry bs d a)

@@ -74,7 +74,9 @@ remove_sub k bs = keep_sub _ bs
 pub mem_edges : (k : ℕ) (ks : List ℕ) → Mem k ks → Mem (edge_of k) (edges_of ks)
 mem_edges k (x ∷ ks) (head e) = head (ap edge_of e)
 mem_edges k (x ∷ ks) (tail m) = tail (mem_edges k ks m)
+mem_edges k [] x' = elim x' [ ]
 
 pub edges_mem : (k : ℕ) (ks : List ℕ) → Mem (edge_of k) (edges_of ks) → Mem k ks
 edges_mem k (x ∷ ks) (head e) = head (key_of_edge k x e)
 edges_mem k (x ∷ ks) (tail m) = tail (edges_mem k ks m)
+edges_mem k [] x' = elim x' [ ]

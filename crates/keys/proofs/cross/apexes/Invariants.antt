@@ -1,0 +1,13 @@
+-- The loop's invariant is `Scanned`.
+use mathlib.Core.Path.{refl, sym, ◌∙◌}
+use Prim.Native.Nat.{◌-◌}
+use native.Mathlib.Omega.{arith}
+use lib.ListN.{length}
+use Rattle.keys.proofs.Apexes.{Scanned, tops_begin, scanned_next, scanned_end, diagonal_at}
+use Rattle.keys.proofs.cross.apexes.Given as goal
+
+abbrev pub invariant-loop-j : goal.invariant-loop-j
+invariant-loop-j l = Scanned l.n l.keys (length l.initial.apex) l.top l.apex l.j
+
+abbrev pub decreases-loop-j : goal.decreases-loop-j
+decreases-loop-j l = length l.keys - l.j
