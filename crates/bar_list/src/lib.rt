@@ -1,4 +1,6 @@
 // The bars of a chart as records, for the tape driver: from the chart's bytes into a lent slice of structs.
+#![tactic(auto)]
+
 ghost use Rattle.std.specs.Prelude.{◌≡◌, ◌+◌, ◌*◌, ◌≤◌, length};
 ghost use Rattle.bar_list.specs.Bars.{filled};
 
