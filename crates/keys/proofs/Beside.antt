@@ -64,8 +64,8 @@ angle_own [] b d m = absurd (not_empty m)
 angle_own (c ∷ bs) b d m = elim (mem_cases m) [
   | inl e ↦ angle_here (bend_edge c) (bend_edges bs) (angle_in c) (angles_in bs) (bend_edge b) (ap bend_edge (sym e)) ∙ ap angle_in (sym e)
   | inr k ↦
-    angle_there (bend_edge c) (bend_edges bs) (angle_in c) (angles_in bs) (bend_edge b) (λ q. all_mem (distinct_first d) (mem_edge k) (sym q))
-    ∙ angle_own bs b (distinct_rest d) k
+      angle_there (bend_edge c) (bend_edges bs) (angle_in c) (angles_in bs) (bend_edge b) (λ q. all_mem (distinct_first d) (mem_edge k) (sym q))
+      ∙ angle_own bs b (distinct_rest d) k
 ]
 
 -- a bend that comes from the bends bs: it is one of them, or its diagonal is new and its angle 0

@@ -1,12 +1,9 @@
 -- The loop's invariant: the first i numbers of the run are stored.
 use Prim.Native.Nat.{◌≤◌, ◌-◌}
-use mathlib.Core.Path.{◌≡◌, ap, ◌∙◌}
-use native.Mathlib.Omega.{arith}
-use borrow.Author.Rules.{rules}
-use lib.ListN.{length, take}
-use lib.Seq.{sets, length-sets}
+use mathlib.Core.Path.{◌≡◌}
+use lib.ListN.{take}
+use lib.Seq.{sets}
 use Rattle.codec.specs.Numbers.{run16}
-use Rattle.codec.proofs.Numbers.{run16_next}
 use Rattle.codec.proofs.put_run16.Given as goal
 
 abbrev pub invariant-loop-i : goal.invariant-loop-i

@@ -1,10 +1,9 @@
-use mathlib.Core.Path.{◌≡◌, refl, ◌∙◌, sym}
-use Prim.Native.Nat.{◌≤◌, ◌-◌}
+use mathlib.Core.Path.{refl, ◌∙◌, sym}
 use native.Mathlib.Omega.{arith}
-use lib.ListN.{length, take, length-set}
+use lib.ListN.{length-set}
 use lib.Seq.{take_all}
 use Rattle.lists.proofs.Places.{mapped_next}
-use Rattle.keys.specs.Keys.{key_in, keys_in}
+use Rattle.keys.specs.Keys.{key_in}
 use Rattle.keys.proofs.bend.keys_in.Goals as goal
 
 pub loop-j-init : goal.loop-j-init

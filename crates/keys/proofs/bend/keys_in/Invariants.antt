@@ -1,11 +1,8 @@
 -- The loop's invariant: the keys before j are those of the bends.
-use mathlib.Core.Path.{◌≡◌, refl, ◌∙◌, sym}
+use mathlib.Core.Path.{◌≡◌}
 use Prim.Native.Nat.{◌≤◌, ◌-◌}
-use native.Mathlib.Omega.{arith}
-use lib.ListN.{length, take, length-set}
-use lib.Seq.{take_all}
-use Rattle.lists.proofs.Places.{mapped_next}
-use Rattle.keys.specs.Keys.{key_in, keys_in}
+use lib.ListN.{length, take}
+use Rattle.keys.specs.Keys.{keys_in}
 use Rattle.keys.proofs.bend.keys_in.Given as goal
 
 abbrev pub invariant-loop-j : goal.invariant-loop-j

@@ -1,11 +1,7 @@
 -- The loop's invariant: k is not among the keys before j.
 use mathlib.Core.Path.{◌≡◌}
-use mathlib.Core.Bool.{true≢false, false≢true}
 use Prim.Native.Nat.{ℕ, ◌≤◌, ◌<◌, ◌-◌}
-use borrow.Author.Count.{below_more}
-use native.Mathlib.Omega.{arith}
 use lib.ListN.{length, get_or}
-use Rattle.lists.proofs.Places.{at_mem, mem_at}
 use Rattle.keys.proofs.change.has.Given as goal
 
 abbrev pub invariant-loop-j : goal.invariant-loop-j

@@ -1,8 +1,5 @@
 use mathlib.Core.Path.{sym, ◌∙◌}
-use Prim.Native.Nat.{◌-◌}
-use native.Mathlib.Omega.{arith}
-use lib.ListN.{length}
-use Rattle.keys.proofs.Removal.{Removing, removing_begin, removing_same, removing_other, removing_end}
+use Rattle.keys.proofs.Removal.{removing_begin, removing_same, removing_other, removing_end}
 use Rattle.keys.proofs.change.remove.Goals as goal
 use Rattle.keys.proofs.change.remove.Goals.{then-key_in-k, else-key_in-k}
 

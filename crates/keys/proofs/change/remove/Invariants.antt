@@ -1,10 +1,7 @@
 -- The loop's invariant is `Removing`.
-use mathlib.Core.Path.{sym, ◌∙◌}
-use mathlib.Core.Logic.{⊎_elim}
 use Prim.Native.Nat.{◌-◌}
-use native.Mathlib.Omega.{arith}
 use lib.ListN.{length}
-use Rattle.keys.proofs.Removal.{Removing, removing_begin, removing_same, removing_other, removing_end}
+use Rattle.keys.proofs.Removal.{Removing}
 use Rattle.keys.proofs.change.remove.Given as goal
 
 abbrev pub invariant-loop-j : goal.invariant-loop-j

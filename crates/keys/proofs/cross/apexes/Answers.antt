@@ -1,8 +1,7 @@
-use mathlib.Core.Path.{refl, sym, ◌∙◌}
-use Prim.Native.Nat.{◌-◌}
+use mathlib.Core.Path.{refl, ◌∙◌}
 use native.Mathlib.Omega.{arith}
 use lib.ListN.{length}
-use Rattle.keys.proofs.Apexes.{Scanned, tops_begin, scanned_next, scanned_end, diagonal_at}
+use Rattle.keys.proofs.Apexes.{tops_begin, scanned_next, scanned_end, diagonal_at}
 use Rattle.keys.proofs.cross.apexes.Goals as goal
 
 pub begin-requires : goal.begin-requires

@@ -1,9 +1,7 @@
 -- The loop's invariant is `Scanned`.
-use mathlib.Core.Path.{refl, sym, ◌∙◌}
 use Prim.Native.Nat.{◌-◌}
-use native.Mathlib.Omega.{arith}
 use lib.ListN.{length}
-use Rattle.keys.proofs.Apexes.{Scanned, tops_begin, scanned_next, scanned_end, diagonal_at}
+use Rattle.keys.proofs.Apexes.{Scanned}
 use Rattle.keys.proofs.cross.apexes.Given as goal
 
 abbrev pub invariant-loop-j : goal.invariant-loop-j

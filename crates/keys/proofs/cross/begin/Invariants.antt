@@ -1,10 +1,7 @@
 -- The loop's invariant: the corners before c have their successors.
 use mathlib.Core.Path.{◌≡◌}
 use Prim.Native.Nat.{ℕ, suc, ◌≤◌, ◌<◌, ◌-◌}
-use native.Mathlib.Numerals.{add-one}
-use native.Mathlib.Omega.{arith}
-use lib.ListN.{length, get_or, length-set}
-use Rattle.lists.proofs.Places.{table_next}
+use lib.ListN.{length, get_or}
 use Rattle.keys.proofs.cross.begin.Given as goal
 
 abbrev pub invariant-loop-c : goal.invariant-loop-c

@@ -1,5 +1,4 @@
 -- The test on the tables, by the laws of Crosses.antt.
-use borrow.Author.Rules.{rules}
 use borrow.Author.Tests.{not-true, not-false}
 use native.Mathlib.Omega.{arith}
 use Rattle.keys.proofs.Crosses.{apex_below, reaches_free, fails_cross}

@@ -1,9 +1,6 @@
 -- The loop's invariant: the apexes before j reach as far as they should.
-use mathlib.Core.Path.{◌≡◌, sym, ◌∙◌}
-use mathlib.Core.Bool.{true≢false, false≢true}
+use mathlib.Core.Path.{◌≡◌}
 use Prim.Native.Nat.{ℕ, ◌%◌, ◌≤◌, ◌<◌, ◌-◌}
-use borrow.Author.Count.{below_more}
-use native.Mathlib.Omega.{arith}
 use lib.ListN.{length, get_or}
 use Rattle.keys.proofs.cross.reaches.Given as goal
 
