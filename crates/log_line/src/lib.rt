@@ -1,4 +1,6 @@
 // The line that the program prints of a part, or of a refusal. specs/Line.antt says its bytes.
+#![tactic(auto)]
+
 ghost use Rattle.std.specs.Prelude.{◌++◌, ◌+◌, ◌<◌, ◌≤◌, length};
 ghost use Rattle.log_line.specs.Line.{digits, decimal, line, refused_line};
 ghost use Rattle.log_line.specs.Put.{Put};
