@@ -1,5 +1,6 @@
 // The sheet, and reading it with its refusals (reader.rt). The crate sheet_writer writes it in normal order.
 // The definitions that the contracts cite are in specs/: Sheet.antt says what a sheet is, Held.antt how the code holds a part.
+#![tactic(auto)]
 
 pub mod reader;
 
@@ -7,7 +8,7 @@ pub mod reader;
 pub const LONGEST: usize = 6133;
 
 // A part but for its diagonals: how many corners it has, and whether it has angles.
-#[derive(Drop)]
+#[derive(Clone, Copy)]
 pub struct Head {
     pub n: usize,
     pub angled: bool,
