@@ -1,6 +1,8 @@
 // The tree of a part in one table: all its edges ascending, and for each corner the place of its last edge. A piece is known by its root edge.
 // In that order the edge (u,c) of a triangle (u,c,v) stands just before (u,v), and (c,v) is the last edge of c; so a piece is opened by two reads.
 // specs/Table.antt says which tree stands in the table; edges.rt lists the edges.
+#![tactic(auto)]
+
 ghost use Rattle.std.specs.Prelude.{◌≡◌, ℕ, ◌+◌, ◌*◌, ◌-◌, ◌<◌, ◌≤◌, length, take, get_or};
 ghost use Rattle.polygon.specs.Polygon.{Triangulated};
 ghost use Rattle.polygon.specs.Edges.{edges};
