@@ -17,7 +17,7 @@ pub struct Bar {
 }
 
 // The stroke of an edge: its corners, whether it is upright, and then its column.
-#[derive(Drop)]
+#[derive(Clone, Copy)]
 pub struct Stroke {
     pub a: u16,
     pub b: u16,

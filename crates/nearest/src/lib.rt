@@ -9,7 +9,7 @@ pub mod order;
 pub mod question;
 
 // A cell of a chart.
-#[derive(Drop)]
+#[derive(Clone, Copy)]
 pub struct Cell {
     pub row: usize,
     pub column: usize,
