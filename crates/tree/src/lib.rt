@@ -22,7 +22,7 @@ pub const LAST: usize = 2048;
 pub const PLACES: usize = 3072;
 
 // A piece by its root edge: the place e of that edge, and its two corners.
-#[derive(Drop)]
+#[derive(Clone, Copy)]
 pub struct Root {
     pub e: u16,
     pub u: u16,
@@ -30,7 +30,7 @@ pub struct Root {
 }
 
 // The pieces beyond the other two edges of a piece's triangle.
-#[derive(Drop)]
+#[derive(Clone, Copy)]
 pub struct Two {
     pub left: Root,
     pub right: Root,
