@@ -1,5 +1,7 @@
 // Writing a part as a sheet in normal order, and the operation that sets a sheet in order.
 // The definitions that the contracts cite are those of the crate sheet: specs/Sheet.antt says what a sheet is, specs/Held.antt how the code holds a part.
+#![tactic(auto)]
+
 ghost use Rattle.std.specs.Prelude.{◌≡◌, false, [], map, ◌+◌, ◌*◌, ◌-◌, ◌≤◌, ◌<◌, length, take};
 ghost use Rattle.std.proofs.lemmas.List.Edits.{sets};
 ghost use Rattle.codec.specs.Answer.{answered, whole, written, write};
