@@ -1,28 +1,32 @@
 // The program: reads a sheet on standard input, saves its chart in the file bend.chart, and prints its line, or the line of its refusal.
 // What is saved and printed is `draw_input`'s, in the crate draw. The line is printed only when the chart is in its place.
 // What the system refuses is said on standard error; then no line is printed, and no chart is left that is not whole.
+#![tactic(auto)]
+
 mod save;
 
 use console::Input;
 use draw::program::{CHART_ROOM, INPUT_ROOM, LINE_ROOM, Shown, draw_input};
+use std::random::RandomSource;
+use std::rt::Files;
 
 // Saves and prints what is done with an input of which these are the first bytes.
-fn answer(input: &[u8; INPUT_ROOM], size: usize) {
+fn answer<R: Files + Print + Eprint + RandomSource>(rt: &R, input: &[u8; INPUT_ROOM], size: usize) {
     let mut chart = [0u8; CHART_ROOM];
     let mut text = [0u8; LINE_ROOM];
     match draw_input(input, size, &mut chart, &mut text) {
-        Shown::Refused(m) => console::print(&text[..m]),
+        Shown::Refused(m) => console::print(rt, &text[..m]),
         Shown::Chart(k, m) => {
-            if save::save(&chart[..k]) {
-                console::print(&text[..m]);
+            if save::save(rt, &chart[..k]) {
+                console::print(rt, &text[..m]);
             }
         }
     }
 }
 
-fn main() {
+fn main(rt: HostRuntime) {
     let mut input = [0u8; INPUT_ROOM];
-    if let Input::Bytes(size) = console::read_input(&mut input) {
-        answer(&input, size);
+    if let Input::Bytes(size) = console::read_input(&rt, &mut rt.stdin(), &mut input) {
+        answer(&rt, &input, size);
     }
 }

@@ -1,9 +1,19 @@
 // The chart's file. The chart is written to a new file with a name of its own, flushed to the disk and renamed, so that nobody ever sees half a chart.
 // The new file is made exclusively: a file or a link that has its name is left alone, and another name is tried. It is removed on every failure.
 // What the system refuses is said on standard error.
+ghost use Rattle.std.specs.Prelude.{◌≡◌, OnOk, IsAscii};
 
-// Puts a letter for each of the random bytes at the end of the name.
-fn put_letters(random: &[u8; 16], name: &mut [u8; 27]) {
+use std::fs::{OpenFile, OpenOptions, remove_file, rename};
+use std::io;
+use std::io::{ErrorKind, Write};
+use std::random::RandomSource;
+use std::rt::Files;
+
+// A new name for the file: a letter for each of the random bytes at its end.
+fn put_letters(random: &[u8; 16], name: &mut [u8; 27])
+    ensures { IsAscii name.new }
+{
+    *name = *b"bend.chart.aaaaaaaaaaaaaaaa";
     let mut i = 0;
     while i < 16 {
         name[11 + i] = b'a' + random[i] % 26;
@@ -11,78 +21,81 @@ fn put_letters(random: &[u8; 16], name: &mut [u8; 27]) {
     }
 }
 
-// One try: a new file with a name drawn at random, as a descriptor, or -1.
-fn try_create(name: &mut [u8; 27]) -> i32 {
-    let mut random = [0u8; 16];
-    if libc::getentropy(&mut random) < 0 {
-        return -1;
-    }
-    put_letters(&random, name);
-    os::create(name)
+// The name as text.
+fn text_of(name: &[u8; 27]) -> &str
+    requires { IsAscii name.now }
+    ensures { result.now ≡ name.now }
+{
+    str::from_utf8(name).unwrap()
 }
 
-// A new file, as a descriptor, with its name; or -1. A name that is taken is no failure.
-fn create(name: &mut [u8; 27]) -> i32 {
-    let mut tries: usize = 0;
-    while tries < 100 {
-        let file = try_create(name);
-        if file >= 0 {
-            return file;
+// One try: a new file with a name drawn at random.
+fn try_create<R: Files + RandomSource>(rt: &R, name: &mut [u8; 27]) -> io::Result<R::File>
+    ensures { OnOk result (IsAscii name.new) }
+{
+    let mut random = [0u8; 16];
+    rt.fill_bytes(&mut random)?;
+    put_letters(&random, name);
+    OpenOptions::new()
+        .write(true)
+        .create_new(true)
+        .open(rt, text_of(name))
+}
+
+// A new file, with its name. A name that is taken is no failure, and another is tried, a hundred times at most.
+fn create<R: Files + RandomSource>(rt: &R, name: &mut [u8; 27]) -> io::Result<R::File>
+    ensures { OnOk result (IsAscii name.new) }
+{
+    for _ in 0..99 {
+        match try_create(rt, name) {
+            Err(why) if why.kind() == ErrorKind::AlreadyExists => {}
+            answer => return answer,
         }
-        if os::errno() != libc::EEXIST {
-            return file;
-        }
-        tries += 1;
     }
-    -1
+    try_create(rt, name)
 }
 
 // Writes the chart to the file, flushes it to the disk and closes it.
-fn fill(file: i32, chart: &[u8]) -> bool {
-    if !io::write_all(file, chart) {
-        os::fail(b"bend.chart");
-        libc::close(file);
-        return false;
-    }
-    if libc::fsync(file) < 0 {
-        os::fail(b"bend.chart");
-        libc::close(file);
-        return false;
-    }
-    if libc::close(file) < 0 {
-        os::fail(b"bend.chart");
-        return false;
-    }
-    true
+fn fill<F: Write + OpenFile + Drop>(mut file: F, chart: &[u8]) -> io::Result<()> {
+    file.write_all(chart)?;
+    file.sync_all()
 }
 
 // Gives the new file the chart's name.
-fn publish(name: &[u8; 27]) -> bool {
-    if os::rename(name, b"bend.chart") < 0 {
-        os::fail(b"bend.chart");
-        return false;
-    }
-    true
+fn publish(rt: &impl Files, name: &str) -> io::Result<()> {
+    rename(rt, name, "bend.chart")
 }
 
 // Removes the new file.
-fn discard(name: &[u8; 27]) {
-    os::unlink(name);
+fn discard(rt: &impl Files, name: &str) {
+    let _ = remove_file(rt, name);
+}
+
+// Writes the chart to the new file and gives it the chart's name.
+fn fill_and_publish<R: Files>(rt: &R, file: R::File, name: &str, chart: &[u8]) -> io::Result<()> {
+    fill(file, chart)?;
+    publish(rt, name)
+}
+
+// Writes the chart to the file bend.chart, by way of a new file.
+fn save_by_new<R: Files + RandomSource>(rt: &R, chart: &[u8]) -> io::Result<()> {
+    let mut name = *b"bend.chart.aaaaaaaaaaaaaaaa";
+    let file = create(rt, &mut name)?;
+    let name = text_of(&name);
+    let saved = fill_and_publish(rt, file, name, chart);
+    if saved.is_err() {
+        discard(rt, name);
+    }
+    saved
 }
 
 // Writes the chart to the file bend.chart, and says whether it is there.
-pub fn save(chart: &[u8]) -> bool {
-    let mut name = *b"bend.chart.aaaaaaaaaaaaaaaa";
-    let file = create(&mut name);
-    if file < 0 {
-        os::fail(b"bend.chart");
-        return false;
-    }
-    if fill(file, chart) {
-        if publish(&name) {
-            return true;
+pub fn save<R: Files + Eprint + RandomSource>(rt: &R, chart: &[u8]) -> bool {
+    match save_by_new(rt, chart) {
+        Ok(()) => true,
+        Err(why) => {
+            console::fail(rt, "bend.chart", &why);
+            false
         }
     }
-    discard(&name);
-    false
 }

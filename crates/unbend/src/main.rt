@@ -1,20 +1,22 @@
 // The program: reads a chart on standard input and prints what it shows, in words, or the line of its refusal.
 // What is printed is `describe_input`'s, in the crate chart_text.
 // What the system refuses is said on standard error; then nothing is printed.
+#![tactic(auto)]
+
 use chart_text::TEXT_ROOM;
 use chart_text::program::INPUT_ROOM;
 use console::Input;
 
 // Prints what is said of an input of which these are the first bytes.
-fn answer(input: &[u8; INPUT_ROOM], size: usize) {
+fn answer(rt: &(impl Print + Eprint), input: &[u8; INPUT_ROOM], size: usize) {
     let mut text = [0u8; TEXT_ROOM];
     let n = chart_text::program::describe_input(input, size, &mut text);
-    console::print(&text[..n]);
+    console::print(rt, &text[..n]);
 }
 
-fn main() {
+fn main(rt: HostRuntime) {
     let mut input = [0u8; INPUT_ROOM];
-    if let Input::Bytes(size) = console::read_input(&mut input) {
-        answer(&input, size);
+    if let Input::Bytes(size) = console::read_input(&rt, &mut rt.stdin(), &mut input) {
+        answer(&rt, &input, size);
     }
 }
