@@ -1,6 +1,8 @@
 // The edits of a part: add a corner, take one off, turn a diagonal, and lists of them.
 // specs/ has the rules, the plain part and the operations; proofs/Theorems.antt is the place to start reading.
 // shift.rt renumbers corners, near.rt finds the corners next to a corner, held.rt edits a part that was read.
+#![tactic(auto)]
+
 ghost use Rattle.std.specs.Prelude.{◌≡◌};
 ghost use Rattle.codec.specs.Answer.{answered, written};
 ghost use Rattle.edit.specs.Rules.{add_ear, remove_ear, flip};

@@ -6,7 +6,7 @@ use keys::bend::{bend, code_in, key_in};
 use keys::{high, key, low};
 
 // The corners above `at` go up, or down, by so many: Up(at, by), Down(at, by).
-#[derive(Drop)]
+#[derive(Clone, Copy)]
 pub enum Shift {
     Up(usize, usize),
     Down(usize, usize),
