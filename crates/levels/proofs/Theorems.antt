@@ -7,7 +7,7 @@ use native.Mathlib.Decide.{dec_lt}
 use native.Mathlib.Omega.{arith}
 use lib.ListN.{take, get_or, get_or-map}
 use lib.Seq.{get_or-take}
-use Rattle.lists.specs.Lists.{Nth, now, next, sorted_cons}
+use Rattle.lists.specs.Lists.{Nth, now, next, sorted_nil, sorted_cons}
 use Rattle.lists.proofs.Lists.{all_mem}
 use Rattle.lists.proofs.Places.{nth_mem, nth_get_d}
 use Rattle.polygon.specs.Polygon.{Edge, ◌—◌, Before, Ascending, Polygon, Valid, Linked}
@@ -30,7 +30,7 @@ record Placed (tr ds : List ℕ) (a : ℕ) (t : Tree) : Type 0 where
   shows : TreeAt tr e a (a + span t) t
   deep : Deep tr ds e t
 
-placed : {tr ds : List ℕ} {e u x v a : ℕ} {t s : Tree} → Piece a t x s → u ≡ x → TreeAt tr e u v s → Deep tr ds e s → Placed tr ds a t
+placed : {tr ds : List ℕ} {a : ℕ} {t : Tree} {x : ℕ} {s : Tree} {e u v : ℕ} → Piece a t x s → u ≡ x → TreeAt tr e u v s → Deep tr ds e s → Placed tr ds a t
 placed {e = e} itself o w d = record { e = e; shows = rw (ends w, o) at w; deep = d }
 placed (beyond_left p) o (triangle i h k q x y) (deep z f g) = placed p o x f
 placed (beyond_right p) o (triangle i h k q x y) (deep z f g) = placed p (omega (arith, ends x)) y g
@@ -59,6 +59,7 @@ before_at (sorted_cons o s) (now p) (now q) h = absurd (omega arith)
 before_at (sorted_cons o s) (now p) (next b) h = rw p (all_mem o (nth_mem b))
 before_at (sorted_cons o s) (next a) (now q) h = absurd (omega arith)
 before_at (sorted_cons o s) (next a) (next b) h = before_at s a b (omega arith)
+before_at {y = y} {i = i} {j = j} sorted_nil x8 _ h = elim x8 [ ]
 
 one_place : {x : Edge} {i j : ℕ} {l : List Edge} → Ascending l → Nth x i l → Nth x j l → i ≡ j
 one_place {x} {i} {j} s a b = go (dec_lt i j) (dec_lt j i)

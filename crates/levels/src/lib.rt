@@ -2,6 +2,8 @@
 // They are worked out recursively over the tree: a piece's larger part is gone into, a call is made for the smaller one, and the span v - u falls at each.
 // They are kept in one table of bytes, six for each edge, the edges ascending; 0 for a side other than the root.
 // Definitions: Values.antt of the crate umbrella; specs/Kept.antt says how the table holds them. (`kept` in proofs/Theorems.antt: what stands at the place of each edge.)
+#![tactic(auto)]
+
 ghost use Rattle.std.specs.Prelude.{◌≡◌, ◌⊎◌, ℕ, ◌+◌, ◌*◌, ◌-◌, ◌<◌, ◌≤◌, max, min, length, get_or};
 ghost use Rattle.polygon.specs.Polygon.{Triangulated};
 ghost use Rattle.polygon.specs.Tree.{Tree, leaf, node, tree_of};
@@ -16,7 +18,7 @@ use tree::{LAST, PLACES, Root, Two, build, open};
 pub const VALUES: usize = 12270;
 
 // The six values of an edge (a,b), a the lower corner: of its handle, of the fans of a and of b, of the partial umbrellas of a and of b, and of the whole.
-#[derive(Drop)]
+#[derive(Clone, Copy)]
 pub struct Six {
     pub handle: u16,
     pub fan_a: u16,
