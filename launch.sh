@@ -8,7 +8,7 @@
 
 here=$(cd "$(dirname "$0")" && pwd)
 if [ ! -x "$here/target/bin/$1" ]; then
-    (cd "$here" && rt check "$1") </dev/null >&2 || exit 2
+    "$here/tools/build.sh" "$1" </dev/null >&2 || exit 2
 fi
 
 # a program has no status: what it printed tells. A pipe that nobody reads any more is a failure and not the end.

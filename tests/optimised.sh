@@ -5,8 +5,7 @@ set -euo pipefail
 cd "$(dirname "$0")/.."
 root=$PWD
 export CARGO_TARGET_DIR="${CARGO_TARGET_DIR:-$root/target/cargo}"
-kit=$(cd "$(dirname "$(rt doc)")/.." && pwd)
-on="$kit/on/$(uname -m)"
+. tools/kit.sh
 work=$(mktemp -d)
 trap 'rm -rf "$work"' EXIT
 passed=0
@@ -26,25 +25,19 @@ is() {
 
 # The kit has no word for the level: its toolchain's clang is called with -O3. This toolchain differs in that word alone.
 mkdir -p "$work/toolchain/bin"
-ln -s "$on/toolchain/lib" "$work/toolchain/lib"
-ln -s "$on/toolchain/bin/ld.lld" "$on/toolchain/bin/llvm-ar" "$work/toolchain/bin/"
+ln -s "$kit/toolchain/lib" "$work/toolchain/lib"
+for tool in ld.lld llvm-ar rattle-x64; do ln -s "$kit/toolchain/bin/$tool" "$work/toolchain/bin/$tool"; done
 cat >"$work/toolchain/bin/clang" <<EOF
 #!/usr/bin/env bash
-exec "$on/toolchain/bin/clang" "\${@/#-O3/-O0}"
+exec "$kit/toolchain/bin/clang" "\${@/#-O3/-O0}"
 EOF
 chmod +x "$work/toolchain/bin/clang"
 
-rt check bend >"$work/log" || { cat "$work/log"; exit 1; }
-words=(--crate-name bend crates/bend/src/main.rt --extern "std=$on/rlib/std.rlib")
-for crate in $(sed -n 's/^bend: *//p' crates.txt); do
-    from=target/rlib
-    [ -d "$from/$crate.rlib" ] || from="$on/rlib"
-    words+=(--extern "$crate=$from/$crate.rlib")
-done
-words+=(-L dependency=target/rlib -L "dependency=$on/rlib" --antt-project "$kit/logic/antt-project.json" --logic-built "$on/logic-built")
-"$kit/bin/rattle" build "${words[@]}" --toolchain "$work/toolchain" -o "$work/bend.o" >"$work/log" 2>&1 || { cat "$work/log"; exit 1; }
-"$on/bin/rattle-link" --target x86_64-unknown-linux-gnu --toolchain "$on/toolchain" -o "$work/bend" "$work/bend.o" "$kit/lib/libos_c.a" >"$work/log" 2>&1
-is 'the program without optimisation is the larger one' test "$(wc -c <"$work/bend.o")" -gt "$(wc -c <target/obj/bend.o)"
+tools/build.sh bend >"$work/log" 2>&1 || { cat "$work/log"; exit 1; }
+words_for bend
+(cd crates/bend && "$kit/bin/rattle" build "${words[@]}" --toolchain "$work/toolchain" -o "$work/bend.o") >"$work/log" 2>&1 || { cat "$work/log"; exit 1; }
+"$kit/bin/rattle-link" --target x86_64-unknown-linux-gnu --toolchain "$kit/toolchain" -o "$work/bend" "$work/bend.o" "$kit/c/libos_c.a" "$kit/c/liblibc_c.a" >"$work/log" 2>&1
+is 'the program without optimisation is the larger one' test "$(wc -c <"$work/bend.o")" -gt "$(wc -c <crates/bend/out/bend.o)"
 
 mkdir "$work/sheets" "$work/plain" "$work/optimised"
 cargo run --quiet --release --manifest-path tests/Cargo.toml --bin sheets -- "$work/sheets"
