@@ -9,7 +9,7 @@ ghost use Rattle.chart.specs.Decode.{bar_at, stroke_size, stroke_at, chart_in, b
 use codec::get16;
 
 // The bar of a corner: its row, its first and its last column.
-#[derive(Drop)]
+#[derive(Clone, Copy)]
 pub struct Bar {
     pub row: u16,
     pub left: u16,
