@@ -1,5 +1,7 @@
 // The chart's bytes from the tables of a drawing: all edges of the part ascending, the place of each column's upright among them, the row of each corner.
 // bars.rt finds the first and the last column of each corner and the column of each edge, bytes.rt writes them.
+#![tactic(auto)]
+
 ghost use Rattle.std.specs.Prelude.{◌≡◌, List, ℕ, ◌*◌, ◌-◌};
 ghost use Rattle.polygon.specs.Polygon.{Edge};
 ghost use Rattle.codec.specs.Answer.{answered, written, write};
