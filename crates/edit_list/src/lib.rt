@@ -1,5 +1,7 @@
 // An encoded list of edits, run over two lent buffers (specs/Script.antt has the encoding and its refusals, specs/Desk.antt the state while it runs).
 // Each edit reads the sheet that the last taken one wrote, or the first sheet, and writes the buffer in which that sheet does not lie.
+#![tactic(auto)]
+
 ghost use Rattle.std.specs.Prelude.{◌≡◌, true, false, ◌+◌, ◌*◌, ◌<◌, ◌≤◌, length};
 ghost use Rattle.polygon.specs.Polygon.{Polygon};
 ghost use Rattle.sheet.specs.Sheet.{read_sheet, held};
