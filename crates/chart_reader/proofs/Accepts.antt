@@ -3,14 +3,14 @@ use mathlib.Core.Path.{◌≡◌, refl, ap, ◌∙◌}
 use mathlib.Core.List.{List}
 use Prim.Native.Nat.{ℕ, zero, suc, ◌+◌, ◌*◌, ◌-◌, ◌≤◌, ◌<◌}
 use native.Mathlib.Omega.{arith}
-use lib.ListN.{length, length-map}
+use lib.ListN.{length, get_or, length-map}
 use Rattle.lists.specs.Lists.{All}
 use Rattle.polygon.specs.Angles.{none}
 use Rattle.polygon.specs.Polygon.{Polygon, Valid}
 use Rattle.sheet.specs.Sheet.{Reading, refused, held}
 use Rattle.chart.specs.Chart.{Chart, True, Shows}
 use Rattle.chart.specs.Bytes.{bytes_of}
-use Rattle.chart.specs.Decode.{count_in, stroke_at, places, stroke_places, chart_in}
+use Rattle.chart.specs.Decode.{count_in, stroke_size, stroke_at, places, stroke_places, chart_in}
 use Rattle.nearest.specs.BarRule.{BarRule}
 use Rattle.chart_reader.specs.Formed.{Formed}
 use Rattle.chart_reader.specs.Rules.{StrokeRule, GapRule, PartRule, part_in}
@@ -26,7 +26,7 @@ use Rattle.chart_reader.proofs.Encoded.{encoded}
 pub places_count : (s : List ℕ) (at k : ℕ) → length (places s at k) ≡ k
 unfolding places
 places_count s at zero = refl
-places_count s at (suc k) = ap suc (places_count s _ k)
+places_count s at (suc k) = ap suc (places_count s (at + stroke_size (get_or s at 0)) k)
 
 pub strokes_count : (s : List ℕ) → 3 ≤ count_in s → length (chart_in s).strokes + 3 ≡ 2 * count_in s
 strokes_count s h = omega (arith, length-map (stroke_places s) (stroke_at s), places_count s (6 + 6 * count_in s) (2 * count_in s - 3))

@@ -4,7 +4,7 @@ use Rattle.lists.specs.Lists.{All}
 use Rattle.polygon.specs.Polygon.{Edge, Ascending}
 use Rattle.sheet.specs.declared.Read.{Read}
 use Rattle.sheet.specs.declared.Read.TheVariants.{Refused, Held}
-use Rattle.chart.specs.Chart.{Bar, Stroke, Chart}
+use Rattle.chart.specs.Chart.{Bar, Chart}
 use Rattle.chart.specs.Decode.{count_in, places, behind, stroke_places, stroke_of}
 use Rattle.chart.specs.declared.Stroke as code
 use Rattle.nearest.specs.Held.{SmallCell}

@@ -3,6 +3,8 @@
 // strokes.rt, gaps.rt and part.rt test the other rules; follow.rt asks the same question for others.
 // The definitions that the contracts cite are in specs/: Reader.antt has the tests in their order, Rules.antt the rules,
 // crate chart's Decode.antt the bytes, Follow.antt the nearest bar, Held.antt and Gaps.antt how the code holds a chart.
+#![tactic(auto)]
+
 ghost use Rattle.std.specs.Prelude.{◌≡◌, length};
 ghost use Rattle.codec.specs.Answer.{answered, written};
 ghost use Rattle.sheet.specs.Held.{Reads};
