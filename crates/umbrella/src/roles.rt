@@ -3,7 +3,7 @@ ghost use Rattle.std.specs.Prelude.{◌≡◌};
 ghost use Rattle.umbrella.specs.Roles.{from_right, is_hung, left_step, right_step, goes_left, stem_step, step_at, levels_under};
 
 // A piece is hung, with an umbrella of its own; or it lies on the rim below or above the apex of an umbrella; or the umbrella's stem has entered it, and is built from the left or from the right.
-#[derive(Drop)]
+#[derive(Clone, Copy)]
 pub enum Role {
     Hung,
     LeftRim,
@@ -13,7 +13,7 @@ pub enum Role {
 }
 
 // The roles of the left and of the right piece, and whether their columns are crossed.
-#[derive(Drop)]
+#[derive(Clone, Copy)]
 pub struct Step {
     pub left: Role,
     pub right: Role,
