@@ -1,7 +1,7 @@
 -- Request (xi) of a joined part: each diagonal keeps its angle, the seam starts at 0, and the part has angles exactly if one of its halves has.
 use mathlib.Core.Path.{◌≡◌, refl, ap, sym, ◌∙◌}
 use mathlib.Core.Logic.{◌⊎◌, inl, inr, ◌↔◌}
-use mathlib.Core.List.{List, ◌∷◌, ◌++◌, map}
+use mathlib.Core.List.{List, ◌∷◌, ◌++◌, map, []}
 use Prim.Native.Nat.{ℕ}
 use native.Mathlib.Omega.{arith}
 use lib.ListN.{length, length-map}
@@ -51,6 +51,7 @@ one_to_one g (z ∷ es) (sorted_cons o s) x y (head a) (head b) e = a ∙ sym b
 one_to_one g (z ∷ es) (sorted_cons o s) x y (head a) (tail b) e = absurd (all_mem o (mem_map g b) (sym e ∙ ap g a))
 one_to_one g (z ∷ es) (sorted_cons o s) x y (tail a) (head b) e = absurd (all_mem o (mem_map g a) (e ∙ ap g b))
 one_to_one g (z ∷ es) (sorted_cons o s) x y (tail a) (tail b) e = one_to_one g es s x y a b e
+one_to_one g [] _ x y a b e = elim a [ ]
 
 -- a half's diagonal has the same angle under its new numbers
 renumbered_angle : (g : Edge → Edge) (ds : List Edge) (xs : Angles) (d : Edge) → Distinct (map g ds) → Mem d ds →

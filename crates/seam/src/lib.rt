@@ -1,6 +1,8 @@
 // Joining two parts along a seam: the second part's root edge is laid on a side of the first.
 // specs/Join.antt says what part that gives, and what the operation answers; proofs/Theorems.antt is the place to start reading.
 // halves.rt joins two parts that were read.
+#![tactic(auto)]
+
 ghost use Rattle.std.specs.Prelude.{◌≡◌};
 ghost use Rattle.codec.specs.Answer.{answered, written};
 ghost use Rattle.sheet.specs.Sheet.{read_sheet, outcome};
