@@ -23,20 +23,8 @@ is() {
     fi
 }
 
-# The kit has no word for the level: its toolchain's clang is called with -O3. This toolchain differs in that word alone.
-mkdir -p "$work/toolchain/bin"
-ln -s "$kit/toolchain/lib" "$work/toolchain/lib"
-for tool in ld.lld llvm-ar rattle-x64; do ln -s "$kit/toolchain/bin/$tool" "$work/toolchain/bin/$tool"; done
-cat >"$work/toolchain/bin/clang" <<EOF
-#!/usr/bin/env bash
-exec "$kit/toolchain/bin/clang" "\${@/#-O3/-O0}"
-EOF
-chmod +x "$work/toolchain/bin/clang"
-
 tools/build.sh bend >"$work/log" 2>&1 || { cat "$work/log"; exit 1; }
-words_for bend
-(cd crates/bend && "$kit/bin/rattle" build "${words[@]}" --toolchain "$work/toolchain" -o "$work/bend.o") >"$work/log" 2>&1 || { cat "$work/log"; exit 1; }
-"$kit/bin/rattle-link" --target x86_64-unknown-linux-gnu --toolchain "$kit/toolchain" -o "$work/bend" "$work/bend.o" "$kit/c/libos_c.a" "$kit/c/liblibc_c.a" >"$work/log" 2>&1
+build_plain bend "$work/bend" >"$work/log" 2>&1 || { cat "$work/log"; exit 1; }
 is 'the program without optimisation is the larger one' test "$(wc -c <"$work/bend.o")" -gt "$(wc -c <crates/bend/out/bend.o)"
 
 mkdir "$work/sheets" "$work/plain" "$work/optimised"

@@ -38,3 +38,20 @@ words_for() {
     done
     words+=(--antt-project "$kit/rattle/logic/antt-project.json" --logic-built "$kit/logic_built" --backend llvm)
 }
+
+# build_plain NAME OUT: into OUT, the program NAME as it is built but without optimisation; OUT.o is its object file.
+# The kit has no word for the level: its toolchain's clang is called with -O3. The toolchain made here, OUT.toolchain, differs in that word alone.
+build_plain() {
+    local tool made="$2.toolchain"
+    mkdir -p "$made/bin"
+    ln -s "$kit/toolchain/lib" "$made/lib"
+    for tool in ld.lld llvm-ar rattle-x64; do ln -s "$kit/toolchain/bin/$tool" "$made/bin/$tool"; done
+    cat >"$made/bin/clang" <<EOF
+#!/usr/bin/env bash
+exec "$kit/toolchain/bin/clang" "\${@/#-O3/-O0}"
+EOF
+    chmod +x "$made/bin/clang"
+    words_for "$1"
+    (cd "crates/$1" && "$kit/bin/rattle" build "${words[@]}" --toolchain "$made" -o "$2.o") &&
+        "$kit/bin/rattle-link" --target x86_64-unknown-linux-gnu --toolchain "$kit/toolchain" -o "$2" "$2.o" "$kit/c/libos_c.a" "$kit/c/liblibc_c.a"
+}
