@@ -7,7 +7,8 @@ use native.Mathlib.Omega.{arith}
 use lib.ListN.{length, get_or}
 use Rattle.codec.specs.Numbers.{get16}
 use Rattle.sheet.specs.Sheet.{Reading, ask, bit0, bit1, sheet_length, more, read_sheet}
-use Rattle.sheet.proofs.Asks.{edges_in, angles_of, pair_tests}
+use Rattle.sheet.proofs.Asks.{edges_in, angles_of}
+use Rattle.sheet.proofs.PairTests.{pair_tests}
 
 -- a test passed by both or by neither, and what comes after it
 pub ask_alike : {P Q : Type 0} (k : ℕ) (d : Dec P) (e : Dec Q) {r q : Reading} → P ↔ Q → (P → r ≡ q) → ask k d r ≡ ask k e q

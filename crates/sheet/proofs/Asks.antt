@@ -5,14 +5,15 @@ use mathlib.Core.List.{List}
 use Prim.Native.Nat.{ℕ, ◌-◌, ◌≤◌, ◌<◌}
 use native.Mathlib.Omega.{arith}
 use lib.ListN.{length, get_or}
-use Rattle.lists.specs.Lists.{All, all?}
+use Rattle.lists.specs.Lists.{All}
 use Rattle.polygon.specs.Angles.{Angles, Allowed, allowed?}
 use Rattle.polygon.specs.Polygon.{Edge, NoneCross, Diagonal, Polygon}
-use Rattle.polygon.specs.Order.{diagonal?, Distinct, distinct?, none_cross?, sort}
+use Rattle.polygon.specs.Order.{Distinct, sort}
 use Rattle.polygon.specs.Carried.{carried}
 use Rattle.codec.specs.Numbers.{get16}
 use Rattle.sheet.specs.Sheet.{Reading, refused, held, ask, bit0, bit1, sheet_length, pairs, listed_angles, more, read_sheet}
 use Rattle.sheet.specs.Framed.{Framed, Paired}
+use Rattle.sheet.proofs.PairTests.{pair_tests}
 
 -- a test that is passed, and one that is not
 pub ask_yes : {P : Type 0} (k : ℕ) (d : Dec P) (r : Reading) → P → ask k d r ≡ r
@@ -85,15 +86,6 @@ module _ (s : List ℕ) where
         pub refused_2b : bit1 (get_or s 0 0) ≡ more (get16 s 1) → ¬ (length s ≡ sheet_length (get_or s 0 0) (get16 s 1)) → read_sheet s ≡ refused 2
         unfolding read_sheet
         refused_2b agrees h = past 1 _ _ (some, (low, small)) (past 2 _ _ three (past 3 _ _ (least, most) (past 4 _ _ agrees (ask_no 2 _ _ h))))
-
--- the tests of the pairs and their angles, which come after all others
-abbrev pub pair_tests : ℕ → List Edge → Angles → Reading
-pair_tests n es xs =
-    ask 5 (all? (diagonal? n) es)
-    (ask 6 (distinct? es)
-    (ask 7 (none_cross? es)
-    (ask 23 (allowed? n xs)
-    (held (record { n = n; ds = sort es; angles = carried es xs (sort es) })))))
 
 pub framed : {s : List ℕ} → Framed s → read_sheet s ≡ pair_tests (get16 s 1) (edges_in s) (angles_of s)
 unfolding read_sheet

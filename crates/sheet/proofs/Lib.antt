@@ -1,3 +1,4 @@
+pub mod PairTests
 pub mod Asks
 pub mod Fields
 pub mod Normal
