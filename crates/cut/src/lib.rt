@@ -1,6 +1,8 @@
 // Cutting a part along one of its diagonals: the part on the corners a to b, and the rest, as two sheets.
 // specs/Cut.antt says what parts these are, and what the operation answers; proofs/Theorems.antt is the place to start reading.
 // halves.rt cuts a part that was read.
+#![tactic(auto)]
+
 ghost use Rattle.std.specs.Prelude.{◌≡◌, ◌<◌, ◌≤◌};
 ghost use Rattle.polygon.specs.Polygon.{◌—◌};
 ghost use Rattle.polygon.specs.Order.{lower_first};
