@@ -17,7 +17,7 @@ pub struct Tally {
 }
 
 // A piece, its role, and the levels under its umbrella; for a hung piece d is not looked at.
-#[derive(Drop)]
+#[derive(Clone, Copy)]
 struct Spot {
     piece: Root,
     role: Role,

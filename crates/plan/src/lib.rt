@@ -1,6 +1,8 @@
 // The operation Plan: levels, umbrellas and stems of the plan drawn of a sheet's part.
 // The crates tree and levels hold the part's tree and the values of its edges; counts.rt counts the umbrellas and stems of the plan drawn.
 // The definitions that the contracts cite are in specs/; Answer.antt says what the operation answers.
+#![tactic(auto)]
+
 ghost use Rattle.std.specs.Prelude.{◌≡◌, ℕ};
 ghost use Rattle.polygon.specs.Tree.{Tree};
 ghost use Rattle.sheet.specs.Held.{polygon_of, InHand};
