@@ -1,2 +1,3 @@
 -- What serves the contracts and the code.
 pub mod Within
+pub mod Read

@@ -1,8 +1,9 @@
 // Standard input and output for the programs. What the system refuses is said on standard error, with its reason.
 #![tactic(auto)]
 
-ghost use Rattle.std.specs.Prelude.{◌≤◌, length};
+ghost use Rattle.std.specs.Prelude.{◌≡◌, ◌≤◌, length, take};
 ghost use Rattle.console.specs.Within.{Within};
+ghost use Rattle.console.specs.Read.{ReadBehind, ReadFull};
 
 use std::io::{Error, Read};
 
@@ -21,7 +22,9 @@ pub fn fail(rt: &impl Eprint, what: &str, why: &Error) {
 // One read into the buffer from `done` on: so many bytes, 0 at the end of the input.
 fn read_on<R: Read>(rt: &impl Eprint, reader: &mut R, buf: &mut [u8], done: usize) -> Input
     requires { done ≤ length buf.old }
-    ensures { Within result done (length buf.old) }
+    ensures within { Within result done (length buf.old) }
+    ensures kept { take done buf.new ≡ take done buf.old }
+    ensures bytes { ReadBehind result done (R.remaining reader.old) (R.remaining reader.new) buf.new }
 {
     match reader.read(&mut buf[done..]) {
         Ok(more) => Input::Bytes(more),
@@ -34,7 +37,8 @@ fn read_on<R: Read>(rt: &impl Eprint, reader: &mut R, buf: &mut [u8], done: usiz
 
 // Reads until the buffer is full or the input ends. The reader is standard input, `rt.stdin()`, or what a test takes for it.
 pub fn read_input<R: Read>(rt: &impl Eprint, reader: &mut R, buf: &mut [u8]) -> Input
-    ensures { Within result 0 (length buf.old) }
+    ensures within { Within result 0 (length buf.old) }
+    ensures bytes { ReadFull result (R.remaining reader.old) (R.remaining reader.new) buf.new }
 {
     let mut done = 0;
     while done < buf.len() {
