@@ -5,7 +5,7 @@ use mathlib.Core.List.{List, [], ◌∷◌, ◌++◌, map, map-map}
 use Prim.Native.Nat.{ℕ, suc, ◌*◌, ◌≤◌}
 use native.Mathlib.Omega.{arith}
 use Rattle.polygon.specs.Tree.{Tree, leaf, node}
-use Rattle.umbrella.specs.Plan.{Plan, none, plain, stem_left, stem_right, levels}
+use Rattle.umbrella.specs.Plan.{Plan, none, Stem, end_both, plain, stem_left, stem_right, levels}
 use Rattle.umbrella.specs.Values.{ud}
 use Rattle.umbrella.specs.Best.{best}
 use Rattle.umbrella.specs.declared.roles.Role.TheVariants.{Hung, LeftRim, RightRim, FromLeft, FromRight}
@@ -56,6 +56,9 @@ module _ (d : ℕ) (far near : Line) (f g : ℕ → ℕ) (B : Both d far near f 
   right_way true p ys e i P s = own_ranks d far near a b FromRight _ refl e ∙ joined f (map suc (rows p)) 1 ys (hung_on d a p near near f suc P i B.on_near) (at_zero near B.on_near) s
   right_way false p ys e i P s = own_ranks d far near a b FromLeft _ refl e ∙ joined f (map g (rows p)) (g 0) ys (hung_on d a p far near f g P i B.on_far) (at_zero far B.on_far) s
 
+abbrev Entered : Bool → ℕ → (t : Tree) → Stem t → Type 0
+Entered k d t T = (far near : Line) (f g : ℕ → ℕ) → Both d far near f g → ranks (stem k) d far near t ≡ map f (stem_rows (beside_by k g) (beside_by (not k) g) T)
+
 pub rows_best : (t : Tree) (d : ℕ) (far near : Line) (f : ℕ → ℕ) → OnLine far f (2 * ud t) → ranks Hung d far near t ≡ map f (rows (best t))
 unfolding rows ranks ud aside
 rows_best = by_recursion (record {
@@ -64,7 +67,7 @@ rows_best = by_recursion (record {
   LeftGated = λ d t G. (far near : Line) (f g : ℕ → ℕ) → Both d far near f g → ranks LeftRim d far near t ≡ map f (left_gate_rows g G);
   Right = λ d t A. (far near : Line) (f g : ℕ → ℕ) → OnLine far (λ r. f (g r)) (2 * d) → ranks RightRim d far near t ≡ map f (right_rows g A);
   RightGated = λ d t G. (far near : Line) (f g : ℕ → ℕ) → Both d far near f g → ranks RightRim d far near t ≡ map f (right_gate_rows g G);
-  Entered = λ k d t T. (far near : Line) (f g : ℕ → ℕ) → Both d far near f g → ranks (stem k) d far near t ≡ map f (stem_rows (beside_by k g) (beside_by (not k) g) T);
+  Entered = Entered;
 }) (record {
   empty = λ d far near f o. refl;
   bare = λ k l r A B h L R d far near f o.
@@ -90,7 +93,7 @@ rows_best = by_recursion (record {
       ∙ joined f (map g (rows p)) (g 0) (right_gate_rows g G) (hung_on d a p far near f g P i B.on_far) (at_zero far B.on_far) (R far near f g B);
   right_gate_lem = λ d a b T A e s R far near f g B. own_ranks d far near a b RightRim _ refl e
       ∙ joined f (stem_rows suc g T) 1 (right_rows suc A) (s far near f g B) (at_zero near B.on_near) (R near near f suc B.on_near);
-  ends = λ k. elim k [
+  ends = λ k. elim k as (λ k. (d : ℕ) → step_of (stem k) d leaf leaf ≡ stem_step (stem k) k (not k) → Entered k d (node leaf leaf) end_both) [
     | true ↦ λ d e far near f g B. right_way d far near f g B leaf leaf true none [] e (omega arith) (λ d far near f o. refl) refl
     | false ↦ λ d e far near f g B. left_way d far near f g B leaf leaf false [] none e (omega arith) refl (λ d far near f o. refl)
   ];

@@ -1,6 +1,8 @@
 // The drawing of a part: the place of each column's upright among the edges, the row of each corner, and how many columns and rows there are.
 // lines.rt says how the drawing goes on from a triangle, walk.rt writes the columns and rows; closing.rt leaves out the rows without bars afterwards.
 // The definitions that the contracts cite are in specs/; Located.antt says what is drawn of a part.
+#![tactic(auto)]
+
 ghost use Rattle.std.specs.Prelude.{◌≡◌, length};
 ghost use Rattle.polygon.specs.Tree.{Tree};
 ghost use Rattle.levels.specs.Kept.{Filled};
@@ -18,7 +20,7 @@ pub mod lines;
 pub mod walk;
 
 // How many columns and rows a drawing has.
-#[derive(Drop)]
+#[derive(Clone, Copy)]
 pub struct Size {
     pub columns: usize,
     pub rows: usize,

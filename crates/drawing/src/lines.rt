@@ -7,14 +7,14 @@ use tree::{Root, Two};
 use umbrella::roles::{Role, Step};
 
 // The row of the part on which row 0 of a hung piece lies, and whether its rows go down from there. Rows are numbered downwards.
-#[derive(Drop)]
+#[derive(Clone, Copy)]
 pub struct Line {
     pub base: u16,
     pub down: bool,
 }
 
 // How a piece is drawn: its role in the umbrella and the levels under that, whether it is reversed, and the lines of the umbrella's far and near row.
-#[derive(Drop)]
+#[derive(Clone, Copy)]
 pub struct Way {
     pub role: Role,
     pub turned: bool,
@@ -24,7 +24,7 @@ pub struct Way {
 }
 
 // On from a triangle: the piece beside the rim or stem and how it is drawn, the piece that the rim or stem goes on to and its role.
-#[derive(Drop)]
+#[derive(Clone, Copy)]
 pub struct Next {
     pub beside: Root,
     pub way: Way,
@@ -33,7 +33,7 @@ pub struct Next {
 }
 
 // The two rims of an umbrella in the order of their columns.
-#[derive(Drop)]
+#[derive(Clone, Copy)]
 pub struct Rims {
     pub first: Root,
     pub second: Root,
