@@ -1,5 +1,4 @@
 -- The loop's invariant is `Splitting`.
-
 use Prim.Native.Nat.{◌-◌}
 use lib.ListN.{length}
 use Rattle.polygon.specs.Polygon.{◌—◌}
