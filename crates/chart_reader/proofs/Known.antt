@@ -13,7 +13,8 @@ use Rattle.sheet.specs.Sheet.{Reading, refused, held, ask, count?}
 use Rattle.chart.specs.Chart.{Bar, Stroke, upright, level, stroke_edge, bars_of}
 use Rattle.chart.specs.Bytes.{bar_bytes, stroke_bytes, bytes_of}
 use Rattle.chart.specs.Decode.{bar_on, shaped, places, behind}
-use Rattle.nearest.specs.Areas.{common?, common_of, between, stands?, shares?, crosses?}
+use Rattle.nearest.specs.Areas.{common?, common_of, between, shares?}
+use Rattle.nearest.proofs.Areas.{stands?, crosses?}
 use Rattle.chart_reader.specs.Formed.{formed?}
 use Rattle.chart_reader.specs.Rules.{part_sides}
 use Rattle.chart_reader.specs.Reader.{bars?, free?, joins?, strokes?, passes?, gaps?, part?, read_chart}

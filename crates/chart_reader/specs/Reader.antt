@@ -11,7 +11,8 @@ use Rattle.chart.specs.Chart.{Stroke, upright, level, stroke_edge, Chart}
 use Rattle.chart.specs.Decode.{chart_in}
 use Rattle.nearest.specs.declared.Cell.{Cell}
 use Rattle.nearest.specs.BarRule.{BarRule}
-use Rattle.nearest.specs.Areas.{shares?, stands?, crosses?}
+use Rattle.nearest.specs.Areas.{shares?}
+use Rattle.nearest.proofs.Areas.{stands?, crosses?}
 use Rattle.chart_reader.specs.Formed.{formed?}
 use Rattle.chart_reader.specs.Rules.{part_sides, Joins, ends, Free, StrokeRule, Passes, GapRule, edges_in, diagonals_in, PartRule, part_in}
 

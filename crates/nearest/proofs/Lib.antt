@@ -1,3 +1,4 @@
+pub mod Areas
 pub mod Line
 pub mod Spans
 pub mod Columns

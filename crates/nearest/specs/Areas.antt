@@ -1,11 +1,12 @@
 -- Whether two kinds of cells have a cell in common: decisions. What each decides is its type; they compute with areas.
-use Rattle.std.specs.Prelude.{◌≡◌, ℕ, suc, ◌≤◌, ◌<◌, min, max}
-use Rattle.std.proofs.Common.{sym, ◌∙◌, inl, inr, arith}
+-- Those that rest on what stands between two cells are in proofs/Areas.antt.
+use Rattle.std.specs.Prelude.{ℕ, suc, ◌≤◌, ◌<◌, min, max}
+use Rattle.std.proofs.Common.{arith}
 use Rattle.std.proofs.Math.Decide.{dec_lt, ℕ_discrete}
 use Rattle.lists.specs.Lists.{choose, recast?}
 use Rattle.chart.specs.Chart.{Bar}
 use Rattle.nearest.specs.declared.Cell.{Cell}
-use Rattle.nearest.specs.Cells.{cell, HasCell, Inside, CommonCell, Stands}
+use Rattle.nearest.specs.Cells.{cell, HasCell, CommonCell}
 
 -- the cells of the rows from `top` to before `bottom` in the columns from `left` to before `right`
 pub record Area : Type 0 where
@@ -54,30 +55,6 @@ nowhere = record { top = 0; bottom = 0; left = 0; right = 0 }
 unfoldable pub between : Cell × Cell → Area
 between e = choose (ℕ_discrete e.0.row e.1.row) (row_area e) (choose (ℕ_discrete e.0.column e.1.column) (column_area e) nowhere)
 
-pub row_fills : (e : Cell × Cell) → e.0.row ≡ e.1.row → Fills (Inside e) (row_area e)
-row_fills e h = record { covered = λ c i. elim i [ inl k ↦ omega (arith, k) | inr k ↦ absurd (omega (arith, k)) ]; filled = λ c i. inl (omega arith) }
-
-pub column_fills : (e : Cell × Cell) → e.0.column ≡ e.1.column → Fills (Inside e) (column_area e)
-column_fills e h = record { covered = λ c i. elim i [ inl k ↦ absurd (omega (arith, k)) | inr k ↦ omega (arith, k) ]; filled = λ c i. inr (omega arith) }
-
-pub nowhere_fills : (e : Cell × Cell) → ¬ (e.0.row ≡ e.1.row) → ¬ (e.0.column ≡ e.1.column) → Fills (Inside e) nowhere
-nowhere_fills e f g = record { covered = λ c i. absurd (elim i [ inl k ↦ f (k.0 ∙ sym k.1) | inr k ↦ g (k.0 ∙ sym k.1) ]); filled = λ c i. absurd (omega arith) }
-
-pub between_fills : (e : Cell × Cell) → Fills (Inside e) (between e)
-unfolding between choose
-between_fills e = go (ℕ_discrete e.0.row e.1.row) (ℕ_discrete e.0.column e.1.column)
-  where
-    go : (d : Dec (e.0.row ≡ e.1.row)) (k : Dec (e.0.column ≡ e.1.column)) → Fills (Inside e) (choose d (row_area e) (choose k (column_area e) nowhere))
-    go (yes h) k = row_fills e h
-    go (no f) (yes h) = column_fills e h
-    go (no f) (no g) = nowhere_fills e f g
-
--- whether a bar stands between two cells, two bars share a cell, a cell lies between two cells and between two others
-unfoldable pub stands? : (e : Cell × Cell) (b : Bar) → Dec (Stands e b)
-stands? e b = common_of (between e) (bar_area b) (between_fills e) (bar_fills b)
-
+-- whether two bars share a cell
 unfoldable pub shares? : (b d : Bar) → Dec (CommonCell (HasCell b) (HasCell d))
 shares? b d = common_of (bar_area b) (bar_area d) (bar_fills b) (bar_fills d)
-
-unfoldable pub crosses? : (e f : Cell × Cell) → Dec (CommonCell (Inside e) (Inside f))
-crosses? e f = common_of (between e) (between f) (between_fills e) (between_fills f)

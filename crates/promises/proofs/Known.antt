@@ -28,7 +28,8 @@ use Rattle.chart.specs.Chart.{stroke_edge, bars_of, meets?, first, last, stroke,
 use Rattle.chart.specs.Bytes.{bar_bytes, stroke_bytes, bytes_of}
 use Rattle.chart.specs.Decode.{shaped, places, behind}
 use Rattle.nearest.specs.Nearest as near
-use Rattle.nearest.specs.Areas.{common?, common_of, between, stands?, shares?, crosses?}
+use Rattle.nearest.specs.Areas.{common?, common_of, between, shares?}
+use Rattle.nearest.proofs.Areas.{stands?, crosses?}
 use Rattle.chart_reader.specs.Formed.{formed?}
 use Rattle.chart_reader.specs.Rules.{part_sides}
 use Rattle.chart_reader.specs.Follow.{on_chart?, asked?, nearest_bar}
