@@ -2,6 +2,8 @@
 // The low 16 bits of an answer are the number, 0 or that of a refusal. Above it stands the length of what was written, or for Plan the levels,
 // umbrellas and stems, 16 bits each, or for Cut the two lengths, 16 bits each, or for a list of edits the place of the sheet left, in 16 bits, and its length,
 // or for the nearest bar its corner and one.
+#![tactic(auto)]
+
 ghost use Rattle.std.specs.Prelude.{◌≡◌, List, ℕ, ◌<◌};
 ghost use Rattle.codec.specs.Answer.{written, answered, packed, Packable};
 ghost use Rattle.codec.specs.TwoOutputs.{written_both, answered_both, packed_both, BothPackable};
