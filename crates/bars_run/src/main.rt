@@ -55,7 +55,7 @@ fn call(rt: &impl Print, on_label: bool, sheet: &[u8], lent: usize, room: usize)
         left: 61166,
         right: 61166,
     }; BAR_ROOM];
-    if lent + 4 > CHART_ROOM || room + 4 > BAR_ROOM {
+    if lent > CHART_ROOM - 4 || room > BAR_ROOM - 4 {
         return Ok(());
     }
     let answer = drawn(on_label, sheet, &mut out[..lent], &mut bars[..room]);
