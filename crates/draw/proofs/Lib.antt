@@ -4,10 +4,6 @@ pub mod Size
 pub mod WithBars
 pub mod Answers
 pub mod Bare
-pub mod Lent
-pub mod BothCode
-pub mod BothWalk
-pub mod BothMet
 pub mod Refusals
 pub mod Nineteen
 pub mod Theorems

@@ -1,6 +1,8 @@
 // The operation Draw, for a tape and for a label: the chart of a sheet's part, and its bars in a lent list of records; and what the program does with its
 // input (program.rt, line.rt). The columns and rows come from the crate drawing, the bytes from chart_writer, the records from bar_list.
 // specs/Answer.antt says what the operation answers, specs/Label.antt the same with a limit of rows.
+#![tactic(auto)]
+
 ghost use Rattle.std.specs.Prelude.{◌≡◌, true, false, List, map, ℕ, ◌≤◌, length};
 ghost use Rattle.polygon.specs.Tree.{Tree};
 ghost use Rattle.codec.specs.Answer.{answered, written};
@@ -34,7 +36,7 @@ pub mod line;
 pub mod program;
 
 // The most rows that a chart may have: any number on a tape, LABEL_ROWS on a label.
-#[derive(Drop)]
+#[derive(Clone, Copy)]
 enum Limit {
     Any,
     Rows(usize),
@@ -43,7 +45,7 @@ enum Limit {
 const LABEL_ROWS: usize = 15;
 
 // The answer for a chart, and how many columns and rows it has.
-#[derive(Drop)]
+#[derive(Clone, Copy)]
 struct Charted {
     written: Written,
     size: Size,

@@ -25,7 +25,7 @@ pub const CHART_ROOM: usize = 20465;
 pub const LINE_ROOM: usize = 256;
 
 // The length of a chart to be saved and that of its line; or that of a refusal's line, with nothing to be saved.
-#[derive(Drop)]
+#[derive(Clone, Copy)]
 pub enum Shown {
     Chart(usize, usize),
     Refused(usize),
