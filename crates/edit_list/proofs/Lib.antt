@@ -4,4 +4,5 @@ pub mod Within
 pub mod Following
 pub mod Running
 pub mod Packing
+pub mod Packed
 pub mod Known

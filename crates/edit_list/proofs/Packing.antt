@@ -13,7 +13,7 @@ use Rattle.edit_list.specs.declared.Ran.{Ran}
 use Rattle.edit_list.specs.declared.Ran.TheVariants.{Done, Refused}
 use Rattle.edit_list.specs.Script.{count, edit_at, script_of, fault_of}
 use Rattle.edit_list.specs.Desk.{placed, Desk, begin, other, current, buffer, answer_of, answered_desk, desk_step, desk_after}
-use Rattle.edit_list.specs.Result.{Result, finished, unchanged, ran_of, result_of, packed_run, RunReadsBack, SmallRun, Tellable}
+use Rattle.edit_list.specs.Result.{Result, finished, unchanged, ran_of, result_of, RunReadsBack, SmallRun, Tellable}
 use Rattle.edit_list.proofs.Tests.{edits_all}
 use Rattle.edit_list.proofs.Within.{written_within}
 use Rattle.edit_list.proofs.Running.{refusals}
@@ -60,7 +60,7 @@ in_first : (place size : ℕ) → place ≡ 0 → placed place 0 size size ≡ 0
 unfolding placed
 in_first place size z = rw z refl
 
-in_buffer : (place size : ℕ) → ¬ (place ≡ 0) → placed place 0 size size ≡ size
+pub in_buffer : (place size : ℕ) → ¬ (place ≡ 0) → placed place 0 size size ≡ size
 unfolding placed
 in_buffer zero size p = absurd (p refl)
 in_buffer (suc zero) size p = refl
@@ -107,17 +107,6 @@ module _ (r : Ran) (front back outs : List ℕ) where
       go (Done place size) = (refl, (refl, refl))
       go (Refused k) = (refl, (refl, refl))
 
--- the three cases in one number
+-- of a run that is done, the place and the size fit
 pub told_fits : (r : Ran) (place size : ℕ) → Tellable r → r ≡ Done place size → SmallRun place size
 told_fits r place size t e = rw e at t
-
-pub packed_first : (r : Ran) (place size : ℕ) → r ≡ Done place size → place ≡ 0 → (front back outs : List ℕ) → 0 ≡ packed_run (ran_of r front back outs)
-unfolding placed
-packed_first r place size e p front back outs = rw (e, p) refl
-
-pub packed_buffer : (r : Ran) (place size : ℕ) → r ≡ Done place size → ¬ (place ≡ 0) → (front back outs : List ℕ) → place * 65536 + size * 4294967296 ≡ packed_run (ran_of r front back outs)
-packed_buffer r place size e p front back outs = let l = in_buffer place size p in rw e (omega arith)
-
-pub packed_no_run : (r : Ran) (k : ℕ) → r ≡ Refused k → (front back outs : List ℕ) → k ≡ packed_run (ran_of r front back outs)
-unfolding placed
-packed_no_run r k e front back outs = rw e (omega arith)

@@ -1,5 +1,5 @@
 -- By the two cases of an answer, and by the place.
-use Rattle.edit_list.proofs.Packing.{packed_first, packed_buffer, packed_no_run}
+use Rattle.edit_list.proofs.Packed.{packed_first, packed_buffer, packed_no_run}
 use Rattle.bend_c.proofs.pack_run.Goals as goal
 
 pub returns-then-place-eq0 : goal.returns-then-place-eq0
