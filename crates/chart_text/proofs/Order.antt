@@ -55,6 +55,7 @@ module _ (c : Chart) where
   -- all strokes, and no other
   order_has : (ss : List Stroke) → Sub ss (left_to_right c ss)
   unfolding left_to_right
+  order_has [] x x3 = elim x3 [ ]
   order_has (s ∷ ss) x (head e) = enter_has s (left_to_right c ss) x (head e)
   order_has (s ∷ ss) x (tail m) = enter_has s (left_to_right c ss) x (tail (order_has ss x m))
 

@@ -1,5 +1,7 @@
 // A chart in words: the line of the part that it shows, the bar of each corner, the strokes from left to right; or the refusal. specs/Text.antt says the bytes.
 // The reading is that of the crate chart_reader, the part's line that of draw, the words and numbers are written by log_line. strokes.rt has the strokes.
+#![tactic(auto)]
+
 ghost use Rattle.std.specs.Prelude.{◌+◌, ◌*◌, ◌<◌, ◌≤◌, length};
 ghost use Rattle.lists.specs.Lists.{All};
 ghost use Rattle.sheet.specs.Sheet.{held};
