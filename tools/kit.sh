@@ -12,12 +12,12 @@ below() {
     done | sort -u
 }
 
-# left_by_ci NAME: whether the last rt ci left the libraries below the crate in crates/*/out, as they stand now. What other commands leave there has a stamp beside it
+# left_by_ci NAME: whether the last rt ci left the libraries below the crate in crates/*/out, as they and the crate itself stand now. What other commands leave there has a stamp beside it
 left_by_ci() {
     local name at
     for name in $(below "$1"); do
         at=crates/$name/out/rlib
-        [ -d "$at/$name.rlib" ] && [ ! -e "$at/stamp" ] && [ -z "$(find "crates/$name" -path '*/out' -prune -o -type f -newer "$at/$name.rlib" -print -quit)" ] || return 1
+        [ -d "$at/$name.rlib" ] && [ ! -e "$at/stamp" ] && [ -z "$(find "crates/$name" "crates/$1" -path '*/out' -prune -o -type f -newer "$at/$name.rlib" -print -quit)" ] || return 1
     done
 }
 
