@@ -25,7 +25,7 @@ is() {
 
 tools/build.sh bend >"$work/log" 2>&1 || { cat "$work/log"; exit 1; }
 build_plain bend "$work/bend" >"$work/log" 2>&1 || { cat "$work/log"; exit 1; }
-is 'the program without optimisation is the larger one' test "$(wc -c <"$work/bend.o")" -gt "$(wc -c <crates/bend/out/bend.o)"
+is 'the program without optimisation is the larger one' test "$(wc -c <"$work/bend")" -gt "$(wc -c <target/bin/bend)"
 
 mkdir "$work/sheets" "$work/plain" "$work/optimised"
 cargo run --quiet --release --manifest-path tests/Cargo.toml --bin sheets -- "$work/sheets"
