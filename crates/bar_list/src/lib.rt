@@ -11,9 +11,7 @@ pub fn fill_bars(chart: &[u8], n: usize, bars: &mut [Bar])
     requires { (n ≤ length bars.old) × (6 + 6 * n ≤ length chart.now) }
     ensures { bars.new ≡ filled chart.now n bars.old }
 {
-    let mut i = 0;
-    while i < n {
-        bars[i] = corner_bar(chart, i);
-        i += 1;
+    for (i, bar) in bars[..n].iter_mut().enumerate() {
+        *bar = corner_bar(chart, i);
     }
 }

@@ -5,8 +5,7 @@
 
 mod save;
 
-use console::Input;
-use draw::program::{CHART_ROOM, INPUT_ROOM, LINE_ROOM, Shown, draw_input};
+use draw::program::{CHART_ROOM, INPUT_ROOM, LINE_ROOM, draw_input};
 use std::random::RandomSource;
 use std::rt::Files;
 
@@ -14,19 +13,16 @@ use std::rt::Files;
 fn answer<R: Files + Print + Eprint + RandomSource>(rt: &R, input: &[u8; INPUT_ROOM], size: usize) {
     let mut chart = [0u8; CHART_ROOM];
     let mut text = [0u8; LINE_ROOM];
-    match draw_input(input, size, &mut chart, &mut text) {
-        Shown::Refused(m) => console::print(rt, &text[..m]),
-        Shown::Chart(k, m) => {
-            if save::save(rt, &chart[..k]) {
-                console::print(rt, &text[..m]);
-            }
-        }
+    let shown = draw_input(input, size, &mut chart, &mut text);
+    if shown.chart.is_none_or(|k| save::save(rt, &chart[..k])) {
+        console::print(rt, &text[..shown.line]);
     }
 }
 
+// unbend does the same with another room and another answer: a function that takes both would be no plainer than these four lines.
 fn main(rt: HostRuntime) {
     let mut input = [0u8; INPUT_ROOM];
-    if let Input::Bytes(size) = console::read_input(&rt, &mut rt.stdin(), &mut input) {
+    if let Some(size) = console::read_input(&rt, &mut rt.stdin(), &mut input) {
         answer(&rt, &input, size);
     }
 }

@@ -14,10 +14,8 @@ fn put_letters(random: &[u8; 16], name: &mut [u8; 27])
     ensures { IsAscii name.new }
 {
     *name = *b"bend.chart.aaaaaaaaaaaaaaaa";
-    let mut i = 0;
-    while i < 16 {
-        name[11 + i] = b'a' + random[i] % 26;
-        i += 1;
+    for (i, byte) in random.iter().enumerate() {
+        name[11 + i] = b'a' + byte % 26;
     }
 }
 
@@ -79,7 +77,7 @@ fn fill_and_publish<R: Files>(rt: &R, file: R::File, name: &str, chart: &[u8]) -
 
 // Writes the chart to the file bend.chart, by way of a new file.
 fn save_by_new<R: Files + RandomSource>(rt: &R, chart: &[u8]) -> io::Result<()> {
-    let mut name = *b"bend.chart.aaaaaaaaaaaaaaaa";
+    let mut name = [0u8; 27];
     let file = create(rt, &mut name)?;
     let name = text_of(&name);
     let saved = fill_and_publish(rt, file, name, chart);
@@ -91,11 +89,7 @@ fn save_by_new<R: Files + RandomSource>(rt: &R, chart: &[u8]) -> io::Result<()> 
 
 // Writes the chart to the file bend.chart, and says whether it is there.
 pub fn save<R: Files + Eprint + RandomSource>(rt: &R, chart: &[u8]) -> bool {
-    match save_by_new(rt, chart) {
-        Ok(()) => true,
-        Err(why) => {
-            console::fail(rt, "bend.chart", &why);
-            false
-        }
-    }
+    save_by_new(rt, chart)
+        .inspect_err(|why| console::fail(rt, "bend.chart", why))
+        .is_ok()
 }

@@ -5,6 +5,7 @@
 #![tactic(auto)]
 
 ghost use Rattle.std.specs.Prelude.{◌≡◌, List, ℕ, ◌<◌};
+ghost use Rattle.codec.specs.Numbered.{number_of};
 ghost use Rattle.codec.specs.Answer.{written, answered, packed, Packable};
 ghost use Rattle.codec.specs.TwoOutputs.{written_both, answered_both, packed_both, BothPackable};
 ghost use Rattle.sheet.specs.Sheet.{ordered};
@@ -21,25 +22,31 @@ ghost use Rattle.chart_reader.specs.Reader.{chart_read};
 ghost use Rattle.chart_reader.specs.Follow.{nearest_bar, followed_of, value_of, packed_found};
 ghost use Rattle.plan.specs.Answer.{planned, planned_of, packed_plan};
 
-use chart_reader::Followed;
-use codec::{BothWritten, Written};
+use codec::Refusal;
 use edit::held::Edit;
-use edit_list::Ran;
+use edit_list::{Left, Place};
 use nearest::Cell;
-use plan::Planned;
+use plan::Totals;
+
+// The functions below that C calls differ in little but their names and contracts: they are the C interface, as include/bend.h declares it.
+
+// The number of a refusal: all of an answer that is refused.
+fn refused(refusal: Refusal) -> u64
+    ensures { result ≡ number_of refusal }
+{
+    u64::from(refusal.number())
+}
 
 // The answer in one number.
-fn pack(w: Written) -> u64
-    requires { Packable w }
-    ensures { (out : List ℕ) → result ≡ packed (answered w out) }
+fn pack(answer: Result<usize, Refusal>) -> u64
+    requires { Packable answer }
+    ensures { (out : List ℕ) → result ≡ packed (answered answer out) }
 {
-    match w {
-        Written::Bytes(k) => k as u64 * 65536,
-        Written::Refused(k) => k as u64,
-    }
+    answer.map_or_else(refused, |size| size as u64 * 65536)
 }
 
 // Set in order.
+#[tactic(auto, using(codec::proofs::Answers::packable, sheet::proofs::Size::ordered_size))]
 #[unsafe(no_mangle)]
 pub extern "C" fn bend_normalize(sheet: &[u8], out: &mut [u8]) -> u64
     ensures answer { result ≡ packed (written (ordered sheet.now) out.old) }
@@ -49,6 +56,7 @@ pub extern "C" fn bend_normalize(sheet: &[u8], out: &mut [u8]) -> u64
 }
 
 // An edit.
+#[tactic(auto, using(codec::proofs::Answers::packable, edit::proofs::Size::edited_size))]
 fn pack_edit(sheet: &[u8], e: Edit, out: &mut [u8]) -> u64
     ensures answer { result ≡ packed (written (edited (edit_of e) sheet.now) out.old) }
     ensures bytes { out.new ≡ (written (edited (edit_of e) sheet.now) out.old).bytes }
@@ -84,6 +92,7 @@ pub extern "C" fn bend_flip(sheet: &[u8], a: usize, b: usize, out: &mut [u8]) ->
 }
 
 // Join the second part to the first along a side of the first.
+#[tactic(auto, using(codec::proofs::Answers::packable, seam::proofs::Answers::joined_size))]
 #[unsafe(no_mangle)]
 pub extern "C" fn bend_join(first: &[u8], second: &[u8], side: usize, out: &mut [u8]) -> u64
     ensures answer { result ≡ packed (written (joined_sheets first.now second.now side) out.old) }
@@ -93,17 +102,15 @@ pub extern "C" fn bend_join(first: &[u8], second: &[u8], side: usize, out: &mut 
 }
 
 // The answer with two outputs in one number.
-fn pack_both(w: BothWritten) -> u64
-    requires { BothPackable w }
-    ensures { (out ys : List ℕ) → result ≡ packed_both (answered_both w out ys) }
+fn pack_both(answer: Result<(usize, usize), Refusal>) -> u64
+    requires { BothPackable answer }
+    ensures { (out ys : List ℕ) → result ≡ packed_both (answered_both answer out ys) }
 {
-    match w {
-        BothWritten::Lengths(k, m) => k as u64 * 65536 + m as u64 * 4294967296,
-        BothWritten::Refused(k) => k as u64,
-    }
+    answer.map_or_else(refused, |(k, m)| k as u64 * 65536 + m as u64 * 4294967296)
 }
 
 // Cut along the diagonal between a and b, named in either order.
+#[tactic(auto, using(codec::proofs::TwoOutputs::packable_both, cut::proofs::Answers::cut_sizes))]
 #[unsafe(no_mangle)]
 pub extern "C" fn bend_cut(
     sheet: &[u8],
@@ -120,19 +127,16 @@ pub extern "C" fn bend_cut(
 }
 
 // The answer of a list of edits in one number.
-fn pack_run(r: Ran) -> u64
-    requires { Tellable r }
-    ensures { (front back outs : List ℕ) → result ≡ packed_run (ran_of r front back outs) }
+#[tactic(auto, unfolding(edit_list::specs::Desk::placed))]
+fn pack_run(answer: Result<Left, Refusal>) -> u64
+    requires { Tellable answer }
+    ensures { (front back outs : List ℕ) → result ≡ packed_run (ran_of answer front back outs) }
 {
-    match r {
-        Ran::Done(place, size) => {
-            if place == 0 {
-                return 0;
-            }
-            place as u64 * 65536 + size as u64 * 4294967296
-        }
-        Ran::Refused(k) => k as u64,
-    }
+    answer.map_or_else(refused, |left| match left.place {
+        Place::First => 0,
+        Place::Front => 65536 + left.size as u64 * 4294967296,
+        Place::Back => 131072 + left.size as u64 * 4294967296,
+    })
 }
 
 // A list of edits, run over two buffers; the number of each edit is written to `numbers`, in two bytes.
@@ -157,15 +161,14 @@ pub extern "C" fn bend_run_edits(
 }
 
 // The answer of Plan in one number.
-fn pack_plan(p: Planned) -> u64
-    ensures { result ≡ packed_plan (planned_of p) }
+fn pack_plan(answer: Result<Totals, Refusal>) -> u64
+    ensures { result ≡ packed_plan (planned_of answer) }
 {
-    match p {
-        Planned::Counts(l, u, s) => {
-            l as u64 * 65536 + u as u64 * 4294967296 + s as u64 * 281474976710656
-        }
-        Planned::Refused(k) => k as u64,
-    }
+    answer.map_or_else(refused, |t| {
+        u64::from(t.levels) * 65536
+            + u64::from(t.umbrellas) * 4294967296
+            + u64::from(t.stems) * 281474976710656
+    })
 }
 
 // Plan.
@@ -177,6 +180,7 @@ pub extern "C" fn bend_plan(sheet: &[u8]) -> u64
 }
 
 // Draw, without the bar list.
+#[tactic(auto, using(codec::proofs::Answers::packable, draw::proofs::Size::drawn_size))]
 #[unsafe(no_mangle)]
 pub extern "C" fn bend_draw(sheet: &[u8], out: &mut [u8]) -> u64
     ensures answer { result ≡ packed (written (drawn sheet.now) out.old) }
@@ -186,6 +190,7 @@ pub extern "C" fn bend_draw(sheet: &[u8], out: &mut [u8]) -> u64
 }
 
 // Draw on a label, without the bar list.
+#[tactic(auto, using(codec::proofs::Answers::packable, draw::proofs::Size::labelled_size))]
 #[unsafe(no_mangle)]
 pub extern "C" fn bend_draw_label(sheet: &[u8], out: &mut [u8]) -> u64
     ensures answer { result ≡ packed (written (labelled sheet.now) out.old) }
@@ -195,6 +200,7 @@ pub extern "C" fn bend_draw_label(sheet: &[u8], out: &mut [u8]) -> u64
 }
 
 // Read a chart.
+#[tactic(auto, using(codec::proofs::Answers::packable, chart_reader::proofs::Size::chart_read_size))]
 #[unsafe(no_mangle)]
 pub extern "C" fn bend_read_chart(chart: &[u8], out: &mut [u8]) -> u64
     ensures answer { result ≡ packed (written (chart_read chart.now) out.old) }
@@ -204,18 +210,15 @@ pub extern "C" fn bend_read_chart(chart: &[u8], out: &mut [u8]) -> u64
 }
 
 // The answer of the nearest bar in one number.
-fn pack_found(f: Followed) -> u64
-    requires { value_of (followed_of f).found < 281474976710656 }
-    ensures { result ≡ packed_found (followed_of f) }
+fn pack_found(answer: Result<Option<usize>, Refusal>) -> u64
+    requires { value_of (followed_of answer).found < 281474976710656 }
+    ensures { result ≡ packed_found (followed_of answer) }
 {
-    match f {
-        Followed::None => 0,
-        Followed::Bar(x) => (x as u64 + 1) * 65536,
-        Followed::Refused(k) => k as u64,
-    }
+    answer.map_or_else(refused, |found| found.map_or(0, |x| (x as u64 + 1) * 65536))
 }
 
 // The nearest bar: the corner of the bar nearest the first of two cells of a row or column of a chart.
+#[tactic(auto, using(chart_reader::proofs::Following::found_small))]
 #[unsafe(no_mangle)]
 pub extern "C" fn bend_nearest_bar(
     chart: &[u8],

@@ -1,5 +1,5 @@
 -- The chart that a run of bytes has: specs/Bytes.antt read the other way. And the bars and strokes that the code reads.
-use Rattle.std.specs.Prelude.{Bool, true, false, List, [], ◌∷◌, map, ℕ, zero, suc, ◌+◌, ◌*◌, ◌-◌, ◌%◌, get_or}
+use Rattle.std.specs.Prelude.{List, [], ◌∷◌, map, ℕ, zero, suc, ◌+◌, ◌*◌, ◌-◌, ◌%◌, get_or, Option, Some, None}
 use Rattle.polygon.specs.Polygon.{Edge, ◌—◌}
 use Rattle.codec.specs.Numbers.{get16}
 use Rattle.chart.specs.declared.Bar as code-bar
@@ -59,9 +59,9 @@ record_of b = record { row = b.row; left = b.left; right = b.right }
 abbrev pub bar_of : code-bar.Bar → Bar
 bar_of r = record { row = r.row; left = r.left; right = r.right }
 
-abbrev pub drawn_as : Bool → Edge → ℕ → Stroke
-drawn_as false e j = level e
-drawn_as true e j = upright e j
+abbrev pub drawn_as : Edge → Option ℕ → Stroke
+drawn_as e None = level e
+drawn_as e (Some j) = upright e j
 
 abbrev pub stroke_of : code-stroke.Stroke → Stroke
-stroke_of r = drawn_as r.upright (r.a — r.b) r.column
+stroke_of r = drawn_as (r.a — r.b) r.column

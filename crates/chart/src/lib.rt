@@ -9,22 +9,22 @@ ghost use Rattle.chart.specs.Decode.{bar_at, stroke_size, stroke_at, chart_in, b
 use codec::get16;
 
 // The bar of a corner: its row, its first and its last column.
-#[derive(Clone, Copy)]
+#[derive(Clone, Copy, Debug, PartialEq, Eq)]
 pub struct Bar {
     pub row: u16,
     pub left: u16,
     pub right: u16,
 }
 
-// The stroke of an edge: its corners, whether it is upright, and then its column.
-#[derive(Clone, Copy)]
+// The stroke of an edge: its corners, and the column of an upright one.
+#[derive(Clone, Copy, Debug, PartialEq, Eq)]
 pub struct Stroke {
     pub a: u16,
     pub b: u16,
-    pub upright: bool,
-    pub column: u16,
+    pub column: Option<u16>,
 }
 
+// The number of two bytes. No plainer by `from_be_bytes`: `get16` has the clause.
 fn number(bytes: &[u8], at: usize) -> u16
     requires { at + 2 ≤ length bytes.now }
     ensures { result ≡ get16 bytes.now at }
@@ -57,21 +57,14 @@ pub fn stroke_at(bytes: &[u8], at: usize) -> Stroke
     requires { at + stroke_size (get_or bytes.now at 0) ≤ length bytes.now }
     ensures { stroke_of result ≡ stroke_at bytes.now at }
 {
-    let a = number(bytes, at + 1);
-    let b = number(bytes, at + 3);
-    if bytes[at] % 2 == 0 {
-        return Stroke {
-            a,
-            b,
-            upright: false,
-            column: 0,
-        };
-    }
-    let column = number(bytes, at + 5);
+    let column = if bytes[at] % 2 == 1 {
+        Some(number(bytes, at + 5))
+    } else {
+        None
+    };
     Stroke {
-        a,
-        b,
-        upright: true,
+        a: number(bytes, at + 1),
+        b: number(bytes, at + 3),
         column,
     }
 }

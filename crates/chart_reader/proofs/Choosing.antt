@@ -1,5 +1,5 @@
 -- The keys of the diagonals, one after another, as the loop that copies them meets them; and what their number says.
-use mathlib.Core.Path.{◌≡◌, refl, ap, sym, ◌∙◌}
+use mathlib.Core.Path.{◌≡◌, ap, sym, ◌∙◌}
 use mathlib.Core.List.{List, [], ◌∷◌, ◌++◌, map-append, append-nil}
 use Prim.Native.Nat.{ℕ, suc, ◌+◌, ◌-◌, ◌≤◌, ◌<◌}
 use native.Mathlib.Numerals.{add-one}
@@ -22,9 +22,6 @@ pub record Choosing (n : ℕ) (edges : List ℕ) (room : ℕ) (keys : List ℕ) 
   pub low : m ≤ i
   pub size : length keys ≡ room
   pub chosen : edges_of (take m keys) ++ keep (diagonal? n) (edges_of (drop i edges)) ≡ keep (diagonal? n) (edges_of edges)
-
-pub choosing_none : (n : ℕ) (edges keys : List ℕ) → Choosing n edges (length keys) keys 0 0
-choosing_none n edges keys = record { upto = omega arith; low = omega arith; size = refl; chosen = refl }
 
 module _ (n : ℕ) (edges : List ℕ) (room : ℕ) (keys : List ℕ) (m i : ℕ) (C : Choosing n edges room keys m i) where
   module _ (fits : length edges ≤ room) (more : i < length edges) where

@@ -1,9 +1,10 @@
 -- What the nearest bar of a chart is, by the first test that fails.
 use mathlib.Core.Path.{◌≡◌, refl, ap, sym, subst, ◌∙◌}
 use mathlib.Core.List.{List}
-use Prim.Native.Nat.{ℕ, ◌+◌, ◌*◌, ◌≤◌, ◌<◌}
+use Prim.Native.Nat.{ℕ, ◌≤◌, ◌<◌}
 use native.Mathlib.Omega.{arith}
-use lib.ListN.{get_or}
+use Rattle.std.specs.Prelude.{Result, Option}
+use Rattle.codec.specs.declared.refusal.Refusal.{Refusal}
 use Rattle.lists.specs.Lists.{choose}
 use Rattle.lists.proofs.Lists.{choose_yes, choose_no}
 use Rattle.chart.specs.Chart as chart
@@ -11,21 +12,14 @@ use Rattle.chart.specs.Decode.{count_in, chart_in}
 use Rattle.nearest.specs.declared.Cell.{Cell}
 use Rattle.nearest.specs.BarRule.{BarRule}
 use Rattle.nearest.specs.Nearest.{Found, none, bar, nearest}
-use Rattle.nearest.specs.Held.{SmallCell}
 use Rattle.nearest.proofs.Line.{of_nearest}
-use Rattle.chart_reader.specs.declared.Followed.{Followed}
-use Rattle.chart_reader.specs.declared.Followed.TheVariants.{None, Bar, Refused}
 use Rattle.chart_reader.specs.Formed.{Formed, formed?}
 use Rattle.chart_reader.specs.Reader.{bars?}
-use Rattle.chart_reader.specs.Follow.{FollowAnswer, follow_refusal, Asked, asked?, nearest_bar, followed_of, value_of, packed_found, FoundReadsBack}
+use Rattle.chart_reader.specs.Follow.{FollowAnswer, follow_refusal, Asked, asked?, nearest_bar, followed_of, value_of, FoundReadsBack}
 
 -- the answer with nothing refused
 abbrev pub nearest_is : Found → FollowAnswer
 nearest_is f = record { number = 0; found = f }
-
--- the cells of a chart are small: its rows and columns are numbers of two bytes
-pub asked_small : (s : List ℕ) (e : Cell × Cell) → ((i : ℕ) → get_or s i 0 < 256) → Asked (chart_in s) e → SmallCell e.0 × SmallCell e.1
-asked_small s e B A = omega (arith, A, B 0, B 1, B 2, B 3)
 
 -- small enough for one number
 abbrev Small : FollowAnswer → Type 0
@@ -77,19 +71,5 @@ module _ (s : List ℕ) (e : Cell × Cell) where
   pub found_reads_back : FoundReadsBack (nearest_bar s e)
   found_reads_back = let S = small follows in record { number_back = omega arith; corner_back = omega arith; one_number = omega arith }
 
-  pub found_small : (f : Followed) → followed_of f ≡ nearest_bar s e → value_of (followed_of f).found < 281474976710656
+  pub found_small : (f : Result (Option ℕ) Refusal) → followed_of f ≡ nearest_bar s e → value_of (followed_of f).found < 281474976710656
   found_small f h = rw h (omega (arith, small follows))
-
--- the three cases in one number
-module _ (f : Followed) where
-  pub packed_none : f ≡ None → 0 ≡ packed_found (followed_of f)
-  packed_none e = rw e refl
-
-  pub packed_bar : (x : ℕ) → f ≡ Bar x → (x + 1) * 65536 ≡ packed_found (followed_of f)
-  packed_bar x e = rw e (omega arith)
-
-  pub packed_no_answer : (k : ℕ) → f ≡ Refused k → k ≡ packed_found (followed_of f)
-  packed_no_answer k e = rw e (omega arith)
-
-  pub bar_fits : (x : ℕ) → f ≡ Bar x → value_of (followed_of f).found < 281474976710656 → x + 1 < 281474976710656
-  bar_fits x e h = omega (arith, rw e at h)

@@ -38,9 +38,6 @@ pub record KeysRead (s : List ℕ) (n : ℕ) (at : List ℕ) (room : ℕ) (keys 
   pub named : (k : ℕ) → k < i → ((edge_no s at k).0 < (edge_no s at k).1) × ((edge_no s at k).1 < n)
   pub table : (k : ℕ) → k < i → get_or keys k 0 ≡ key_of (edge_no s at k)
 
-pub keyed_none : (s : List ℕ) (n : ℕ) (at keys : List ℕ) → KeysRead s n at (length keys) keys 0
-keyed_none s n at keys = record { upto = omega arith; size = refl; named = λ k h. absurd (omega arith); table = λ k h. absurd (omega arith) }
-
 module _ (s : List ℕ) (n : ℕ) (at : List ℕ) (room : ℕ) (keys : List ℕ) (i : ℕ) (K : KeysRead s n at room keys i) (P : StrokesFound s n at) where
   module _ (more : i < length at) (t : Stroke) (is : stroke_of t ≡ stroke_at s (get_or at i 0)) where
     edge_is : edge_no s at i ≡ (t.a — t.b)

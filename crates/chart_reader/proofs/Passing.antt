@@ -1,7 +1,6 @@
 -- No upright passes through a gap exactly if none of the gaps, as spans, stands between an upright's two cells.
 use mathlib.Core.Path.{◌≡◌, refl, ap, sym, subst, ◌∙◌}
-use mathlib.Core.Bool.{true, false}
-use mathlib.Core.Logic.{inl, inr}
+use Rattle.std.specs.Prelude.{Some, None}
 use mathlib.Core.List.{List}
 use Prim.Native.Nat.{ℕ, ◌+◌, ◌-◌, ◌/◌, ◌%◌, ◌≤◌, ◌<◌}
 use native.Mathlib.Omega.{arith}
@@ -23,7 +22,7 @@ use Rattle.nearest.proofs.Spans.{has_address, address_has}
 use Rattle.chart_reader.specs.declared.Ends.{Ends}
 use Rattle.chart_reader.specs.Rules.{ends, Passes, GapRule}
 use Rattle.chart_reader.specs.Held.{StrokesFound, EndsOf}
-use Rattle.chart_reader.specs.Gaps.{InGap, Gapped, Clear, GapPut, GapAt, GapsIn}
+use Rattle.chart_reader.specs.Gaps.{InGap, Clear, GapPut, GapAt, GapsIn}
 use Rattle.chart_reader.proofs.Stroked.{strokes_all, strokes_at}
 
 -- two cells with one address are the same
@@ -82,6 +81,13 @@ ends_within c n starts es corners O B count small i h =
     let L = below_at B.0 (get_or corners i 0) (rw count at (O.corner i here)) in
     omega (arith, ap (λ (b : Bar). b.right) (O.held i here), L)
 
+-- so the address behind it is one of four bytes
+pub ends_room : (c : Chart) (n : ℕ) (starts es corners : List ℕ) → Ordered c.bar n starts es corners → BarRule c → n ≡ c.n → c.rows < 65536 → c.columns < 65536 → (i : ℕ) → i < length es → get_or es i 0 + 1 < 4294967296
+ends_room c n starts es corners O B count rows columns i h =
+    let here : i < n = omega (arith, O.order.size, O.count) in
+    let L = below_at B.0 (get_or corners i 0) (rw count at (O.corner i here)) in
+    omega (arith, ap (λ (b : Bar). b.row) (O.held i here), O.order.row i (omega (arith, O.count)), L, ends_within c n starts es corners O B count columns i h)
+
 -- the rule, by the places of the strokes
 module _ (s : List ℕ) (n : ℕ) (at : List ℕ) (P : StrokesFound s n at) where
   abbrev strokes : ℕ → Stroke
@@ -103,16 +109,9 @@ module _ (s : List ℕ) (n : ℕ) (at : List ℕ) (P : StrokesFound s n at) wher
     pub rule_clear : GapRule (chart_in s) → All (Clear (chart_in s) from to) (chart_in s).strokes
     rule_clear = all_imp (λ t f. passes_clear (chart_in s) strokes (length at) starts es from to G size froms within t (strokes_at s n at P f))
 
--- a stroke that was read
-pub level_clear : (c : Chart) (t : code.Stroke) (from to : List ℕ) → t.upright ≡ false → Clear c from to (stroke_of t)
-level_clear c t from to l = rw l tt
-
-module _ (c : Chart) (t : code.Stroke) {r : Ends} (u : t.upright ≡ true) (E : EndsOf c t r) where
-  cells : (r.first, r.last) ≡ ends c (upright (t.a — t.b) t.column)
+module _ (c : Chart) (t : code.Stroke) {r : Ends} {j : ℕ} (u : t.column ≡ Some j) (E : EndsOf c t r) where
+  cells : (r.first, r.last) ≡ ends c (upright (t.a — t.b) j)
   cells = rw u at E.same
-
-  pub same_column : r.first.column ≡ r.last.column
-  same_column = ap (λ (e : Cell × Cell). e.0.column) cells ∙ sym (ap (λ (e : Cell × Cell). e.1.column) cells)
 
   module _ (from to : List ℕ) where
     pub upright_clear : nearest (span_at from to) (length from) (r.first, r.last) ≡ none → Clear c from to (stroke_of t)
@@ -124,27 +123,15 @@ module _ (c : Chart) (t : code.Stroke) {r : Ends} (u : t.upright ≡ true) (E : 
         let clear = subst (Clear c from to) is k in
         clear x N.corner (N.at, N.between, N.has)
       where
-        is : stroke_of t ≡ upright (t.a — t.b) t.column
+        is : stroke_of t ≡ upright (t.a — t.b) j
         is = rw u
 
--- the gap of a stroke that was read, as it is put: an upright has none, nor has a level stroke whose bars are neighbours
-pub upright_gap : (c : Chart) (t : code.Stroke) → t.upright ≡ true → (d : Cell) → InGap c (stroke_of t) d → ⊥
-upright_gap c t u d g = rw u at g
-
-module _ (c : Chart) (t : code.Stroke) {r : Ends} (l : t.upright ≡ false) (E : EndsOf c t r) where
+module _ (c : Chart) (t : code.Stroke) {r : Ends} (l : t.column ≡ None) (E : EndsOf c t r) where
   flat : stroke_of t ≡ level (t.a — t.b)
   flat = rw l
 
   flat_cells : (r.first, r.last) ≡ ends c (level (t.a — t.b))
   flat_cells = E.same ∙ ap (ends c) flat
-
-  pub narrow_gap : r.last.column ≤ r.first.column + 1 → Gapped c (stroke_of t) → (d : Cell) → InGap c (stroke_of t) d → ⊥
-  narrow_gap h G d g = go (subst (λ (e : Cell × Cell). (e.0.row ≡ e.1.row) × (e.0.column < e.1.column)) (sym flat_cells) (subst (Gapped c) flat G))
-      (subst (λ (e : Cell × Cell). Inside e d) (sym flat_cells) (subst (λ (s : Stroke). InGap c s d) flat g))
-    where
-      go : (r.first.row ≡ r.last.row) × (r.first.column < r.last.column) → Inside (r.first, r.last) d → ⊥
-      go m (inl w) = omega (arith, w, m)
-      go m (inr w) = omega (arith, w, m)
 
   -- the first cell lies at or before the end of the lower corner's bar
   pub first_before : address r.first ≤ end_of (c.bar t.a)

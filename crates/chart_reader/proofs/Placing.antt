@@ -11,7 +11,6 @@ use Rattle.lists.proofs.Lists.{all_append, all_mem, here, mem_right}
 use Rattle.chart_reader.specs.Held.{Ending, StrokesFound}
 use Rattle.chart_reader.proofs.Encoded.{behind_up}
 use Rattle.chart.specs.Decode.{count_in, stroke_size, places, behind}
-use Rattle.chart_reader.specs.Formed.{Formed}
 
 -- what the loop keeps: i places are found, and the rest start at p
 pub record Placing (s : List ℕ) (from room : ℕ) (at : List ℕ) (i p : ℕ) : Type 0 where
@@ -89,9 +88,6 @@ module _ (s : List ℕ) (from room : ℕ) (at : List ℕ) (i p : ℕ) (P : Placi
 module _ (s : List ℕ) (n : ℕ) (count : n ≡ count_in s) (at : List ℕ) (room : length at ≡ 2045) (least : 3 ≤ n) (most : n ≤ 1024) where
   pub room_is : length (take (2 * n - 3) at) ≡ 2 * n - 3
   room_is = length-take-le (2 * n - 3) at (omega arith)
-
-  pub not_formed : (Ending s (6 + 6 * n) (length (take (2 * n - 3) at)) → ⊥) → Formed s → ⊥
-  not_formed f F = f (rw (room_is, count) (record { bits = F.bits; exact = F.exact }))
 
   pub framed : (o : List ℕ) → 6 ≤ length s → (o ≡ places s (6 + 6 * n) (length (take (2 * n - 3) at))) × Ending s (6 + 6 * n) (length (take (2 * n - 3) at)) → length o ≡ length (take (2 * n - 3) at) → StrokesFound s n (take (2 * n - 3) (o ++ drop (2 * n - 3) at))
   framed o six (p, E) kept =

@@ -1,4 +1,4 @@
--- What the answer of `nearest` says of a chart's bars, and of spans in two tables.
+-- What the answer of `nearest` says of a chart's bars, and of spans in a table.
 use mathlib.Core.Path.{◌≡◌}
 use Prim.Native.Nat.{ℕ}
 use Rattle.lists.proofs.Places.{below_all, below_at}

@@ -1,35 +1,46 @@
 -- The strokes of a chart, place by place, as the code reads them.
 use mathlib.Core.Path.{◌≡◌, refl, ap, sym, ◌∙◌}
-use mathlib.Core.Logic.{◌≢◌}
-use mathlib.Core.Bool.{Bool, true, false}
-use mathlib.Core.List.{List, map}
-use Prim.Native.Nat.{ℕ, zero, suc, ◌+◌, ◌*◌, ◌-◌, ◌≤◌, ◌<◌, min, max}
+use Rattle.std.specs.Prelude.{true, false, Option, Some, None, Err}
+use Rattle.std.specs.Option.{is_some, ok_or}
+use mathlib.Core.List.{List, [], ◌∷◌, map}
+use Prim.Native.Nat.{ℕ, zero, suc, ◌+◌, ◌*◌, ◌-◌, ◌≤◌, ◌<◌}
 use native.Mathlib.Omega.{arith}
 use lib.ListN.{length, get_or, length-map, get_or-map}
 use Rattle.lists.specs.Lists.{All, all_cons, all_nil}
+use Rattle.lists.proofs.Lists.{all_map}
 use Rattle.lists.proofs.Places.{all_at, at_all}
 use Rattle.polygon.specs.Polygon.{◌—◌}
-use Rattle.chart.specs.declared.Bar.{Bar}
 use Rattle.chart.specs.declared.Stroke as code
-use Rattle.chart.specs.Chart.{Stroke, stroke_edge, Chart}
-use Rattle.chart.specs.Decode.{count_in, stroke_size, stroke_at, places, behind, stroke_places, chart_in, bar_of, drawn_as, stroke_of}
-use Rattle.nearest.specs.declared.Cell.{Cell}
-use Rattle.nearest.specs.Cells.{cell}
-use Rattle.nearest.specs.Held.{SmallCell, Bars}
-use Rattle.chart_reader.specs.declared.Ends.{Ends}
-use Rattle.chart_reader.specs.Rules.{Named, Joins, ends}
-use Rattle.chart_reader.specs.Held.{StrokesFound, HasColumn, StrokeIn, EndsOf}
+use Rattle.chart.specs.Chart.{Stroke, stroke_edge}
+use Rattle.chart.specs.Decode.{count_in, stroke_size, stroke_at, places, behind, stroke_places, chart_in, drawn_as, stroke_of}
+use Rattle.nearest.specs.Held.{Bars}
+use Rattle.chart_reader.specs.Rules.{Named}
+use Rattle.chart_reader.specs.Held.{StrokesFound, StrokeIn}
 use Rattle.chart_reader.proofs.Accepts.{places_count}
 use Rattle.chart_reader.proofs.Encoded.{behind_up}
 
 -- the edge of a stroke that was read
 pub edge_of_lem : (t : code.Stroke) → stroke_edge (stroke_of t) ≡ (t.a — t.b)
 unfolding stroke_edge
-edge_of_lem t = go t.upright
+edge_of_lem t = go t.column
   where
-    go : (u : Bool) → stroke_edge (drawn_as u (t.a — t.b) t.column) ≡ (t.a — t.b)
-    go true = refl
-    go false = refl
+    go : (o : Option ℕ) → stroke_edge (drawn_as (t.a — t.b) o) ≡ (t.a — t.b)
+    go None = refl
+    go (Some j) = refl
+
+-- whether there is a value, by std's test
+pub none_is : {o : Option ℕ} → is_some o ≡ false → o ≡ None
+none_is {o = None} h = refl
+none_is {o = Some x} h = absurd (cc h)
+
+pub some_is : {o : Option ℕ} → is_some o ≡ true → (x : ℕ) × (o ≡ Some x)
+some_is {o = None} h = absurd (cc h)
+some_is {o = Some x} h = (x, refl)
+
+-- the refusal where there is none
+pub refused_as : {A E : Type 0} (o : Option A) {r e : E} → Err e ≡ ok_or o r → e ≡ r
+refused_as None h = cc
+refused_as (Some x) h = absurd (cc h)
 
 -- all strokes of a chart, by their places
 module _ (s : List ℕ) (n : ℕ) (at : List ℕ) (P : StrokesFound s n at) where
@@ -62,27 +73,23 @@ module _ (s : List ℕ) (n : ℕ) (at : List ℕ) (P : StrokesFound s n at) (k :
       let q = rw (← e, edge_of_lem t) at (strokes_at s n at P N k h) in
       record { low = omega (arith, P.count); high = omega (arith, P.count) }
 
--- whether the bars a and b of a stroke's corners are joined, and the two cells that it runs between
-module _ (c : Chart) (t : code.Stroke) {a b : Bar} (ea : bar_of a ≡ c.bar t.a) (eb : bar_of b ≡ c.bar t.b) where
-  module _ (l : t.upright ≡ false) where
-    pub level_joins : a.row ≡ b.row → Joins c (stroke_of t)
-    level_joins e = rw (l, ← ea, ← eb) e
+-- the same of a place that a loop or a chain meets
+place_of : (at : List ℕ) (k : ℕ) → k < length at → (p : ℕ) → p ≡ get_or at k p → get_or at k 0 ≡ p
+place_of [] k h p e = absurd (omega arith)
+place_of (x ∷ at) zero h p e = sym e
+place_of (x ∷ at) (suc k) h p e = place_of at k (omega arith) p e
 
-    pub joins_level : Joins c (stroke_of t) → a.row ≡ b.row
-    joins_level J = rw (l, ← ea, ← eb) at J
+module _ (s : List ℕ) (n : ℕ) (at : List ℕ) (P : StrokesFound s n at) (p k : ℕ) (h : k < length at) (e : p ≡ get_or at k p) where
+  pub met_room : p + stroke_size (get_or s p 0) ≤ length s
+  met_room = rw (place_of at k h p e) at (place_room s n at P k h)
 
-    pub level_ends : ends c (stroke_of t) ≡ (cell a.row (min a.right b.right), cell b.row (max a.left b.left))
-    level_ends = rw (l, ← ea, ← eb)
+  pub met_in : All (Named (chart_in s)) (chart_in s).strokes → (t : code.Stroke) → stroke_of t ≡ stroke_at s p → StrokeIn n t
+  met_in N t q = stroke_in s n at P k h (q ∙ ap (stroke_at s) (sym (place_of at k h p e))) N
 
-  module _ (u : t.upright ≡ true) where
-    pub upright_joins : HasColumn (bar_of a) t.column × HasColumn (bar_of b) t.column × (a.row ≢ b.row) → Joins c (stroke_of t)
-    upright_joins h = rw (u, ← ea, ← eb) h
+-- a property of all strokes, by their places
+module _ (s : List ℕ) (n : ℕ) (at : List ℕ) (P : StrokesFound s n at) {Q : Stroke → Type 0} where
+  pub places_strokes : All (λ p. Q (stroke_at s p)) at → All Q (chart_in s).strokes
+  places_strokes a = rw (← P.strokes) (all_map (stroke_at s) a)
 
-    pub joins_upright : Joins c (stroke_of t) → HasColumn (bar_of a) t.column × HasColumn (bar_of b) t.column × (a.row ≢ b.row)
-    joins_upright J = rw (u, ← ea, ← eb) at J
-
-    pub upright_ends : ends c (stroke_of t) ≡ (cell a.row t.column, cell b.row t.column)
-    upright_ends = rw (u, ← ea, ← eb)
-
-pub ends_are : {c : Chart} {t : code.Stroke} {r : Ends} {p q : Cell} → r.first ≡ p → r.last ≡ q → ends c (stroke_of t) ≡ (p, q) → SmallCell p → SmallCell q → EndsOf c t r
-ends_are ep eq e sp sq = record { same = rw (ep, eq) (sym e); first_small = rw ep sp; last_small = rw eq sq }
+  pub strokes_places : All Q (chart_in s).strokes → All (λ p. Q (stroke_at s p)) at
+  strokes_places a = all_at 0 at (λ k h. strokes_at s n at P a k h)

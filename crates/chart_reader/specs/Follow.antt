@@ -1,16 +1,16 @@
 -- Request (x), for "readers of foreign charts" that "want to follow a line with a finger": the question asked of a chart's bytes and two cells.
 -- 14 and 15 come first, as in "Read a chart": bars that break their rule show nothing. Then 9: a cell outside the chart, or two cells that are not of one row or column.
-use Rattle.std.specs.Prelude.{◌≡◌, ◌⊎◌, List, ℕ, suc, ◌+◌, ◌*◌, ◌<◌}
+use Rattle.std.specs.Prelude.{◌≡◌, ◌⊎◌, Result, Ok, Err, Option, List, ℕ, suc, ◌+◌, ◌*◌, ◌<◌}
 use Rattle.std.proofs.Math.Logic.Dec.{and as dec_and}
 use Rattle.std.proofs.Math.Decide.{dec_lt, ℕ_discrete}
 use Rattle.lists.specs.Lists.{choose, either?, three?}
+use Rattle.codec.specs.declared.refusal.Refusal.{Refusal}
+use Rattle.codec.specs.Numbered.{number_of}
 use Rattle.codec.specs.Unpacked.{number_in, corner_in, OneNumber}
 use Rattle.chart.specs.Chart.{Chart}
 use Rattle.chart.specs.Decode.{chart_in}
 use Rattle.nearest.specs.declared.Cell.{Cell}
-use Rattle.nearest.specs.Nearest.{Found, none, bar, nearest}
-use Rattle.chart_reader.specs.declared.Followed as code
-use Rattle.chart_reader.specs.declared.Followed.TheVariants as variants
+use Rattle.nearest.specs.Nearest.{Found, none, bar, nearest, found_of}
 use Rattle.chart_reader.specs.Formed.{formed?}
 use Rattle.chart_reader.specs.Reader.{bars?}
 
@@ -52,10 +52,9 @@ nearest_bar s e =
     (follow_refusal 14)
 
 -- the number and the values of each case of the code's answer
-abbrev pub followed_of : code.Followed → FollowAnswer
-followed_of variants.None = record { number = 0; found = none }
-followed_of (variants.Bar x) = record { number = 0; found = bar x }
-followed_of (variants.Refused k) = follow_refusal k
+abbrev pub followed_of : Result (Option ℕ) Refusal → FollowAnswer
+followed_of (Ok o) = record { number = 0; found = found_of o }
+followed_of (Err r) = follow_refusal (number_of r)
 
 -- the answer in one number, for C: the number in the low 16 bits, and above it the corner and one, or 0 for none
 abbrev pub value_of : Found → ℕ

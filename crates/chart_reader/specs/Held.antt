@@ -1,9 +1,7 @@
 -- How the code holds a chart, for its contracts.
-use Rattle.std.specs.Prelude.{◌≡◌, false, List, ℕ, ◌+◌, ◌*◌, ◌≤◌, ◌<◌, length, get_or}
+use Rattle.std.specs.Prelude.{◌≡◌, List, ℕ, ◌+◌, ◌*◌, ◌≤◌, ◌<◌, length, get_or}
 use Rattle.lists.specs.Lists.{All}
 use Rattle.polygon.specs.Polygon.{Edge, Ascending}
-use Rattle.sheet.specs.declared.Read.{Read}
-use Rattle.sheet.specs.declared.Read.TheVariants.{Refused, Held}
 use Rattle.chart.specs.Chart.{Bar, Chart}
 use Rattle.chart.specs.Decode.{count_in, places, behind, stroke_places, stroke_of}
 use Rattle.chart.specs.declared.Stroke as code
@@ -44,8 +42,3 @@ pub record EdgesOf (n : ℕ) (es : List Edge) : Type 0 where
   pub named : All (λ e. (e.0 < e.1) × (e.1 < n)) es
   pub ascending : Ascending es
   pub count : length es + 3 ≡ 2 * n
-
--- a part that was read of a chart has no angles
-abbrev pub NoAngles : Read → Type 0
-NoAngles (Refused k) = Unit {0}
-NoAngles (Held h) = h.angled ≡ false

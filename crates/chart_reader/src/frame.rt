@@ -1,5 +1,5 @@
 // The form of a chart's bytes: how many corners it has, and where its strokes start.
-ghost use Rattle.std.specs.Prelude.{◌≡◌, true, false, ◌*◌, ◌-◌, ◌≤◌, length, take};
+ghost use Rattle.std.specs.Prelude.{◌≡◌, true, false, ℕ, MatchOption, ◌*◌, ◌-◌, ◌≤◌, length, take};
 ghost use Rattle.chart.specs.Decode.{places};
 ghost use Rattle.chart_reader.specs.Formed.{Formed};
 ghost use Rattle.chart_reader.specs.Held.{Ending, StrokesFound};
@@ -14,9 +14,8 @@ fn stroke_places(chart: &[u8], from: usize, at: &mut [usize]) -> bool
         × Ending chart.now from (length at.old) }
     ensures no { result ≡ false → Ending chart.now from (length at.old) → ⊥ }
 {
-    let mut i = 0;
     let mut p = from;
-    while i < at.len() {
+    for place in at.iter_mut() {
         if p >= chart.len() {
             return false;
         }
@@ -24,32 +23,27 @@ fn stroke_places(chart: &[u8], from: usize, at: &mut [usize]) -> bool
         if map >= 2 {
             return false;
         }
-        at[i] = p;
+        *place = p;
         p += 5 + 2 * (map as usize);
-        i += 1;
     }
     p == chart.len()
 }
 
-// How many corners the chart has, with the places of its strokes in the table; 0 if the bytes are not those of a chart.
-pub fn frame(chart: &[u8], at: &mut [usize]) -> usize
+// How many corners the chart has, with the places of its strokes in the table; none if the bytes are not those of a chart.
+pub fn frame(chart: &[u8], at: &mut [usize]) -> Option<usize>
     requires { length at.old ≡ 2045 }
-    ensures none { result ≡ 0 → Formed chart.now → ⊥ }
-    ensures found { (result ≡ 0 → ⊥) → StrokesFound chart.now result (take (2 * result - 3) at.new) }
+    ensures { MatchOption result (Formed chart.now → ⊥) (λ (n : ℕ). StrokesFound chart.now n (take (2 * n - 3) at.new)) }
 {
     if chart.len() < 6 {
-        return 0;
+        return None;
     }
     let n = get16(chart, 4);
-    if n < 3 {
-        return 0;
-    }
-    if n > CORNERS {
-        return 0;
+    if n < 3 || n > CORNERS {
+        return None;
     }
     let m = 2 * n - 3;
     if !stroke_places(chart, 6 + 6 * n, &mut at[..m]) {
-        return 0;
+        return None;
     }
-    n
+    Some(n)
 }

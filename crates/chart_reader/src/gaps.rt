@@ -6,147 +6,122 @@ ghost use Rattle.chart.specs.Decode.{chart_in, stroke_at, stroke_of};
 ghost use Rattle.nearest.specs.declared.Cell.{Cell};
 ghost use Rattle.nearest.specs.BarRule.{BarRule};
 ghost use Rattle.nearest.specs.Held.{Bars};
-ghost use Rattle.nearest.specs.Order.{InOrder, Ordered};
+ghost use Rattle.nearest.specs.Order.{firsts, lasts, InOrderSpans, OrderedBars};
 ghost use Rattle.chart_reader.specs.Rules.{Named, StrokeRule, GapRule};
 ghost use Rattle.chart_reader.specs.Held.{StrokesFound, StrokeIn};
 ghost use Rattle.chart_reader.specs.Gaps.{InGap, Gapped, Clear, GapPut, GapsIn};
 
+use crate::Ends;
 use crate::strokes::stroke_ends;
 use chart::{Stroke, stroke_at};
 use keys::CORNERS;
-use nearest::Nearest;
 use nearest::question::{address, in_column, seek};
+use nearest::{BLANK, Span};
 
-// Copies numbers, each with x added.
-fn copy_plus(xs: &[u32], x: u32, out: &mut [u32])
-    requires sizes { length out.old ≡ length xs.now }
-    requires room { (i : ℕ) → i < length xs.now → get_or xs.now i 0 + x < 4294967296 }
-    ensures { (i : ℕ) → i < length xs.now → get_or out.new i 0 ≡ get_or xs.now i 0 + x }
+// Writes an empty gap behind each bar: it starts a cell behind the bar's last, and ends before its start.
+fn put_empty(spans: &[Span], gaps: &mut [Span])
+    requires size { length gaps.old ≡ length spans.now }
+    requires room { (i : ℕ) → i < length spans.now → get_or (lasts spans.now) i 0 + 1 < 4294967296 }
+    ensures { (i : ℕ) → i < length spans.now → (get_or (firsts gaps.new) i 0 ≡ get_or (lasts spans.now) i 0 + 1)
+        × (get_or (lasts gaps.new) i 0 ≡ get_or (lasts spans.now) i 0) }
 {
-    let mut i = 0;
-    while i < xs.len() {
-        out[i] = xs[i] + x;
-        i += 1;
+    for (i, span) in spans.iter().enumerate() {
+        gaps[i] = Span {
+            first: span.last + 1,
+            last: span.last,
+            corner: span.corner,
+        };
     }
 }
 
 // Puts the gap of a stroke behind its left bar, if it is level and its gap has a cell, and says whether it has.
-fn put_gap(chart: &[u8], s: Stroke, n: usize, ends: &[u32], to: &mut [u32]) -> bool
+fn put_gap(chart: &[u8], s: Stroke, n: usize, spans: &[Span], gaps: &mut [Span]) -> bool
     requires stroke { StrokeIn n s × Bars chart.now n × Gapped (chart_in chart.now) (stroke_of s) }
-    requires tables { (length to.old ≡ n) × ((starts corners : List ℕ) × Ordered (chart_in chart.now).bar n starts ends.now corners) }
-    ensures none { result ≡ false → (to.new ≡ to.old) × ((d : Cell) → InGap (chart_in chart.now) (stroke_of s) d → ⊥) }
-    ensures some { result ≡ true → GapPut (chart_in chart.now) (stroke_of s) ends.now to.old to.new }
+    requires bars { (length gaps.old ≡ n) × OrderedBars (chart_in chart.now).bar n spans.now }
+    ensures none { result ≡ false → (gaps.new ≡ gaps.old) × ((d : Cell) → InGap (chart_in chart.now) (stroke_of s) d → ⊥) }
+    ensures some { result ≡ true → (firsts gaps.new ≡ firsts gaps.old)
+        × GapPut (chart_in chart.now) (stroke_of s) (lasts spans.now) (lasts gaps.old) (lasts gaps.new) }
 {
-    if s.upright {
+    if s.column.is_some() {
         return false;
     }
-    let e = stroke_ends(chart, s, n);
-    let p = e.first;
-    let q = e.last;
+    let Ends { first: p, last: q } = stroke_ends(chart, s, n);
     if q.column <= p.column + 1 {
         return false;
     }
-    let i = seek(ends, address(p.row, p.column));
-    to[i] = address(q.row, q.column) - 1;
+    let i = seek(spans, address(p.row, p.column));
+    gaps[i].last = address(q.row, q.column) - 1;
     true
 }
 
 // Puts the gaps of the level strokes, and says whether one has a cell.
-fn put_gaps(
-    chart: &[u8],
-    at: &[usize],
-    n: usize,
-    starts: &[u32],
-    ends: &[u32],
-    to: &mut [u32],
-) -> bool
+fn put_gaps(chart: &[u8], at: &[usize], n: usize, spans: &[Span], gaps: &mut [Span]) -> bool
     requires strokes { StrokesFound chart.now n at.now × BarRule (chart_in chart.now) × StrokeRule (chart_in chart.now) }
-    requires tables { (corners : List ℕ) × Ordered (chart_in chart.now).bar n starts.now ends.now corners }
-    requires none { (length to.old ≡ n) × ((i : ℕ) → i < n → get_or to.old i 0 ≡ get_or ends.now i 0) }
+    requires bars { OrderedBars (chart_in chart.now).bar n spans.now }
+    requires none { (length gaps.old ≡ n) × ((i : ℕ) → i < n → get_or (lasts gaps.old) i 0 ≡ get_or (lasts spans.now) i 0) }
     ensures gaps { GapsIn (chart_in chart.now) (λ (k : ℕ). stroke_at chart.now (get_or at.now k 0))
-        (length at.now) starts.now ends.now to.new }
+        (length at.now) (firsts spans.now) (lasts spans.now) (lasts gaps.new) }
+    ensures starts { firsts gaps.new ≡ firsts gaps.old }
     ensures any { result ≡ false → (k : ℕ) → k < length at.now → (d : Cell)
         → InGap (chart_in chart.now) (stroke_at chart.now (get_or at.now k 0)) d → ⊥ }
 {
+    // no plainer by any(), which would leave out the gaps behind the first
     let mut any = false;
-    let mut i = 0;
-    while i < at.len() {
-        let s = stroke_at(chart, at[i]);
-        if put_gap(chart, s, n, ends, to) {
+    for &place in at {
+        if put_gap(chart, stroke_at(chart, place), n, spans, gaps) {
             any = true;
         }
-        i += 1;
     }
     any
 }
 
 // Whether a stroke is no upright, or passes through none of the gaps.
-fn clear(chart: &[u8], s: Stroke, n: usize, from: &[u32], to: &[u32]) -> bool
-    requires { StrokeIn n s × Bars chart.now n × InOrder from.now to.now }
-    ensures yes { result ≡ true → Clear (chart_in chart.now) from.now to.now (stroke_of s) }
-    ensures no { result ≡ false → Clear (chart_in chart.now) from.now to.now (stroke_of s) → ⊥ }
+fn clear(chart: &[u8], s: Stroke, n: usize, gaps: &[Span]) -> bool
+    requires { StrokeIn n s × Bars chart.now n × InOrderSpans gaps.now }
+    ensures yes { result ≡ true → Clear (chart_in chart.now) (firsts gaps.now) (lasts gaps.now) (stroke_of s) }
+    ensures no { result ≡ false → Clear (chart_in chart.now) (firsts gaps.now) (lasts gaps.now) (stroke_of s) → ⊥ }
 {
-    if !s.upright {
+    if s.column.is_none() {
         return true;
     }
     let e = stroke_ends(chart, s, n);
-    match in_column(from, to, e.first, e.last) {
-        Nearest::None => true,
-        Nearest::Bar(_) => false,
-    }
+    in_column(gaps, e.first, e.last).is_none()
 }
 
 // Whether each stroke is.
-fn all_clear(chart: &[u8], at: &[usize], n: usize, from: &[u32], to: &[u32]) -> bool
-    requires { StrokesFound chart.now n at.now × All (Named (chart_in chart.now)) (chart_in chart.now).strokes × InOrder from.now to.now }
-    ensures yes { result ≡ true → All (Clear (chart_in chart.now) from.now to.now)
+fn all_clear(chart: &[u8], at: &[usize], n: usize, gaps: &[Span]) -> bool
+    requires { StrokesFound chart.now n at.now × All (Named (chart_in chart.now)) (chart_in chart.now).strokes × InOrderSpans gaps.now }
+    ensures yes { result ≡ true → All (Clear (chart_in chart.now) (firsts gaps.now) (lasts gaps.now))
         (chart_in chart.now).strokes }
-    ensures no { result ≡ false → All (Clear (chart_in chart.now) from.now to.now)
+    ensures no { result ≡ false → All (Clear (chart_in chart.now) (firsts gaps.now) (lasts gaps.now))
         (chart_in chart.now).strokes → ⊥ }
 {
-    let mut i = 0;
-    while i < at.len() {
-        let s = stroke_at(chart, at[i]);
-        if !clear(chart, s, n, from, to) {
-            return false;
-        }
-        i += 1;
-    }
-    true
+    at.iter()
+        .all(|&place| clear(chart, stroke_at(chart, place), n, gaps))
 }
 
-// Whether no upright passes through the gap of a level stroke, for a chart that keeps the rules of bars and strokes; with two tables for the gaps.
-fn none_passes(
-    chart: &[u8],
-    at: &[usize],
-    n: usize,
-    starts: &[u32],
-    ends: &[u32],
-    from: &mut [u32],
-    to: &mut [u32],
-) -> bool
+// Whether no upright passes through the gap of a level stroke, for a chart that keeps the rules of bars and strokes; with a table for the gaps.
+fn none_passes(chart: &[u8], at: &[usize], n: usize, spans: &[Span], gaps: &mut [Span]) -> bool
     requires chart { StrokesFound chart.now n at.now × BarRule (chart_in chart.now) × StrokeRule (chart_in chart.now) }
-    requires tables { (corners : List ℕ) × Ordered (chart_in chart.now).bar n starts.now ends.now corners }
-    requires sizes { (length from.old ≡ n) × (length to.old ≡ n) }
+    requires bars { OrderedBars (chart_in chart.now).bar n spans.now }
+    requires size { length gaps.old ≡ n }
     ensures yes { result ≡ true → GapRule (chart_in chart.now) }
     ensures no { result ≡ false → GapRule (chart_in chart.now) → ⊥ }
 {
-    copy_plus(ends, 0, to);
-    if !put_gaps(chart, at, n, starts, ends, to) {
+    put_empty(spans, gaps);
+    if !put_gaps(chart, at, n, spans, gaps) {
         return true;
     }
-    copy_plus(ends, 1, from);
-    all_clear(chart, at, n, from, to)
+    all_clear(chart, at, n, gaps)
 }
 
-// The same with tables of its own.
-pub fn gaps_keep(chart: &[u8], at: &[usize], n: usize, starts: &[u32], ends: &[u32]) -> bool
+// The same with a table of its own.
+pub fn gaps_keep(chart: &[u8], at: &[usize], n: usize, spans: &[Span]) -> bool
     requires chart { StrokesFound chart.now n at.now × BarRule (chart_in chart.now) × StrokeRule (chart_in chart.now) }
-    requires tables { (corners : List ℕ) × Ordered (chart_in chart.now).bar n starts.now ends.now corners }
+    requires bars { OrderedBars (chart_in chart.now).bar n spans.now }
     ensures yes { result ≡ true → GapRule (chart_in chart.now) }
     ensures no { result ≡ false → GapRule (chart_in chart.now) → ⊥ }
 {
-    let mut from = [0u32; CORNERS];
-    let mut to = [0u32; CORNERS];
-    none_passes(chart, at, n, starts, ends, &mut from[..n], &mut to[..n])
+    let mut gaps = [BLANK; CORNERS];
+    none_passes(chart, at, n, spans, &mut gaps[..n])
 }

@@ -7,20 +7,20 @@
 
 ghost use Rattle.std.specs.Prelude.{◌≡◌, length};
 ghost use Rattle.codec.specs.Answer.{answered, written};
-ghost use Rattle.sheet.specs.Held.{Reads};
+ghost use Rattle.sheet.specs.Held.{reading_of};
 ghost use Rattle.chart_reader.specs.Reader.{read_chart, chart_read};
-ghost use Rattle.chart_reader.specs.Held.{StrokesFound, NoAngles};
+ghost use Rattle.chart_reader.specs.Held.{StrokesFound};
 
 use crate::frame::frame;
 use crate::gaps::gaps_keep;
 use crate::part::part;
 use crate::strokes::strokes_keep;
-use codec::Written;
+use codec::Refusal;
 use keys::{CORNERS, EDGES};
-use nearest::Cell;
 use nearest::bars::bars_keep;
-use sheet::{Head, Read};
-use sheet_writer::write_keys;
+use nearest::{BLANK, Cell, Span};
+use sheet::part::Part;
+use sheet_writer::write_sheet;
 
 pub mod follow;
 pub mod frame;
@@ -35,81 +35,51 @@ pub struct Ends {
     pub last: Cell,
 }
 
-// The answer of the crate nearest, that of a corner or none, for the bytes of a chart, which may be refused.
-#[derive(Drop)]
-pub enum Followed {
-    None,
-    Bar(usize),
-    Refused(u16),
-}
-
 // Reads a chart whose strokes were found, with tables for the bars in order and for the edges.
 fn read_found(
     chart: &[u8],
     at: &[usize],
     n: usize,
-    starts: &mut [u32],
-    ends: &mut [u32],
-    corners: &mut [u16],
+    spans: &mut [Span],
     edges: &mut [u32],
-    keys: &mut [u32],
-) -> Read
+) -> Result<Part, Refusal>
     requires found { StrokesFound chart.now n at.now }
-    requires bars { (length starts.old ≡ n) × (length ends.old ≡ n) × (length corners.old ≡ n) }
-    requires edges { (length edges.old ≡ length at.now) × (length keys.old ≡ 2045) }
-    ensures part { Reads (read_chart chart.now) result keys.new }
-    ensures bare { NoAngles result }
+    requires bars { length spans.old ≡ n }
+    requires edges { length edges.old ≡ length at.now }
+    ensures { reading_of result ≡ read_chart chart.now }
 {
-    if !bars_keep(chart, n, starts, ends, corners) {
-        return Read::Refused(15);
+    if !bars_keep(chart, n, spans) {
+        return Err(Refusal::Bars);
     }
-    if !strokes_keep(chart, at, n, starts, ends, corners, edges) {
-        return Read::Refused(16);
+    if !strokes_keep(chart, at, n, spans, edges) {
+        return Err(Refusal::Strokes);
     }
-    if !gaps_keep(chart, at, n, starts, ends) {
-        return Read::Refused(17);
+    if !gaps_keep(chart, at, n, spans) {
+        return Err(Refusal::Gaps);
     }
-    if !part(edges, n, keys) {
-        return Read::Refused(18);
+    let mut keys = [0u32; EDGES];
+    if !part(edges, n, &mut keys) {
+        return Err(Refusal::NoPart);
     }
-    Read::Held(Head { n, angled: false })
+    Ok(Part::flat(n, &keys[..n - 3]))
 }
 
-// Reads a chart: the part's head, with the keys of its diagonals in the table, ascending, or a refusal.
-pub fn read_part(chart: &[u8], keys: &mut [u32]) -> Read
-    requires { length keys.old ≡ 2045 }
-    ensures part { Reads (read_chart chart.now) result keys.new }
-    ensures bare { NoAngles result }
+// Reads a chart: the part that it shows, which has no angles, or a refusal.
+pub fn read_part(chart: &[u8]) -> Result<Part, Refusal>
+    ensures { reading_of result ≡ read_chart chart.now }
 {
     let mut at = [0usize; EDGES];
-    let n = frame(chart, &mut at);
-    if n == 0 {
-        return Read::Refused(14);
-    }
+    let n = frame(chart, &mut at).ok_or(Refusal::ChartForm)?;
     let m = 2 * n - 3;
-    let mut starts = [0u32; CORNERS];
-    let mut ends = [0u32; CORNERS];
-    let mut corners = [0u16; CORNERS];
+    let mut spans = [BLANK; CORNERS];
     let mut edges = [0u32; EDGES];
-    read_found(
-        chart,
-        &at[..m],
-        n,
-        &mut starts[..n],
-        &mut ends[..n],
-        &mut corners[..n],
-        &mut edges[..m],
-        keys,
-    )
+    read_found(chart, &at[..m], n, &mut spans[..n], &mut edges[..m])
 }
 
 // Read a chart: the normal sheet of the part that it shows.
-pub fn read_chart(chart: &[u8], out: &mut [u8]) -> Written
+pub fn read_chart(chart: &[u8], out: &mut [u8]) -> Result<usize, Refusal>
     ensures { answered result out.new ≡ written (chart_read chart.now) out.old }
 {
-    let mut keys = [0u32; EDGES];
-    match read_part(chart, &mut keys) {
-        Read::Refused(k) => Written::Refused(k),
-        Read::Held(h) => write_keys(h, &keys, out),
-    }
+    let part = read_part(chart)?;
+    write_sheet(&part, out)
 }

@@ -18,13 +18,7 @@ pub fn is_diagonal(k: u32, n: usize) -> bool
 {
     let a = low(k);
     let b = high(k);
-    if b < a + 2 {
-        return false;
-    }
-    if a + n < b + 2 {
-        return false;
-    }
-    b < n
+    a + 2 <= b && b + 2 <= a + n && b < n
 }
 
 // Copies the keys of the diagonals, and says how many there are.
@@ -34,14 +28,11 @@ fn diagonals(edges: &[u32], n: usize, keys: &mut [u32]) -> usize
     ensures kept { edges_of (take result keys.new) ≡ keep (diagonal? n) (edges_of edges.now) }
 {
     let mut m = 0;
-    let mut i = 0;
-    while i < edges.len() {
-        let k = edges[i];
+    for &k in edges {
         if is_diagonal(k, n) {
             keys[m] = k;
             m += 1;
         }
-        i += 1;
     }
     m
 }

@@ -6,7 +6,7 @@ use Prim.Native.Nat.{ℕ, suc, ◌+◌, ◌%◌, ◌^◌, ◌<◌, ◌≤◌}
 use native.Mathlib.Numerals.{add-one}
 use native.Mathlib.Omega.{arith}
 use lib.ListN.{length, take, get_or, length-append}
-use lib.Seq.{take-suc, take_all}
+use lib.Seq.{take-suc}
 use Rattle.lists.specs.Lists.{below, numbers}
 use Rattle.lists.proofs.Lists.{flat_append}
 use Rattle.lists.proofs.Places.{below_next}
@@ -64,6 +64,3 @@ module _ (s at ks : List ℕ) where
   lines_more i h p is q =
       rw (add-one i, take-suc ks i 0 h, map-append (λ k. stroke_no s at (k % 2048)) (take i ks) (get_or ks i 0 ∷ []))
       (more_put (stroke_line (chart_in s)) (strokes_of s at (take i ks)) (stroke_no s at (get_or ks i 0 % 2048)) p (rw is at q))
-
-  pub lines_all : (i : ℕ) → length ks ≤ i → lines_to s at ks i ≡ key_lines s at ks
-  lines_all i h = rw (take_all i ks h)

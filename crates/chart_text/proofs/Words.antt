@@ -1,9 +1,9 @@
 -- The words of a stroke, as the code reads it in the bytes: where it stands, how it is found, its corners.
 -- Rests on the cells that a stroke runs between (crate chart_reader).
 use mathlib.Core.Path.{◌≡◌, ap}
-use mathlib.Core.Bool.{true, false}
+use Rattle.std.specs.Prelude.{Some, None}
 use mathlib.Core.List.{List, [], ◌∷◌, ◌++◌}
-use Prim.Native.Nat.{ℕ, ◌+◌, ◌*◌, ◌<◌, ◌≤◌}
+use Prim.Native.Nat.{ℕ, ◌+◌, ◌<◌, ◌≤◌}
 use native.Mathlib.Omega.{arith}
 use lib.ListN.{length}
 use Rattle.polygon.specs.Polygon.{◌—◌, Diagonal}
@@ -21,32 +21,26 @@ use Rattle.nearest.specs.declared.Cell.{Cell}
 use Rattle.chart_reader.specs.declared.Ends.{Ends}
 use Rattle.chart_reader.specs.Held.{EndsOf}
 use Rattle.chart_reader.proofs.Stroked.{edge_of_lem}
-use Rattle.chart_text.specs.Text.{line_word, level_word, to_word, bend_word, side_word, leaves, arrives, stroke_name, edge_name, stroke_line, standing}
+use Rattle.chart_text.specs.Text.{line_word, level_word, to_word, bend_word, side_word, leaves, arrives, stroke_name, edge_name, stroke_line}
 use Rattle.chart_text.proofs.Lines.{field_end}
 
 module _ (c : Chart) (t : code.Stroke) {e : Ends} (E : EndsOf c t e) where
   -- a level stroke runs from the column that it leaves to the column that it arrives at
-  module _ (l : t.upright ≡ false) where
+  module _ (l : t.column ≡ None) where
     left_at_lem : e.first.column ≡ leaves c (t.a — t.b)
     left_at_lem = ap (λ (x : Cell × Cell). x.0.column) (rw l at E.same)
 
     right_at_lem : e.last.column ≡ arrives c (t.a — t.b)
     right_at_lem = ap (λ (x : Cell × Cell). x.1.column) (rw l at E.same)
 
-    pub level_stands : standing c (stroke_of t) ≡ 2 * e.first.column + 1
-    level_stands = rw (l, left_at_lem)
-
     pub level_put : {o₀ o₁ : List ℕ} {a b : ℕ} → Put ((level_word ++ decimal e.first.column) ++ (to_word ++ decimal e.last.column)) o₀ a o₁ b → Put (stroke_name c (stroke_of t)) o₀ a o₁ b
     unfolding stroke_name
     level_put q = rw l (rw (left_at_lem, right_at_lem) at q)
 
   -- an upright stands in its column
-  module _ (u : t.upright ≡ true) where
-    column_at : e.first.column ≡ t.column
+  module _ {j : ℕ} (u : t.column ≡ Some j) where
+    column_at : e.first.column ≡ j
     column_at = ap (λ (x : Cell × Cell). x.0.column) (rw u at E.same)
-
-    pub upright_stands : standing c (stroke_of t) ≡ 2 * e.first.column
-    upright_stands = rw (u, column_at)
 
     pub line_put : {o₀ o₁ : List ℕ} {a b : ℕ} → Put (line_word ++ decimal e.first.column) o₀ a o₁ b → Put (stroke_name c (stroke_of t)) o₀ a o₁ b
     unfolding stroke_name

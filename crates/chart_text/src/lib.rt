@@ -5,7 +5,6 @@
 ghost use Rattle.std.specs.Prelude.{◌+◌, ◌*◌, ◌<◌, ◌≤◌, length};
 ghost use Rattle.lists.specs.Lists.{All};
 ghost use Rattle.sheet.specs.Sheet.{held};
-ghost use Rattle.sheet.specs.Held.{polygon_of, InHand};
 ghost use Rattle.chart.specs.Decode.{chart_in, bar_of};
 ghost use Rattle.log_line.specs.Put.{Put};
 ghost use Rattle.log_line.specs.Line.{line};
@@ -23,7 +22,7 @@ use draw::line::counts_line;
 use keys::EDGES;
 use log_line::{put_field, put_refused, put_word};
 use plan::plan_part;
-use sheet::{Head, Read};
+use sheet::part::Part;
 
 pub mod program;
 pub mod strokes;
@@ -32,15 +31,14 @@ pub mod strokes;
 pub const TEXT_ROOM: usize = 163840;
 
 // Writes the line of a part in hand, in the chart's own rows and columns.
-fn put_head(chart: &[u8], h: Head, keys: &[u32], out: &mut [u8]) -> usize
-    requires part { InHand h keys.now }
-    requires room { (6 ≤ length chart.now) × (256 ≤ length out.old) }
-    ensures { Put (line (chart_facts (chart_in chart.now) (polygon_of h keys.now)))
+fn put_head(chart: &[u8], part: &Part, out: &mut [u8]) -> usize
+    requires { (6 ≤ length chart.now) × (256 ≤ length out.old) }
+    ensures { Put (line (chart_facts (chart_in chart.now) part.now))
         out.old 0 out.new result }
 {
     let rows = get16(chart, 0);
     let columns = get16(chart, 2);
-    counts_line(h, plan_part(h, keys), rows, columns, out)
+    counts_line(part.head(), plan_part(part), rows, columns, out)
 }
 
 // Writes the line of a corner with its bar, and says where it ends.
@@ -64,27 +62,25 @@ fn put_corners(out: &mut [u8], at: usize, chart: &[u8], n: usize) -> usize
     ensures within { result ≤ at + 45 * n }
 {
     let mut end = at;
-    let mut x = 0;
-    while x < n {
+    for x in 0..n {
         end = put_corner(out, end, x, corner_bar(chart, x));
-        x += 1;
     }
     end
 }
 
 // Writes what is said of a chart that was read as a part in hand.
-fn describe_part(chart: &[u8], h: Head, keys: &[u32], out: &mut [u8]) -> usize
-    requires part { InHand h keys.now }
+fn describe_part(chart: &[u8], part: &Part, out: &mut [u8]) -> usize
     requires formed { Formed chart.now × All (Named (chart_in chart.now)) (chart_in chart.now).strokes }
     requires room { 163840 ≤ length out.old }
-    ensures text { Put (described_as (chart_in chart.now) (held (polygon_of h keys.now)))
+    ensures text { Put (described_as (chart_in chart.now) (held part.now))
         out.old 0 out.new result }
     ensures within { result ≤ 163840 }
 {
     let mut at = [0usize; EDGES];
-    let n = frame(chart, &mut at);
+    // a chart that was read has its form
+    let n = frame(chart, &mut at).unwrap();
     let m = 2 * n - 3;
-    let corners = put_head(chart, h, keys, out);
+    let corners = put_head(chart, part, out);
     let strokes = put_corners(out, corners, chart, n);
     put_strokes(out, strokes, chart, &at[..m], n)
 }
@@ -94,9 +90,8 @@ pub fn describe(chart: &[u8], out: &mut [u8; TEXT_ROOM]) -> usize
     ensures text { Put (described chart.now) out.old 0 out.new result }
     ensures within { result ≤ 163840 }
 {
-    let mut keys = [0u32; EDGES];
-    match read_part(chart, &mut keys) {
-        Read::Refused(k) => put_refused(k as usize, out),
-        Read::Held(h) => describe_part(chart, h, &keys, out),
+    match read_part(chart) {
+        Err(refusal) => put_refused(refusal.number() as usize, out),
+        Ok(part) => describe_part(chart, &part, out),
     }
 }

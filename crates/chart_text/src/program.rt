@@ -6,7 +6,6 @@ ghost use Rattle.log_line.specs.Put.{Put};
 ghost use Rattle.chart_text.specs.Text.{described};
 
 use crate::{TEXT_ROOM, describe};
-use codec::least;
 
 // Room for an input: one byte more than the longest chart has.
 pub const INPUT_ROOM: usize = 20466;
@@ -25,5 +24,5 @@ pub fn describe_input(lent: &[u8; INPUT_ROOM], size: usize, out: &mut [u8; TEXT_
     ensures text { (input : List ℕ) → Begins lent.now size input → Put (described input) out.old 0 out.new result }
     ensures within { result ≤ 163840 }
 {
-    describe_first(lent, least(size, INPUT_ROOM), out)
+    describe_first(lent, size.min(INPUT_ROOM), out)
 }

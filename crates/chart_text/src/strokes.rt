@@ -12,6 +12,7 @@ ghost use Rattle.chart_text.specs.Text.{stroke_name, edge_name, stroke_line, sta
 ghost use Rattle.chart_text.specs.Ordered.{stroke_keys, key_lines};
 
 use chart::{Stroke, stroke_at};
+use chart_reader::Ends;
 use chart_reader::part::is_diagonal;
 use chart_reader::strokes::stroke_ends;
 use keys::sort::sort;
@@ -23,12 +24,11 @@ fn stroke_key(chart: &[u8], s: Stroke, n: usize, i: usize) -> u32
     requires { StrokeIn n s × Bars chart.now n × (i < 2048) }
     ensures { result ≡ standing (chart_in chart.now) (stroke_of s) * 2048 + i }
 {
-    let e = stroke_ends(chart, s, n);
-    let first = e.first;
-    if !s.upright {
-        return ((2 * first.column + 1) * 2048 + i) as u32;
+    let first = stroke_ends(chart, s, n).first;
+    match s.column {
+        None => ((2 * first.column + 1) * 2048 + i) as u32,
+        Some(_) => (2 * first.column * 2048 + i) as u32,
     }
-    (2 * first.column * 2048 + i) as u32
 }
 
 // Writes the keys of the strokes at these places.
@@ -37,11 +37,8 @@ fn stroke_keys(chart: &[u8], at: &[usize], n: usize, keys: &mut [u32])
         × (length at.now ≤ length keys.old) }
     ensures { take (length at.now) keys.new ≡ stroke_keys chart.now at.now }
 {
-    let mut i = 0;
-    while i < at.len() {
-        let s = stroke_at(chart, at[i]);
-        keys[i] = stroke_key(chart, s, n, i);
-        i += 1;
+    for (i, &place) in at.iter().enumerate() {
+        keys[i] = stroke_key(chart, stroke_at(chart, place), n, i);
     }
 }
 
@@ -62,14 +59,14 @@ fn put_name(out: &mut [u8], from: usize, chart: &[u8], s: Stroke, n: usize) -> u
     ensures text { Put (stroke_name (chart_in chart.now) (stroke_of s)) out.old from out.new result }
     ensures within { result ≤ from + 20 }
 {
-    let e = stroke_ends(chart, s, n);
-    let first = e.first;
-    let last = e.last;
-    if !s.upright {
-        let a = put_field(out, from, b"level ", first.column);
-        return put_field(out, a, b" to ", last.column);
+    let Ends { first, last } = stroke_ends(chart, s, n);
+    match s.column {
+        None => {
+            let a = put_field(out, from, b"level ", first.column);
+            put_field(out, a, b" to ", last.column)
+        }
+        Some(_) => put_field(out, from, b"line ", first.column),
     }
-    put_field(out, from, b"line ", first.column)
 }
 
 // Writes the corners a and b of a stroke, and whether it is a bend or a side of n corners.
@@ -111,12 +108,10 @@ fn put_lines(
     ensures within { result ≤ from + 44 * length keys.now }
 {
     let mut end = from;
-    let mut k = 0;
-    while k < keys.len() {
-        let i = (keys[k] % 2048) as usize;
+    for &key in keys {
+        let i = (key % 2048) as usize;
         let s = stroke_at(chart, at[i]);
         end = put_stroke(out, end, chart, s, n);
-        k += 1;
     }
     end
 }

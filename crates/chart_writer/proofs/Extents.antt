@@ -15,7 +15,7 @@ use Rattle.polygon.specs.Polygon.{Edge}
 use Rattle.keys.specs.Keys.{edge_of}
 use Rattle.tree.specs.Table.{edge_at}
 use Rattle.chart.specs.Chart.{Meets, meets?, first, last}
-use Rattle.chart_writer.specs.Tables.{Uprights, FilledWith, Spans}
+use Rattle.chart_writer.specs.Tables.{Uprights, Spans}
 
 -- one column more, before the others or behind them
 first_met : (x : ℕ) (e : Edge) (us : List Edge) → Meets x e → first x (e ∷ us) ≡ 0
@@ -52,15 +52,15 @@ module _ (tr columns : List ℕ) where
   up j = edge_at tr (get_or columns j 0)
 
   -- the columns from j on are stored
-  abbrev pub Lefts : List ℕ → ℕ → Type 0
-  Lefts left j = (x : ℕ) → x < 1024 → get_or left x 0 ≡ j + first x (map (edge_at tr) (drop j columns))
+  abbrev pub Lefts : List ℕ → List ℕ → ℕ → Type 0
+  Lefts old left j = (x : ℕ) → get_or old x 0 ≡ length columns → get_or left x 0 ≡ j + first x (map (edge_at tr) (drop j columns))
 
-  pub lefts_begin : (left : List ℕ) → FilledWith 1024 (length columns) left → Lefts left (length columns)
+  pub lefts_begin : (left : List ℕ) → Lefts left left (length columns)
   unfolding first
-  lefts_begin left (e, z) x h = rw (drop_of_length-le columns {i = length columns} (omega arith)) (omega (arith, z x h))
+  lefts_begin left x z = rw (drop_of_length-le columns {i = length columns} (omega arith)) (omega (arith, z))
 
-  pub lefts_next : (left : List ℕ) (j : ℕ) → Uprights tr columns → length left ≡ 1024 → j < length columns → Lefts left (suc j) → Lefts (store_both left (get_or tr (get_or columns j 0) 0) j) j
-  lefts_next left j K size h L x k =
+  pub lefts_next : (old left : List ℕ) (j : ℕ) → Uprights tr columns → length left ≡ 1024 → j < length columns → Lefts old left (suc j) → Lefts old (store_both left (get_or tr (get_or columns j 0) 0) j) j
+  lefts_next old left j K size h L x k =
       let rest : List Edge = map (edge_at tr) (drop (suc j) columns) in
       rw (drop-cons columns j 0 h)
       (both_stored (λ v. v ≡ j + first x (up j ∷ rest)) left (get_or tr (get_or columns j 0) 0) j x size (K j h).keyed
@@ -68,15 +68,15 @@ module _ (tr columns : List ℕ) where
       (λ f. omega (arith, L x k, first_past x (up j) rest f)))
 
   -- the first j columns are stored
-  abbrev pub Rights : List ℕ → ℕ → Type 0
-  Rights right j = (x : ℕ) → x < 1024 → get_or right x 0 ≡ last x (map (edge_at tr) (take j columns))
+  abbrev pub Rights : List ℕ → List ℕ → ℕ → Type 0
+  Rights old right j = (x : ℕ) → get_or old x 0 ≡ 0 → get_or right x 0 ≡ last x (map (edge_at tr) (take j columns))
 
-  pub rights_begin : (right : List ℕ) → FilledWith 1024 0 right → Rights right 0
+  pub rights_begin : (right : List ℕ) → Rights right right 0
   unfolding last first
-  rights_begin right (e, z) x h = z x h
+  rights_begin right x z = z
 
-  pub rights_next : (right : List ℕ) (j : ℕ) → Uprights tr columns → length right ≡ 1024 → j < length columns → Rights right j → Rights (store_both right (get_or tr (get_or columns j 0) 0) j) (j + 1)
-  rights_next right j K size h L x k =
+  pub rights_next : (old right : List ℕ) (j : ℕ) → Uprights tr columns → length right ≡ 1024 → j < length columns → Rights old right j → Rights old (store_both right (get_or tr (get_or columns j 0) 0) j) (j + 1)
+  rights_next old right j K size h L x k =
       let front : List Edge = map (edge_at tr) (take j columns) in
       let n : length (map (edge_at tr) (take j columns)) ≡ j = length-map (take j columns) (edge_at tr) ∙ length-take-le j columns (omega arith) in
       rw (add-one j, take-suc columns j 0 h, map-append (edge_at tr) (take j columns) (get_or columns j 0 ∷ []))
@@ -86,12 +86,12 @@ module _ (tr columns : List ℕ) where
 
   -- the bars of the root corners
   pub spans_end : (n : ℕ) (left right : List ℕ) → 1 ≤ n → n ≤ 1024 → length left ≡ 1024 → length right ≡ 1024
-      → ((x : ℕ) → x < 1024 → get_or left x 0 ≡ first x us) → ((x : ℕ) → x < 1024 → get_or right x 0 ≡ last x us)
+      → ((x : ℕ) → x < n → get_or left x 0 ≡ first x us) → ((x : ℕ) → x < n → get_or right x 0 ≡ last x us)
       → Spans n us (set left 0 0) (set right (n - 1) (length columns - 1))
   spans_end n left right h k p q L R = record {
-    lefts = λ x i. stored (λ v. v ≡ choose (ℕ_discrete x 0) 0 (first x us)) left 0 0 x (omega arith) (λ e. sym (choose_yes (ℕ_discrete x 0) _ e)) (λ e. L x (omega arith) ∙ sym (choose_no (ℕ_discrete x 0) _ e));
+    lefts = λ x i. stored (λ v. v ≡ choose (ℕ_discrete x 0) 0 (first x us)) left 0 0 x (omega arith) (λ e. sym (choose_yes (ℕ_discrete x 0) _ e)) (λ e. L x i ∙ sym (choose_no (ℕ_discrete x 0) _ e));
     rights = λ x i.
         stored (λ v. v ≡ choose (ℕ_discrete x (n - 1)) (length us - 1) (last x us)) right (n - 1) (length columns - 1) x (omega arith)
         (λ e. omega (arith, length-map columns (edge_at tr), choose_yes (ℕ_discrete x (n - 1)) {x = length us - 1} (last x us) e))
-        (λ e. R x (omega arith) ∙ sym (choose_no (ℕ_discrete x (n - 1)) _ e));
+        (λ e. R x i ∙ sym (choose_no (ℕ_discrete x (n - 1)) _ e));
   }

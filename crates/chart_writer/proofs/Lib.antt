@@ -1,4 +1,5 @@
 pub mod Placing
+pub mod Fields
 pub mod Extents
 pub mod Runs
 pub mod Writing

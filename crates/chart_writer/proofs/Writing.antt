@@ -17,6 +17,7 @@ use Rattle.tree.specs.Table.{edge_at}
 use Rattle.chart.specs.Chart.{stroke, Chart, layout, bars_of}
 use Rattle.chart.specs.Bytes.{bar_bytes, stroke_bytes, bytes_of}
 use Rattle.chart.proofs.Sizes.{bars_count, bars_size}
+use Rattle.std.specs.Prelude.{Option}
 use Rattle.chart_writer.specs.Tables.{Uprights, Sizes, Edges, Among, Laid, Columns, Spans, RowsAre, table_bar, table_stroke, bar_run, stroke_run}
 use Rattle.chart_writer.proofs.Placing.{edge_listed, edges_count, stroke_is}
 
@@ -67,22 +68,22 @@ module _ (n height : ℕ) (tr columns rows : List ℕ) (Z : Sizes n height tr co
   abbrev m : ℕ
   m = 2 * n - 3
 
-  abbrev run : List ℕ → List ℕ
+  abbrev run : List (Option ℕ) → List ℕ
   run stands = stroke_run tr stands m
 
   pub uprights_keyed : Uprights tr columns
   uprights_keyed j h = record { listed = omega (arith, A j h, Z.edges); early = omega (arith, A j h, Z.most); keyed = E.keyed (get_or columns j 0) (A j h) }
 
-  strokes_are : (stands : List ℕ) → Columns columns stands → run stands ≡ flat_map stroke_bytes (map (stroke 0 (map (edge_at tr) columns)) (edges_of (take m tr)))
+  strokes_are : (stands : List (Option ℕ)) → Columns columns stands → run stands ≡ flat_map stroke_bytes (map (stroke 0 (map (edge_at tr) columns)) (edges_of (take m tr)))
   unfolding below
   strokes_are stands K =
       let e : m ≡ length (edges_of (take m tr)) = sym (edges_count m tr columns Z.edges E A) in
       ap (flat_map stroke_bytes)
       (ap (λ (k : ℕ). map (table_stroke tr stands) (below k)) e
       ∙ map_places (stroke 0 (map (edge_at tr) columns)) (table_stroke tr stands) (edge_of 0) (edges_of (take m tr)) 0
-      (λ i k. let h : i < m = omega arith in let q : 0 + i ≡ i = omega arith in rw (q, edge_listed m tr columns Z.edges E A i h, K i (omega (arith, Z.most))) (stroke_is m tr columns Z.edges E A (omega (arith, Z.few)) i h)))
+      (λ i k. let h : i < m = omega arith in let q : 0 + i ≡ i = omega arith in rw (q, edge_listed m tr columns Z.edges E A i h, K i (omega (arith, Z.most))) (stroke_is m tr columns Z.edges E A i h)))
 
-  module _ (stands out : List ℕ) (K : Columns columns stands) (z : ℕ) (size : z ≡ length (run stands)) {rs : List ℕ} {us es : List Edge} (L : Laid n tr columns rows rs us es) where
+  module _ (stands : List (Option ℕ)) (out : List ℕ) (K : Columns columns stands) (z : ℕ) (size : z ≡ length (run stands)) {rs : List ℕ} {us es : List Edge} (L : Laid n tr columns rows rs us es) where
     strokes_of_lem : run stands ≡ flat_map stroke_bytes (layout (n - 1) height rs us es).strokes
     unfolding layout
     strokes_of_lem = rw (L.uprights, L.edges) (strokes_are stands K)
@@ -90,11 +91,14 @@ module _ (n height : ℕ) (tr columns rows : List ℕ) (Z : Sizes n height tr co
     pub chart_short : length out < 6 + 6 * n + z → refusal 8 out ≡ written (write (bytes_of (layout (n - 1) height rs us es))) out
     chart_short k = too_short n height rs us es (omega (arith, Z.least)) (run stands) out strokes_of_lem (omega arith)
 
-    pub chart_written : (left right o : List ℕ) → Spans n (map (edge_at tr) columns) left right → 6 + 6 * n + z ≤ length out
-        → o ≡ sets (sets (sets (sets (sets out 0 (bytes16 height)) 2 (bytes16 (length columns))) 4 (bytes16 n)) 6 (bar_run rows left right n)) (6 + 6 * n) (run stands)
+    -- by the bars of n corners, as tables of their fields
+    pub chart_written : (corners left right o : List ℕ) (k : ℕ) → k ≡ n → ((x : ℕ) → x < n → get_or corners x 0 ≡ get_or rows x 0)
+        → Spans n (map (edge_at tr) columns) left right → 6 + 6 * n + z ≤ length out
+        → o ≡ sets (sets (sets (sets (sets out 0 (bytes16 height)) 2 (bytes16 (length columns))) 4 (bytes16 n)) 6 (bar_run corners left right k)) (6 + 6 * n) (run stands)
         → ◌≡◌ {A = Answer} (record { number = 0; size = 6 + 6 * n + z; bytes = o }) (written (write (bytes_of (layout (n - 1) height rs us es))) out)
-    chart_written left right o S fits e =
+    chart_written corners left right o k all R S fits e =
         let w : length us ≡ length columns = ap length L.uprights ∙ length-map columns (edge_at tr) in
         rw size
-        (finished n height rs us es (omega (arith, Z.least)) (run stands) out strokes_of_lem (bar_run rows left right n) o (bars_are n height rs us es (omega (arith, Z.least)) rows left right L.corners (rw L.uprights S)) (omega arith)
-        (rw w e))
+        (finished n height rs us es (omega (arith, Z.least)) (run stands) out strokes_of_lem (bar_run corners left right n) o
+        (bars_are n height rs us es (omega (arith, Z.least)) corners left right (λ x h. R x h ∙ L.corners x h) (rw L.uprights S)) (omega arith)
+        (rw w (rw all at e)))

@@ -1,17 +1,17 @@
 -- Laws of answers with two outputs: refused, too short, whole.
-use mathlib.Core.Path.{◌≡◌, refl, ap, ◌∙◌}
+use mathlib.Core.Path.{◌≡◌, refl, ap}
 use mathlib.Core.Logic.Dec
 use mathlib.Core.Logic.{◌⊎◌, inl, inr}
 use mathlib.Core.List.{List}
-use Prim.Native.Nat.{ℕ, ◌+◌, ◌*◌, ◌≤◌, ◌<◌}
+use Prim.Native.Nat.{ℕ, ◌≤◌, ◌<◌}
 use native.Mathlib.Decide.{dec_le}
 use native.Mathlib.Omega.{arith}
 use lib.ListN.{length}
 use Rattle.codec.specs.Answer.{write, refusal, whole, written, OnlyShort}
-use Rattle.codec.specs.TwoOutputs.{write_both, BothAnswer, refusal_both, whole_both, fit_both, written_both, answered_both, packed_both, BothPackable}
+use Rattle.codec.specs.TwoOutputs.{write_both, BothAnswer, refusal_both, whole_both, fit_both, written_both, answered_both, BothPackable}
 use Rattle.codec.specs.Unpacked.{BothReadsBack}
-use Rattle.codec.specs.declared.BothWritten.{BothWritten}
-use Rattle.codec.specs.declared.BothWritten.TheVariants.{Lengths, Refused}
+use Rattle.std.specs.Prelude.{Result, Ok, Err}
+use Rattle.codec.specs.declared.refusal.Refusal.{Refusal}
 use Rattle.codec.proofs.Answers.{written_fits, written_short}
 
 module _ {A : Type 0} (bs out : List ℕ) (xs ys : List A) where
@@ -58,25 +58,6 @@ module _ {A : Type 0} (bs out : List ℕ) (xs ys : List A) where
 pub reads_back_both : (d : BothAnswer ℕ) → d.answer.number < 65536 → d.answer.size < 65536 → d.count < 65536 → BothReadsBack d
 reads_back_both d n k m = record { number_back = omega arith; inner_back = omega arith; rest_back = omega arith; one_number = omega arith }
 
-pub packable_both : (w : BothWritten) (out ys : List ℕ) {d : BothAnswer ℕ} → answered_both w out ys ≡ d → d.answer.size < 65536 → d.count < 65536 → BothPackable w
-packable_both (Lengths k m) out ys e h i = (omega (arith, ap (λ (x : BothAnswer ℕ). x.answer.size) e), omega (arith, ap (λ (x : BothAnswer ℕ). x.count) e))
-packable_both (Refused k) out ys e h i = tt
-
--- the lent bytes at the return are those of the answer
-both_left : (w : BothWritten) (out ys : List ℕ) {d : BothAnswer ℕ} → answered_both w out ys ≡ d → (out ≡ d.answer.bytes) × (ys ≡ d.second)
-both_left (Lengths k m) out ys e = (ap (λ (x : BothAnswer ℕ). x.answer.bytes) e, ap (λ (x : BothAnswer ℕ). x.second) e)
-both_left (Refused k) out ys e = (ap (λ (x : BothAnswer ℕ). x.answer.bytes) e, ap (λ (x : BothAnswer ℕ). x.second) e)
-
-pub packed_both_left : (w : BothWritten) (out ys : List ℕ) {d : BothAnswer ℕ} {r : ℕ} → ((o z : List ℕ) → r ≡ packed_both (answered_both w o z)) → answered_both w out ys ≡ d
-    → (r ≡ packed_both d) × (out ≡ d.answer.bytes) × (ys ≡ d.second)
-packed_both_left w out ys p e = let (f, g) = both_left w out ys e in (p out ys ∙ ap packed_both e, f, g)
-
--- the two cases in one number
-pub packed_lengths : (w : BothWritten) (k m : ℕ) → w ≡ Lengths k m → (out ys : List ℕ) → k * 65536 + m * 4294967296 ≡ packed_both (answered_both w out ys)
-packed_lengths w k m e out ys = rw e (omega arith)
-
-pub packed_refused_both : (w : BothWritten) (k : ℕ) → w ≡ Refused k → (out ys : List ℕ) → k ≡ packed_both (answered_both w out ys)
-packed_refused_both w k e out ys = rw e (omega arith)
-
-pub lengths_fit : (w : BothWritten) (k m : ℕ) → BothPackable w → w ≡ Lengths k m → (k < 65536) × (m < 65536)
-lengths_fit w k m p e = rw e at p
+pub packable_both : (w : Result (ℕ × ℕ) Refusal) (out ys : List ℕ) {d : BothAnswer ℕ} → answered_both w out ys ≡ d → d.answer.size < 65536 → d.count < 65536 → BothPackable w
+packable_both (Ok (k, m)) out ys e h i = (omega (arith, ap (λ (x : BothAnswer ℕ). x.answer.size) e), omega (arith, ap (λ (x : BothAnswer ℕ). x.count) e))
+packable_both (Err r) out ys e h i = tt

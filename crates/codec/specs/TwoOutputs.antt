@@ -1,9 +1,9 @@
 -- How an operation with two outputs answers: the first of bytes, the second of bytes or records. As with one output (Answer.antt); and "8: either output too short."
 use Rattle.std.proofs.Math.Logic.Dec.{and as dec_and}
-use Rattle.std.specs.Prelude.{List, ◌++◌, ℕ, ◌+◌, ◌*◌, ◌<◌, length, drop}
+use Rattle.std.specs.Prelude.{Result, Ok, Err, List, ◌++◌, ℕ, ◌+◌, ◌*◌, ◌<◌, length, drop}
 use Rattle.std.proofs.Math.Decide.{dec_le}
-use Rattle.codec.specs.declared.BothWritten.{BothWritten}
-use Rattle.codec.specs.declared.BothWritten.TheVariants.{Lengths, Refused}
+use Rattle.codec.specs.declared.refusal.Refusal.{Refusal}
+use Rattle.codec.specs.Numbered.{number_of}
 use Rattle.codec.specs.Answer.{Answer, refusal, whole}
 
 -- what an operation is to do: refuse by a number, or write these two
@@ -35,15 +35,15 @@ written_both (refuse_both k) out ys = refusal_both k out ys
 written_both (write_both bs xs) out ys = fit_both (dec_and (dec_le (length bs) (length out)) (dec_le (length xs) (length ys))) bs xs out ys
 
 -- the number and the values of each case of the code's answer, with what was lent at its return
-abbrev pub answered_both : {A : Type 0} → BothWritten → List ℕ → List A → BothAnswer A
-answered_both (Lengths k m) out ys = record { answer = record { number = 0; size = k; bytes = out }; count = m; second = ys }
-answered_both (Refused k) out ys = refusal_both k out ys
+abbrev pub answered_both : {A : Type 0} → Result (ℕ × ℕ) Refusal → List ℕ → List A → BothAnswer A
+answered_both (Ok (k, m)) out ys = record { answer = record { number = 0; size = k; bytes = out }; count = m; second = ys }
+answered_both (Err r) out ys = refusal_both (number_of r) out ys
 
 -- the answer with two outputs of bytes in one number, for C: the number in the low 16 bits, the two lengths above it, 16 bits each
 abbrev pub packed_both : BothAnswer ℕ → ℕ
 packed_both d = d.answer.number + d.answer.size * 65536 + d.count * 4294967296
 
 -- the lengths are small enough for that
-abbrev pub BothPackable : BothWritten → Type 0
-BothPackable (Lengths k m) = (k < 65536) × (m < 65536)
-BothPackable (Refused k) = Unit {0}
+abbrev pub BothPackable : Result (ℕ × ℕ) Refusal → Type 0
+BothPackable (Ok (k, m)) = (k < 65536) × (m < 65536)
+BothPackable (Err r) = Unit {0}

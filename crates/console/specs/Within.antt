@@ -1,8 +1,6 @@
 -- What was read behind the first `done` bytes of a buffer lies within the buffer. For the contracts.
-use Rattle.std.specs.Prelude.{ℕ, ◌+◌, ◌≤◌}
-use Rattle.console.specs.declared.Input.{Input}
-use Rattle.console.specs.declared.Input.TheVariants.{Bytes, Failed}
+use Rattle.std.specs.Prelude.{ℕ, Option, None, Some, ◌+◌, ◌≤◌}
 
-abbrev pub Within : Input → ℕ → ℕ → Type 0
-Within (Bytes k) done room = done + k ≤ room
-Within Failed done room = Unit {0}
+abbrev pub Within : Option ℕ → ℕ → ℕ → Type 0
+Within (Some k) done room = done + k ≤ room
+Within None done room = Unit {0}

@@ -7,52 +7,39 @@ ghost use Rattle.console.specs.Read.{ReadBehind, ReadFull};
 
 use std::io::{Error, Read};
 
-// So many bytes were read, all of the input or as many as there is room for; or the system refused.
-#[derive(Drop)]
-pub enum Input {
-    Bytes(usize),
-    Failed,
-}
-
 // Says on standard error what the system refused, and why.
 pub fn fail(rt: &impl Eprint, what: &str, why: &Error) {
     let _ = eprintln!(rt; "{what}: {why}");
 }
 
-// One read into the buffer from `done` on: so many bytes, 0 at the end of the input.
-fn read_on<R: Read>(rt: &impl Eprint, reader: &mut R, buf: &mut [u8], done: usize) -> Input
+// One read into the buffer from `done` on: so many bytes, 0 at the end of the input; or none, as the system refused.
+fn read_on<R: Read>(rt: &impl Eprint, reader: &mut R, buf: &mut [u8], done: usize) -> Option<usize>
     requires { done ≤ length buf.old }
     ensures within { Within result done (length buf.old) }
     ensures kept { take done buf.new ≡ take done buf.old }
     ensures bytes { ReadBehind result done (R.remaining reader.old) (R.remaining reader.new) buf.new }
 {
-    match reader.read(&mut buf[done..]) {
-        Ok(more) => Input::Bytes(more),
-        Err(why) => {
-            fail(rt, "standard input", &why);
-            Input::Failed
-        }
-    }
+    reader
+        .read(&mut buf[done..])
+        .inspect_err(|why| fail(rt, "standard input", why))
+        .ok()
 }
 
-// Reads until the buffer is full or the input ends. The reader is standard input, `rt.stdin()`, or what a test takes for it.
-pub fn read_input<R: Read>(rt: &impl Eprint, reader: &mut R, buf: &mut [u8]) -> Input
+// Reads until the buffer is full or the input ends, and says how many bytes that are; or none, as the system refused.
+// The reader is standard input, `rt.stdin()`, or what a test takes for it.
+pub fn read_input<R: Read>(rt: &impl Eprint, reader: &mut R, buf: &mut [u8]) -> Option<usize>
     ensures within { Within result 0 (length buf.old) }
     ensures bytes { ReadFull result (R.remaining reader.old) (R.remaining reader.new) buf.new }
 {
     let mut done = 0;
     while done < buf.len() {
-        match read_on(rt, reader, buf, done) {
-            Input::Failed => return Input::Failed,
-            Input::Bytes(more) => {
-                if more == 0 {
-                    return Input::Bytes(done);
-                }
-                done += more;
-            }
+        let more = read_on(rt, reader, buf, done)?;
+        if more == 0 {
+            break;
         }
+        done += more;
     }
-    Input::Bytes(done)
+    Some(done)
 }
 
 // Prints the text.

@@ -54,12 +54,3 @@ module _ {c : Edge} {bends : List ℕ} {n m : ℕ} {inside outside : List ℕ} {
           inner = kept_past (λ b. beneath? c (edge_of (key_in b))) bends inside i j 0 more S.inner f;
           rest = rw e (kept_next (λ b. not? (beneath? c (edge_of (key_in b)))) bends outside (j - i) j 0 more S.rest (omega (arith, S.low, S.kept_outside)) f);
         }
-
-  pub split_end : length bends ≤ j
-      → ((take i inside ≡ inner_bends c bends) × (i ≡ length (inner_bends c bends))) × ((take (length bends - i) outside ≡ rest_bends c bends) × (i + length (rest_bends c bends) ≡ length bends))
-  split_end h =
-      let all : take j bends ≡ bends = take_all j bends h in
-      let e : j ≡ length bends = omega (arith, S.upto) in
-      let first : take i inside ≡ inner_bends c bends = S.inner ∙ ap (inner_bends c) all in
-      let count : i ≡ length (inner_bends c bends) = sym (length-take-le i inside (omega (arith, S.low, S.upto, S.kept_inside))) ∙ ap length first in
-      ((first, count), (rw e at S.rest ∙ ap (rest_bends c) (take_all (length bends) bends (omega arith)), omega (arith, keep_split (λ b. beneath? c (edge_of (key_in b))) bends)))

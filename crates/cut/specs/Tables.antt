@@ -1,10 +1,9 @@
 -- How the code holds a part that is cut: its bends, parted in two tables.
-use Rattle.std.specs.Prelude.{◌≡◌, ◌&&◌, List, ℕ, ltb}
+use Rattle.std.specs.Prelude.{◌&&◌, List, ℕ, ltb}
 use Rattle.lists.specs.Lists.{keep, not?}
-use Rattle.polygon.specs.Polygon.{Edge, Polygon}
+use Rattle.polygon.specs.Polygon.{Edge}
 use Rattle.keys.specs.Keys.{edge_of, key_in}
 use Rattle.sheet.specs.declared.Head.{Head}
-use Rattle.sheet.specs.Held.{part_of, BentInHand}
 use Rattle.cut.specs.Cut.{beneath?}
 
 -- the bends of the diagonals that lie beneath a cut, and the others
@@ -17,8 +16,3 @@ rest_bends c bs = keep (λ b. not? (beneath? c (edge_of (key_in b)))) bs
 -- the head of a part of n corners that comes from one of the head h
 abbrev pub head_on : Head → ℕ → Head
 head_on h n = record { n = n; angled = h.angled && ltb 3 n }
-
--- the part p in the code's hands
-pub record HoldsPart (p : Polygon) (h : Head) (bs : List ℕ) : Type 0 where
-  pub hand : BentInHand h bs
-  pub same : part_of h bs ≡ p

@@ -1,31 +1,28 @@
-// A part in hand that is cut: its bends parted in two tables, each half renumbered, and both written.
+// Cutting a part: its bends parted in two tables, each half renumbered, and both written.
 ghost use Rattle.std.specs.Prelude.{◌≡◌, true, false, ◌+◌, ◌-◌, ◌≤◌, length, take};
 ghost use Rattle.lists.specs.Lists.{Mem};
 ghost use Rattle.polygon.specs.Polygon.{◌—◌};
 ghost use Rattle.codec.specs.TwoOutputs.{answered_both, write_both, written_both};
 ghost use Rattle.keys.specs.Keys.{edge_of};
 ghost use Rattle.sheet.specs.Sheet.{normal_sheet};
-ghost use Rattle.sheet.specs.Held.{part_of, BentInHand};
 ghost use Rattle.cut.specs.Cut.{Beneath, inner_part, rest_part};
-ghost use Rattle.cut.specs.Tables.{inner_bends, rest_bends, head_on, HoldsPart};
+ghost use Rattle.cut.specs.Tables.{inner_bends, rest_bends, head_on};
 
-use codec::BothWritten;
+use codec::Refusal;
 use edit::shift::{Shift, renumber};
 use keys::bend::key_in;
 use keys::change::remove;
 use keys::{DIAGONALS, high, key, low};
 use sheet::Head;
-use sheet_writer::{normal_size, put_sheet};
+use sheet::part::Part;
+use sheet_writer::{put_sheet, sheet_size};
 
 // Whether an edge joins two of the corners a to b.
 fn beneath(k: u32, a: usize, b: usize) -> bool
     ensures yes { result ≡ true → Beneath (a — b) (edge_of k) }
     ensures no { result ≡ false → Beneath (a — b) (edge_of k) → ⊥ }
 {
-    if low(k) < a {
-        return false;
-    }
-    high(k) <= b
+    low(k) >= a && high(k) <= b
 }
 
 // Puts the bends of the diagonals on the corners a to b at the front of `inside`, the others at the front of `outside`, and says how many the first are.
@@ -36,16 +33,15 @@ fn split(bends: &[u32], a: usize, b: usize, inside: &mut [u32], outside: &mut [u
     ensures second { (take (length bends.now - result) outside.new ≡ rest_bends (a — b) bends.now)
         × (result + length (rest_bends (a — b) bends.now) ≡ length bends.now) }
 {
-    let mut i: usize = 0;
-    let mut j: usize = 0;
-    while j < bends.len() {
-        if beneath(key_in(bends[j]), a, b) {
-            inside[i] = bends[j];
+    // Counted by hand, since std's `partition` makes two collections: no heap.
+    let mut i = 0;
+    for (j, &bend) in bends.iter().enumerate() {
+        if beneath(key_in(bend), a, b) {
+            inside[i] = bend;
             i += 1;
         } else {
-            outside[j - i] = bends[j];
+            outside[j - i] = bend;
         }
-        j += 1;
     }
     i
 }
@@ -54,58 +50,53 @@ fn split(bends: &[u32], a: usize, b: usize, inside: &mut [u32], outside: &mut [u
 pub fn head_on(h: Head, n: usize) -> Head
     ensures { result ≡ head_on h n }
 {
-    if n > 3 {
-        return Head {
-            n: n,
-            angled: h.angled,
-        };
-    }
     Head {
-        n: n,
-        angled: false,
+        n,
+        angled: h.angled && n > 3,
     }
 }
 
-// Cuts a part in hand at its diagonal (a,b): the bends of the inner part at the front of `inside`, those of the rest at the front of `outside`.
-pub fn halve(h: Head, bends: &[u32], a: usize, b: usize, inside: &mut [u32], outside: &mut [u32])
-    requires part { BentInHand h bends.now × Mem (a — b) (part_of h bends.now).ds }
-    requires sizes { (1021 ≤ length inside.old) × (1021 ≤ length outside.old) }
-    ensures inner { HoldsPart (inner_part (a — b) (part_of h bends.now)) (head_on h (b - a + 1)) inside.new }
-    ensures rest { HoldsPart (rest_part (a — b) (part_of h bends.now)) (head_on h (h.n - (b - a - 1))) outside.new }
+// Cuts a part at its diagonal (a,b): the inner part, and the rest.
+pub fn halve(part: &Part, a: usize, b: usize) -> (Part, Part)
+    requires { Mem (a — b) part.now.ds }
+    ensures inner { result.0 ≡ inner_part (a — b) part.now }
+    ensures rest { result.1 ≡ rest_part (a — b) part.now }
 {
-    let m = h.n - 3;
+    let h = part.head();
+    let bends = part.bends();
     let mut others = [0u32; DIAGONALS];
-    let left = remove(&bends[..m], key(a, b), &mut others);
+    let left = remove(bends, key(a, b), &mut others);
     let mut on = [0u32; DIAGONALS];
     let mut off = [0u32; DIAGONALS];
     let i = split(&others[..left], a, b, &mut on, &mut off);
-    renumber(&on[..i], Shift::Down(0, a), inside);
-    renumber(&off[..left - i], Shift::Down(a, b - a - 1), outside);
+    let mut inside = [0u32; DIAGONALS];
+    renumber(&on[..i], Shift::Down(0, a), &mut inside);
+    let mut outside = [0u32; DIAGONALS];
+    renumber(&off[..left - i], Shift::Down(a, b - a - 1), &mut outside);
+    let inner = Part::new(head_on(h, b - a + 1), inside);
+    let rest = Part::new(head_on(h, h.n - (b - a - 1)), outside);
+    (inner, rest)
 }
 
-// Writes two parts in hand, each to its output, if both outputs are long enough.
+// Writes two parts, each to its output, if both outputs are long enough.
 pub fn write_both(
-    g: Head,
-    inside: &[u32],
-    h: Head,
-    outside: &[u32],
+    one: &Part,
+    other: &Part,
     inner: &mut [u8],
     rest: &mut [u8],
-) -> BothWritten
-    requires { BentInHand g inside.now × BentInHand h outside.now }
+) -> Result<(usize, usize), Refusal>
     ensures { answered_both result inner.new rest.new
-        ≡ written_both (write_both (normal_sheet (part_of g inside.now)) (normal_sheet (part_of h outside.now)))
-        inner.old rest.old }
+        ≡ written_both (write_both (normal_sheet one.now) (normal_sheet other.now)) inner.old rest.old }
 {
-    let first = normal_size(g);
+    let first = sheet_size(one);
     if inner.len() < first {
-        return BothWritten::Refused(8);
+        return Err(Refusal::Room);
     }
-    let second = normal_size(h);
+    let second = sheet_size(other);
     if rest.len() < second {
-        return BothWritten::Refused(8);
+        return Err(Refusal::Room);
     }
-    put_sheet(g, inside, inner);
-    put_sheet(h, outside, rest);
-    BothWritten::Lengths(first, second)
+    put_sheet(one, inner);
+    put_sheet(other, rest);
+    Ok((first, second))
 }

@@ -7,87 +7,66 @@ ghost use Rattle.std.specs.Prelude.{◌≡◌, ◌<◌, ◌≤◌};
 ghost use Rattle.polygon.specs.Polygon.{◌—◌};
 ghost use Rattle.polygon.specs.Order.{lower_first};
 ghost use Rattle.codec.specs.TwoOutputs.{answered_both, written_both};
-ghost use Rattle.sheet.specs.Held.{part_of, BentInHand, KeysOf};
 ghost use Rattle.cut.specs.Cut.{cuttable, halved, cut_sheet};
 
-use crate::halves::{halve, head_on, write_both};
-use codec::BothWritten;
-use keys::change::has;
-use keys::{DIAGONALS, key};
+use crate::halves::{halve, write_both};
+use codec::Refusal;
+use keys::key;
+use sheet::part::Part;
 use sheet::reader::read_sheet;
-use sheet::{Head, Read};
 
 pub mod halves;
 
-// Cuts a part in hand at (a,b), a not above b.
+// Cuts a part at (a,b), a not above b.
 fn cut_at(
-    h: Head,
-    bends: &[u32],
-    keys: &[u32],
+    part: &Part,
     a: usize,
     b: usize,
     inner: &mut [u8],
     rest: &mut [u8],
-) -> BothWritten
-    requires part { BentInHand h bends.now × KeysOf h bends.now keys.now }
-    requires corners { (a ≤ b) × (b < h.n) }
+) -> Result<(usize, usize), Refusal>
+    requires { (a ≤ b) × (b < part.now.n) }
     ensures { answered_both result inner.new rest.new
-        ≡ written_both (halved (a — b) (cuttable a b (part_of h bends.now))) inner.old rest.old }
+        ≡ written_both (halved (a — b) (cuttable a b part.now)) inner.old rest.old }
 {
-    let n = h.n;
-    if !has(&keys[..n - 3], key(a, b)) {
-        return BothWritten::Refused(13);
+    let m = part.head().n - 3;
+    let keys = part.keys();
+    if !keys[..m].contains(&key(a, b)) {
+        return Err(Refusal::LacksDiagonal);
     }
-    let mut inside = [0u32; DIAGONALS];
-    let mut outside = [0u32; DIAGONALS];
-    halve(h, bends, a, b, &mut inside, &mut outside);
-    write_both(
-        head_on(h, b - a + 1),
-        &inside,
-        head_on(h, n - (b - a - 1)),
-        &outside,
-        inner,
-        rest,
-    )
+    let (one, other) = halve(part, a, b);
+    write_both(&one, &other, inner, rest)
 }
 
-// Cuts a part in hand between a and b, named in either order.
+// Cuts a part between a and b, named in either order.
 fn cut_part(
-    h: Head,
-    bends: &[u32],
-    keys: &[u32],
+    part: &Part,
     a: usize,
     b: usize,
     inner: &mut [u8],
     rest: &mut [u8],
-) -> BothWritten
-    requires { BentInHand h bends.now × KeysOf h bends.now keys.now }
+) -> Result<(usize, usize), Refusal>
     ensures { answered_both result inner.new rest.new
-        ≡ written_both (halved (lower_first (a, b)) (cuttable a b (part_of h bends.now))) inner.old rest.old }
+        ≡ written_both (halved (lower_first (a, b)) (cuttable a b part.now)) inner.old rest.old }
 {
-    let n = h.n;
-    if a >= n {
-        return BothWritten::Refused(9);
+    let n = part.head().n;
+    if a >= n || b >= n {
+        return Err(Refusal::OutOfRange);
     }
-    if b >= n {
-        return BothWritten::Refused(9);
-    }
-    if a < b {
-        cut_at(h, bends, keys, a, b, inner, rest)
-    } else {
-        cut_at(h, bends, keys, b, a, inner, rest)
-    }
+    cut_at(part, a.min(b), a.max(b), inner, rest)
 }
 
 // Cut: the part on the corners a to b to one output, the rest to the other, each as a sheet in normal order.
-pub fn cut(sheet: &[u8], a: usize, b: usize, inner: &mut [u8], rest: &mut [u8]) -> BothWritten
+pub fn cut(
+    sheet: &[u8],
+    a: usize,
+    b: usize,
+    inner: &mut [u8],
+    rest: &mut [u8],
+) -> Result<(usize, usize), Refusal>
     ensures { answered_both result inner.new rest.new
         ≡ written_both (cut_sheet sheet.now a b) inner.old rest.old }
 {
-    let mut bends = [0u32; DIAGONALS];
-    let mut keys = [0u32; DIAGONALS];
-    match read_sheet(sheet, &mut bends, &mut keys) {
-        Read::Refused(k) => BothWritten::Refused(k),
-        Read::Held(h) => cut_part(h, &bends, &keys, a, b, inner, rest),
-    }
+    let part = read_sheet(sheet)?;
+    cut_part(&part, a, b, inner, rest)
 }

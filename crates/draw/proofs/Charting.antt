@@ -2,14 +2,15 @@
 use mathlib.Core.Path.{◌≡◌, ap, sym, ◌∙◌}
 use mathlib.Core.List.{List, ◌++◌, map}
 use mathlib.Core.Option.{Option}
-use Prim.Native.Nat.{ℕ, zero, suc, ◌+◌, ◌*◌, ◌-◌, ◌≤◌, ◌<◌}
+use Prim.Native.Nat.{ℕ, ◌+◌, ◌*◌, ◌-◌, ◌≤◌, ◌<◌}
 use native.Mathlib.Omega.{arith}
 use lib.ListN.{length, take, drop, get_or, length-append, length-map, length-drop}
 use lib.Seq.{get_or-take, length-take-le, take_at}
 use Rattle.lists.specs.Lists.{All}
 use Rattle.lists.proofs.Lists.{all_imp}
 use Rattle.polygon.specs.Edges.{edges}
-use Rattle.polygon.specs.Tree.{Tree, span}
+use Rattle.polygon.specs.Polygon.{Edge, Polygon}
+use Rattle.polygon.specs.Tree.{Tree, span, tree_of}
 use Rattle.polygon.proofs.Edges.{edges_ascending}
 use Rattle.codec.specs.Answer.{refusal, write, written}
 use Rattle.umbrella.specs.Plan.{Plan, levels}
@@ -20,7 +21,7 @@ use Rattle.tree.specs.declared.Root.{Root}
 use Rattle.tree.proofs.Whole.{keyed}
 use Rattle.levels.specs.Kept.{Filled}
 use Rattle.chart.specs.Places.{cols, rows}
-use Rattle.chart.specs.Chart.{Chart, corner_rows, layout, chart, closed_row, closed}
+use Rattle.chart.specs.Chart.{Chart, corner_rows, layout, chart, closed_row, closed, chart_of}
 use Rattle.chart.specs.Bytes.{bytes_of}
 use Rattle.chart.proofs.Width.{width}
 use Rattle.chart.proofs.Closing.{closed_le, corners_shut}
@@ -29,29 +30,40 @@ use Rattle.chart_writer.specs.Tables.{Sizes, Edges, Among, Laid}
 use Rattle.drawing.specs.Located.{Located}
 use Rattle.drawing.specs.declared.Size.{Size}
 use Rattle.drawing.proofs.Whole.{sized}
+use Rattle.std.specs.Prelude.{Option as Given, Some, None}
+use Rattle.codec.specs.declared.refusal.Refusal.{Refusal}
+use Rattle.codec.specs.Numbered.{number_of}
+use Rattle.sheet.specs.declared.Head.{Head}
+use Rattle.plan.specs.declared.Totals.{Totals}
+use Rattle.plan.specs.Counts.{totals_of}
+use Rattle.draw.specs.Told.{told}
+use Rattle.draw.specs.Printed.{facts_of}
 use Rattle.draw.specs.Charted.{stopped, unless, unless_stopped}
 
--- a chart of h rows and n bars that was stopped by k, and one that was not
-module _ (limit : Option ℕ) (room : ℕ) (c : Chart) (out : List ℕ) {k h n : ℕ} (e : k ≡ stopped limit h n room) (rows_are : h ≡ c.rows) (bars_are : n ≡ c.n) where
-  by_number : unless_stopped limit room c ≡ unless k (bytes_of c)
+-- a chart of h rows and n bars that was stopped, and one that was not
+module _ (limit : Option ℕ) (room : ℕ) (c : Chart) (out : List ℕ) {r : Given Refusal} {h n : ℕ} (e : r ≡ stopped limit h n room) (rows_are : h ≡ c.rows) (bars_are : n ≡ c.n) where
+  by_refusal : unless_stopped limit room c ≡ unless r (bytes_of c)
   unfolding unless_stopped
-  by_number = rw (e, rows_are, bars_are)
+  by_refusal = rw (e, rows_are, bars_are)
 
-  pub stopped_by : 0 < k → refusal k out ≡ written (unless_stopped limit room c) out
+  pub stopped_by : (why : Refusal) → r ≡ Some why → refusal (number_of why) out ≡ written (unless_stopped limit room c) out
   unfolding unless written
-  stopped_by p = go k p by_number
-    where
-      go : (m : ℕ) → 0 < m → unless_stopped limit room c ≡ unless m (bytes_of c) → refusal m out ≡ written (unless_stopped limit room c) out
-      go zero q i = absurd (omega (arith, q))
-      go (suc m) q i = rw i
+  stopped_by why i = rw (by_refusal, i)
 
-  pub not_stopped : k ≤ 0 → written (write (bytes_of c)) out ≡ written (unless_stopped limit room c) out
+  pub not_stopped : r ≡ None → written (write (bytes_of c)) out ≡ written (unless_stopped limit room c) out
   unfolding unless
-  not_stopped p = go k p by_number
-    where
-      go : (m : ℕ) → m ≤ 0 → unless_stopped limit room c ≡ unless m (bytes_of c) → written (write (bytes_of c)) out ≡ written (unless_stopped limit room c) out
-      go zero q i = rw i
-      go (suc m) q i = absurd (omega (arith, q))
+  not_stopped i = rw (by_refusal, i)
+
+-- the chart of a part, from its corners and diagonals as the code holds them
+pub chart_held : (p : Polygon) {n : ℕ} {ds : List Edge} → n ≡ p.n → ds ≡ p.ds → closed (chart (best (tree_of n ds))) ≡ chart_of p
+unfolding chart_of
+chart_held p e f = rw (e, f)
+
+-- and what the line tells of it
+pub facts_held : (p : Polygon) (h : Head) {ds : List Edge} {c : Totals} {high wide : ℕ} → h.n ≡ p.n → ds ≡ p.ds → c ≡ totals_of (best (tree_of h.n ds))
+    → high ≡ (closed (chart (best (tree_of h.n ds)))).rows → wide ≡ (closed (chart (best (tree_of h.n ds)))).columns → told h c high wide ≡ facts_of p
+unfolding chart_of
+facts_held p h e f counts high_is wide_is = rw (counts, high_is, wide_is, e, f)
 
 -- some columns
 some_columns : {t : Tree} (p : Plan t) → 2 ≤ span t → 1 ≤ length (cols p 0 (span t))

@@ -8,8 +8,7 @@ use native.Mathlib.Omega.{arith}
 use lib.ListN.{length, drop, length-map}
 use Rattle.codec.specs.Answer.{Answer, refusal, write, written, answered}
 use Rattle.codec.specs.TwoOutputs.{BothAnswer, refusal_both, answered_both}
-use Rattle.codec.specs.declared.Written.TheVariants as is
-use Rattle.codec.specs.declared.BothWritten.TheVariants.{Lengths}
+use Rattle.std.specs.Prelude.{Ok}
 use Rattle.codec.proofs.Answers.{written_is}
 use Rattle.codec.proofs.TwoOutputs.{both_short, both_one}
 use Rattle.chart.specs.Chart as chart
@@ -51,7 +50,7 @@ module _ (c : chart.Chart) (out : List ℕ) (ys : List Bar) where
     enough : length (bars_of c) ≤ length (map bar_of ys)
     enough = omega (arith, bars_count c, length-map ys bar_of)
 
-    pub both_written : (k : ℕ) → answered (is.Bytes k) after ≡ written (write (bytes_of c)) out → answered_both (Lengths k c.n) after (map bar_of (filled after c.n ys)) ≡ into_both c out (map bar_of ys)
+    pub both_written : (k : ℕ) → answered (Ok k) after ≡ written (write (bytes_of c)) out → answered_both (Ok (k, c.n)) after (map bar_of (filled after c.n ys)) ≡ into_both c out (map bar_of ys)
     both_written k h =
         elim (both_one (bytes_of c) out (bars_of c) (map bar_of ys) enough) [
           | inl w ↦ (λ i. record { answer = (h ∙ w.0) i; count = sym (bars_count c) i; second = records_are after (ap (λ (a : Answer). a.bytes) (h ∙ w.0)) i }) ∙ sym w.1
@@ -66,7 +65,7 @@ module _ (c : chart.Chart) (out : List ℕ) (ys : List Bar) where
         ]
 
 -- a chart that was written has room
-pub wrote : (c : chart.Chart) (out after : List ℕ) (k : ℕ) → answered (is.Bytes k) after ≡ written (write (bytes_of c)) out → 6 + 6 * c.n ≤ length out
+pub wrote : (c : chart.Chart) (out after : List ℕ) (k : ℕ) → answered (Ok k) after ≡ written (write (bytes_of c)) out → 6 + 6 * c.n ≤ length out
 wrote c out after k h = elim (written_is (bytes_of c) out) [ inl w ↦ omega (arith, w.0, (bytes_size c).0) | inr w ↦ absurd (omega (arith, ap (λ (a : Answer). a.number) (h ∙ w.1))) ]
 
 -- the answer for enough records is that of Draw without them

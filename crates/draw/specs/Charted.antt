@@ -1,5 +1,5 @@
 -- What stops a chart, by the code's limit of rows and the room for its bars; and what the code answers of it: how many rows and columns it has, besides what is written of it. For the contracts.
-use Rattle.std.specs.Prelude.{◌≡◌, List, ℕ, zero, suc}
+use Rattle.std.specs.Prelude.{◌≡◌, List, ℕ, Option as Given, Some, None}
 use Rattle.std.proofs.Math.Option.{Option, none, some}
 use Rattle.std.proofs.Math.Decide.{dec_le}
 use Rattle.lists.specs.Lists.{choose}
@@ -7,23 +7,24 @@ use Rattle.codec.specs.Answer.{Outcome, refuse, write, answered, written}
 use Rattle.chart.specs.Chart.{Chart}
 use Rattle.chart.specs.Bytes.{bytes_of}
 use Rattle.draw.specs.declared.Charted.{Charted}
-use Rattle.draw.specs.declared.Limit.{Limit}
-use Rattle.draw.specs.declared.Limit.TheVariants.{Any, Rows}
+use Rattle.codec.specs.declared.refusal.Refusal.{Refusal}
+use Rattle.codec.specs.declared.refusal.Refusal.TheVariants.{Room, Rows}
+use Rattle.codec.specs.Numbered.{number_of}
 use Rattle.draw.specs.Label.{keeps?}
 
 -- the limit that the code's value stands for
-abbrev pub limit_of : Limit → Option ℕ
-limit_of Any = none
-limit_of (Rows most) = some most
+abbrev pub limit_of : Given ℕ → Option ℕ
+limit_of None = none
+limit_of (Some most) = some most
 
--- what refuses a chart of so many rows and n bars before its bytes are written, or 0: 19, then 8 for the bars' records
-unfoldable pub stopped : Option ℕ → ℕ → ℕ → ℕ → ℕ
-stopped limit rows n room = choose (keeps? limit rows) (choose (dec_le n room) 0 8) 19
+-- what refuses a chart of so many rows and n bars before its bytes are written: by 19 the limit, and then by 8 the room for its bars' records
+unfoldable pub stopped : Option ℕ → ℕ → ℕ → ℕ → Given Refusal
+stopped limit rows n room = choose (keeps? limit rows) (choose (dec_le n room) None (Some Room)) (Some Rows)
 
 -- what is to be written then
-unfoldable pub unless : ℕ → List ℕ → Outcome
-unless zero bs = write bs
-unless (suc k) bs = refuse (suc k)
+unfoldable pub unless : Given Refusal → List ℕ → Outcome
+unless None bs = write bs
+unless (Some why) bs = refuse (number_of why)
 
 unfoldable pub unless_stopped : Option ℕ → ℕ → Chart → Outcome
 unless_stopped limit room c = unless (stopped limit c.rows c.n room) (bytes_of c)

@@ -1,13 +1,12 @@
 -- What the program bend does with its input, however long that is (document 01, "Operations and their refusals" and "Known parts"):
 -- "A program reads a sheet on standard input, writes the chart to `bend.chart` and prints a log line." "A refusal prints `refused` and its number, as `refused 3`, and `bend.chart` is not written."
-use Rattle.std.specs.Prelude.{List, ℕ, ◌≤◌, length, take}
+use Rattle.std.specs.Prelude.{List, ℕ, ◌≤◌, length, take, IfSome, Option as Given, Some, None}
 use Rattle.std.proofs.Math.Option.{Option, none, some}
 use Rattle.codec.specs.Answer.{write, written}
 use Rattle.sheet.specs.Sheet.{Reading, refused, held, read_sheet}
 use Rattle.chart.specs.Chart.{chart_of}
 use Rattle.chart.specs.Bytes.{bytes_of}
 use Rattle.draw.specs.declared.program.Shown.{Shown}
-use Rattle.draw.specs.declared.program.Shown.TheVariants.{Chart, Refused}
 use Rattle.draw.specs.Answer.{charted}
 use Rattle.draw.specs.Printed.{printed_of}
 
@@ -30,11 +29,13 @@ output_of r chart text = record { saved = saved_of r; line = printed_of r; chart
 unfoldable pub output : List ℕ → List ℕ → List ℕ → Output
 output s chart text = output_of (read_sheet s) chart text
 
--- the values of each case of the code's answer, with the lent bytes at its return; and that its lengths lie within these
+-- the values of the code's answer, with the lent bytes at its return; and that its lengths lie within these
+abbrev pub front : Given ℕ → List ℕ → Option (List ℕ)
+front None bytes = none
+front (Some k) bytes = some (take k bytes)
+
 abbrev pub shown : Shown → List ℕ → List ℕ → Output
-shown (Chart k m) chart text = record { saved = some (take k chart); line = take m text; chart = chart; text = text }
-shown (Refused m) chart text = record { saved = none; line = take m text; chart = chart; text = text }
+shown r chart text = record { saved = front r.chart chart; line = take r.line text; chart = chart; text = text }
 
 abbrev pub Lengths : Shown → List ℕ → List ℕ → Type 0
-Lengths (Chart k m) chart text = (k ≤ length chart) × (m ≤ length text)
-Lengths (Refused m) chart text = m ≤ length text
+Lengths r chart text = IfSome r.chart (λ k. k ≤ length chart) × (r.line ≤ length text)

@@ -15,9 +15,9 @@ pub fn counts_line(h: Head, c: Totals, rows: usize, columns: usize, out: &mut [u
 {
     let f = Facts {
         corners: h.n,
-        levels: c.levels as usize,
-        umbrellas: c.umbrellas as usize,
-        stems: c.stems as usize,
+        levels: usize::from(c.levels),
+        umbrellas: usize::from(c.umbrellas),
+        stems: usize::from(c.stems),
         rows,
         columns,
     };

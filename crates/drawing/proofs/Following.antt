@@ -1,11 +1,12 @@
 -- A rim or a stem followed from its first piece on: what the loop keeps, and one turn of it.
 -- Rests on Walking.antt and Orders.antt.
 use mathlib.Core.Path.{◌≡◌, refl, sym, ◌∙◌, ap}
-use mathlib.Core.Bool.{Bool, true, false}
-use mathlib.Core.List.{List, [], ◌∷◌, ◌++◌}
+use mathlib.Core.Bool.{Bool, true, false, not, beq}
+use mathlib.Core.List.{List, [], ◌∷◌, ◌++◌, reverse}
 use Prim.Native.Nat.{ℕ, ◌+◌, ◌*◌, ◌-◌, ◌<◌, ◌≤◌}
 use native.Mathlib.Omega.{arith}
-use lib.ListN.{length, set, length-set, length-map}
+use borrow.Rule.Slice.PartMut.{put_mid}
+use lib.ListN.{length, set, take, drop, length-set, length-map}
 use lib.Seq.{sets, length-sets}
 use Rattle.polygon.specs.Polygon.{◌—◌}
 use Rattle.polygon.specs.Tree.{Tree, leaf, span}
@@ -13,7 +14,7 @@ use Rattle.polygon.proofs.Order.{low_of, high_of}
 use Rattle.umbrella.specs.Values.{ud, handle}
 use Rattle.umbrella.specs.declared.roles.Role.{Role}
 use Rattle.umbrella.specs.declared.roles.Step.{Step}
-use Rattle.umbrella.specs.Roles.{from_right, is_hung, step_at, step_of}
+use Rattle.umbrella.specs.Roles.{from_right, step_at, step_of}
 use Rattle.tree.specs.declared.Root.{Root}
 use Rattle.tree.specs.declared.Two.{Two}
 use Rattle.tree.specs.Table.{edge_at, apex_at, TreeAt, beyond}
@@ -26,7 +27,7 @@ use Rattle.drawing.specs.declared.lines.Way.{Way}
 use Rattle.drawing.specs.declared.lines.Next.{Next}
 use Rattle.drawing.specs.Columns.{around, columns}
 use Rattle.drawing.specs.Lines.{ranks}
-use Rattle.drawing.specs.Walk.{differ, beside_line, next_by, next_of, turn_if, HoldsEdge, Noted, Walked, Room, Turned}
+use Rattle.drawing.specs.Walk.{differ, beside_line, next_by, next_of, turn_if, HoldsEdge, Noted, Walked, Room}
 use Rattle.drawing.proofs.Orders.{Built, built, turn_if_turned, turn_if_kept, turn_if_one, side_columns, own_columns, few_columns, turn_if_length}
 use Rattle.drawing.proofs.Walking.{one, seq, same, turned, left_then_right, right_then_left, RanksBy, ranks_by, ranks_length, on_role, OnRole, on_role_lem}
 
@@ -52,20 +53,6 @@ pub record Along (tr ds : List ℕ) (p : Root) (w : Way) (at : ℕ) (cols₀ row
   pub fits : k + 2 * (x.v - x.u) ≤ at + 2 * (p.v - p.u)
   pub rest : (cols' rows' : List ℕ) (n : ℕ) → Noted tr (turn_if (from_right role) (columns role w.d t x.u x.v)) k cols cols' n → rows' ≡ sets rows (x.u + 1) (ranks role w.d w.far w.near t) → Forward tr p w t₀ at cols₀ rows₀ cols' rows' n
 
-pub along_begins : {tr ds cols rows : List ℕ} {p : Root} {w : Way} {at : ℕ} {t : Tree} → Tabled tr ds p.e p.u p.v t → is_hung w.role ≡ false → Room p w at cols rows → Along tr ds p w at cols rows cols rows w.role p at
-along_begins {t = t} k h R = record {
-  t₀ = t;
-  t = t;
-  whole = k;
-  known = k;
-  role_is = record { not_hung = h; same_side = refl };
-  columns_size = R.columns_size;
-  rows_size = R.rows_size;
-  begun = omega arith;
-  fits = omega arith;
-  rest = λ cols' rows' n D r. record { drawn = D; ranked = r };
-}
-
 -- the rim or stem ends at a side
 pub along_ends : {tr ds cols₀ rows₀ cols rows : List ℕ} {p x : Root} {w : Way} {at k : ℕ} {role : Role} (A : Along tr ds p w at cols₀ rows₀ cols rows role x k) → x.v ≤ x.u + 1 → Forward tr p w A.t₀ at cols₀ rows₀ (set cols k x.e) rows (k + 1)
 unfolding ranks
@@ -75,10 +62,17 @@ along_ends {tr} {cols = cols} {rows} {x = x} {w} {k = k} {role} A h =
     let f : turn_if (from_right role) (columns role w.d A.t x.u x.v) ≡ (x.u — x.v) ∷ [] = ap (turn_if (from_right role)) (side_columns role w.d A.t x.u x.v A.role_is.not_hung e) ∙ turn_if_one (from_right role) (x.u — x.v) in
     A.rest _ _ _ (same (sym f) (one (x.u — x.v) x.e k cols (at_edge s) (held s))) (rw e)
 
+-- as the code finds out whether it is to be turned
+pub differ_is : (a b : Bool) → differ a b ≡ not (beq a b)
+differ_is true true = refl
+differ_is true false = refl
+differ_is false true = refl
+differ_is false false = refl
+
 -- it is turned, or stays as it is built
 module _ {tr : List ℕ} {p : Root} {w : Way} {t : Tree} {at : ℕ} {cols rows cols' rows' : List ℕ} {n : ℕ} (F : Forward tr p w t at cols rows cols' rows' n) where
-  pub walked_turned : {cols'' : List ℕ} → differ (from_right w.role) w.turned ≡ true → n ≤ length cols → Turned at n cols' cols'' → Walked tr p w t at cols rows cols'' rows' n
-  walked_turned h i T = record { drawn = same (turn_if_turned (from_right w.role) w.turned (columns w.role w.d t p.u p.v) h) (turned i F.drawn T); ranked = F.ranked }
+  pub walked_turned : {run : List ℕ} → differ (from_right w.role) w.turned ≡ true → n ≤ length cols → run ≡ reverse (take (n - at) (drop at cols')) → Walked tr p w t at cols rows (put_mid at (n - at) cols' run) rows' n
+  walked_turned h i q = record { drawn = same (turn_if_turned (from_right w.role) w.turned (columns w.role w.d t p.u p.v) h) (turned i F.drawn q); ranked = F.ranked }
 
   pub walked_kept : differ (from_right w.role) w.turned ≡ false → Walked tr p w t at cols rows cols' rows' n
   walked_kept h = record { drawn = same (turn_if_kept (from_right w.role) w.turned (columns w.role w.d t p.u p.v) h) F.drawn; ranked = F.ranked }

@@ -3,7 +3,6 @@ pub mod Planned
 pub mod OnLines
 pub mod Ranked
 pub mod Sets
-pub mod Turning
 pub mod Walking
 pub mod Following
 pub mod Rims

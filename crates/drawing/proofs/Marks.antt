@@ -11,7 +11,7 @@ use lib.Seq.{take-suc, take_all}
 use Rattle.lists.specs.Lists.{Mem, All, times, mem?}
 use Rattle.lists.proofs.Lists.{here, mem_left, mem_right, snoc_cases, all_imp, map_same}
 use Rattle.lists.proofs.Occurs.{times_yes, times_same}
-use Rattle.lists.proofs.Places.{all_at, at_all, stored, mapped_next, Ahead, ahead_next}
+use Rattle.lists.proofs.Places.{all_at, at_all, stored, Ahead}
 use Rattle.keys.specs.Sort.{total}
 use Rattle.keys.proofs.Counting.{total_next}
 use Rattle.chart.specs.Chart.{closed_row}
@@ -62,9 +62,6 @@ module _ (rs marks : List ℕ) (M : Marked rs marks) where
 pub record Renumbered (f : ℕ → ℕ) (first rows : List ℕ) (x : ℕ) : Type 0 where
   pub ahead : Ahead first rows x
   pub done : take x rows ≡ map f (take x first)
-
-pub renumbered_next : {f : ℕ → ℕ} {first rows : List ℕ} {x v : ℕ} → Renumbered f first rows x → x < length rows → v ≡ f (get_or first x 0) → Renumbered f first (set rows x v) (x + 1)
-renumbered_next {f} {first} {rows} {x} {v} R h e = record { ahead = ahead_next v R.ahead; done = mapped_next f first rows x 0 (omega (arith, R.ahead.kept)) h e R.done }
 
 -- the row at hand is one of the first
 pub row_inside : {f : ℕ → ℕ} {first rows : List ℕ} {x m : ℕ} → Renumbered f first rows x → x < length rows → All (λ r. r < m) first → get_or rows x 0 < m

@@ -1,25 +1,37 @@
--- A run of values stored in a table, place by place.
-use mathlib.Core.Path.{◌≡◌, sym, ◌∙◌, ap}
-use mathlib.Core.List.{List, reverse}
-use Prim.Native.Nat.{ℕ, ◌+◌, ◌-◌, ◌<◌, ◌≤◌}
-use native.Mathlib.Decide.{dec_lt}
+-- A run of values stored in a table, place by place, and put in the opposite order there.
+use mathlib.Core.Path.{◌≡◌, refl, sym, ◌∙◌, ap}
+use mathlib.Core.List.{List, [], ◌∷◌, reverse}
+use Prim.Native.Nat.{ℕ, suc, ◌+◌, ◌-◌, ◌≤◌}
 use native.Mathlib.Omega.{arith}
-use lib.ListN.{length, get_or, length-reverse}
-use lib.Seq.{sets, length-sets, ext_get_or}
-use Rattle.lists.proofs.Places.{get_d_reverse}
-use Rattle.lists.proofs.Stores.{sets_outside, sets_within}
-use Rattle.drawing.specs.Walk.{Turned}
+use borrow.Rule.Slice.PartMut.{put_mid}
+use lib.ListN.{length, set, take, drop, length-drop, length-reverse, length-take}
+use lib.Seq.{sets, length-sets, ext_get_or, get_or-take}
+use Rattle.std.proofs.lemmas.List.{get_or-drop, set-set}
+use Rattle.lists.proofs.Stores.{sets_mid, sets_set, sets_within}
 
--- a run in the opposite order
-pub turned_run : (xs l o : List ℕ) (i n : ℕ) → n ≡ i + length xs → n ≤ length l → Turned i n (sets l i xs) o → o ≡ sets l i (reverse xs)
-turned_run xs l o i n e h T = ext_get_or 0 o (sets l i (reverse xs)) (T.size ∙ (length-sets l i xs ∙ sym (length-sets l i (reverse xs)))) (λ j k. go j (dec_lt j i) (dec_lt j n))
-  where
-    go : (j : ℕ) → Dec (j < i) → Dec (j < n) → get_or o j 0 ≡ get_or (sets l i (reverse xs)) j 0
-    go j (yes p) q = T.before j p ∙ (sets_outside xs l i j (λ a b. omega arith) ∙ sym (sets_outside (reverse xs) l i j (λ a b. omega arith)))
-    go j (no p) (no q) = T.behind j (omega arith) ∙ (sets_outside xs l i j (λ a b. omega arith) ∙ sym (sets_outside (reverse xs) l i j (λ a b. omega (arith, length-reverse xs))))
-    go j (no p) (yes q) =
-        let m : ℕ = j - i in
-        let a : i + n - 1 - j ≡ i + (length xs - 1 - m) = omega arith in
-        let b : i + m ≡ j = omega arith in
-        T.within j (omega arith) q ∙ (ap (λ (x : ℕ). get_or (sets l i xs) x 0) a ∙ (sets_within xs l i (length xs - 1 - m) (omega arith) (omega arith)
-        ∙ (sym (get_d_reverse xs m (omega arith)) ∙ (sym (sets_within (reverse xs) l i m (omega (arith, length-reverse xs)) (omega (arith, length-reverse xs))) ∙ ap (λ (x : ℕ). get_or (sets l i (reverse xs)) x 0) b))))
+-- a run stored over another of its length
+sets_over : (xs ys l : List ℕ) (i : ℕ) → length xs ≡ length ys → sets (sets l i xs) i ys ≡ sets l i ys
+sets_over [] [] l i e = refl
+sets_over [] (y ∷ ys) l i e = absurd (omega arith)
+sets_over (x ∷ xs) [] l i e = absurd (omega arith)
+sets_over (x ∷ xs) (y ∷ ys) l i e =
+    ap (λ (m : List ℕ). sets m (suc i) ys) (sets_set xs (set l i x) (suc i) i y (λ a b. omega arith) ∙ ap (λ (m : List ℕ). sets m (suc i) xs) (set-set l i x y))
+    ∙ sets_over xs ys (set l i y) (suc i) (omega arith)
+
+-- the run as it is read
+run_there : (xs l : List ℕ) (i k : ℕ) → k ≡ length xs → i + length xs ≤ length l → take k (drop i (sets l i xs)) ≡ xs
+run_there xs l i k e h =
+    let n = length-take k (drop i (sets l i xs)) in
+    let m = length-drop i (sets l i xs) in
+    let s = length-sets l i xs in
+    ext_get_or 0 (take k (drop i (sets l i xs))) xs (omega arith)
+    (λ j q. get_or-take k (drop i (sets l i xs)) j 0 (omega arith) ∙ (get_or-drop i (sets l i xs) j 0 ∙ sets_within xs l i j (omega arith) h))
+
+-- the run in the opposite order
+pub turned_run : (xs l o : List ℕ) (i n : ℕ) → n ≡ i + length xs → n ≤ length l → o ≡ reverse (take (n - i) (drop i (sets l i xs))) → put_mid i (n - i) (sets l i xs) o ≡ sets l i (reverse xs)
+turned_run xs l o i n e h q =
+    let k : n - i ≡ length xs = omega arith in
+    let turned : o ≡ reverse xs = q ∙ ap reverse (run_there xs l i (n - i) k (omega arith)) in
+    let same = length-reverse xs in
+    let room = length-sets l i xs in
+    rw turned (sets_mid i (n - i) (sets l i xs) (reverse xs) (omega arith) (omega arith) ∙ sets_over xs (reverse xs) l i (sym same))

@@ -3,11 +3,12 @@
 use mathlib.Core.Path.{◌≡◌, refl, sym, ◌∙◌, ap}
 use mathlib.Core.Bool.{Bool, true, false, true≢false}
 use mathlib.Core.List.{List, [], ◌∷◌, ◌++◌, reverse, map-append}
-use Prim.Native.Nat.{ℕ, suc, ◌+◌, ◌≤◌}
+use Prim.Native.Nat.{ℕ, suc, ◌+◌, ◌-◌, ◌≤◌}
 use native.Mathlib.Nat.{add-zero}
 use native.Mathlib.Decide.{dec_le}
 use native.Mathlib.Omega.{arith}
-use lib.ListN.{length, set, length-append, length-reverse}
+use borrow.Rule.Slice.PartMut.{put_mid}
+use lib.ListN.{length, set, take, drop, length-append, length-reverse}
 use lib.Seq.{sets}
 use Rattle.lists.specs.Lists.{all_cons, all_nil, choose}
 use Rattle.lists.proofs.Lists.{all_append, all_reverse, map_reverse}
@@ -21,7 +22,7 @@ use Rattle.umbrella.specs.Roles.{from_right, is_hung, left_step, right_step, goe
 use Rattle.tree.specs.Table.{edge_at}
 use Rattle.drawing.specs.declared.lines.Line.{Line}
 use Rattle.drawing.specs.Lines.{aside, lines_of, ranks}
-use Rattle.drawing.specs.Walk.{differ, beside_line, HoldsEdge, Noted, Turned}
+use Rattle.drawing.specs.Walk.{differ, beside_line, HoldsEdge, Noted}
 use Rattle.drawing.proofs.OnLines.{own_ranks}
 use Rattle.drawing.proofs.Sets.{turned_run}
 
@@ -44,12 +45,13 @@ module _ {tr : List ℕ} where
   pub same : {xs ys : List Edge} {at n : ℕ} {o o₁ : List ℕ} → xs ≡ ys → Noted tr xs at o o₁ n → Noted tr ys at o o₁ n
   same p d = rw p at d
 
-  pub turned : {es : List Edge} {at n : ℕ} {o o₁ o₂ : List ℕ} → n ≤ length o → Noted tr es at o o₁ n → Turned at n o₁ o₂ → Noted tr (reverse es) at o o₂ n
-  turned {at = at} {n} {o} {o₁} {o₂} h d T = record {
+  -- put in the opposite order by `reverse` of the part of the table
+  pub turned : {es : List Edge} {at n : ℕ} {o o₁ run : List ℕ} → n ≤ length o → Noted tr es at o o₁ n → run ≡ reverse (take (n - at) (drop at o₁)) → Noted tr (reverse es) at o (put_mid at (n - at) o₁ run) n
+  turned {at = at} {n} {o} {o₁} {run} h d q = record {
     places = reverse d.places;
     are = map_reverse (edge_at tr) d.places ∙ ap reverse d.are;
     held = all_reverse d.held;
-    outs = turned_run d.places o o₂ at n d.end h (rw d.outs at T);
+    outs = rw d.outs (turned_run d.places o run at n d.end h (rw d.outs at q));
     end = d.end ∙ ap (at +◌) (sym (length-reverse d.places));
   }
 

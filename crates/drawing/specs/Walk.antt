@@ -1,5 +1,5 @@
 -- How the code draws a piece: on from a triangle of a rim or a stem, and what is then written.
-use Rattle.std.specs.Prelude.{◌≡◌, Bool, true, false, not, List, map, reverse, ℕ, ◌+◌, ◌*◌, ◌-◌, ◌≤◌, ◌<◌, length, get_or}
+use Rattle.std.specs.Prelude.{◌≡◌, Bool, true, false, not, List, map, reverse, ℕ, ◌+◌, ◌*◌, ◌-◌, ◌≤◌, ◌<◌, length}
 use Rattle.std.proofs.lemmas.List.Edits.{sets}
 use Rattle.lists.specs.Lists.{All}
 use Rattle.polygon.specs.Polygon.{Edge}
@@ -78,10 +78,3 @@ pub record Room (p : Root) (w : Way) (at : ℕ) (cols rows : List ℕ) : Type 0 
   pub near_small : w.near.base + 20 * (p.v - p.u) ≤ 50000
   pub columns_size : length cols ≡ 2048
   pub rows_size : length rows ≡ 1024
-
--- the entries from `from` on, before `to`, in the opposite order
-pub record Turned (from to : ℕ) (o o' : List ℕ) : Type 0 where
-  pub size : length o' ≡ length o
-  pub within : (j : ℕ) → from ≤ j → j < to → get_or o' j 0 ≡ get_or o (from + to - 1 - j) 0
-  pub before : (j : ℕ) → j < from → get_or o' j 0 ≡ get_or o j 0
-  pub behind : (j : ℕ) → to ≤ j → get_or o' j 0 ≡ get_or o j 0

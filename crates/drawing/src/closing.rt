@@ -15,10 +15,8 @@ fn mark(rows: &[u16], marks: &mut [usize])
     requires zeros { (r : ℕ) → r < length marks.old → get_or marks.old r 0 ≡ 0 }
     ensures { Marked rows.now marks.new }
 {
-    let mut x = 0;
-    while x < rows.len() {
-        marks[rows[x] as usize] = 1;
-        x += 1;
+    for &row in rows {
+        marks[usize::from(row)] = 1;
     }
 }
 
@@ -28,10 +26,8 @@ fn renumber(rows: &mut [u16], numbers: &[usize])
     requires small { All (λ r. r < 65536) numbers.now }
     ensures { rows.new ≡ map (λ r. get_or numbers.now r 0) rows.old }
 {
-    let mut x = 0;
-    while x < rows.len() {
-        rows[x] = numbers[rows[x] as usize] as u16;
-        x += 1;
+    for row in rows.iter_mut() {
+        *row = numbers[usize::from(*row)] as u16;
     }
 }
 

@@ -11,8 +11,7 @@ ghost use Rattle.drawing.specs.Located.{Located};
 use crate::lines::{Line, Way};
 use crate::walk::{COLUMNS, draw_piece};
 use keys::CORNERS;
-use levels::{VALUES, values};
-use tree::{PLACES, Root};
+use levels::Tables;
 use umbrella::roles::Role;
 
 pub mod closing;
@@ -26,19 +25,17 @@ pub struct Size {
     pub rows: usize,
 }
 
-// Draws the part p of n corners, whose tables are filled. "Two rows a level and one more."
+// Draws the part of n corners whose tables are filled. "Two rows a level and one more."
 pub fn place(
     n: usize,
-    tree: &[u32; PLACES],
-    depths: &[u8; VALUES],
-    p: Root,
+    tables: &Tables,
     columns: &mut [u16; COLUMNS],
     rows: &mut [u16; CORNERS],
 ) -> Size
-    requires filled { (t : Tree) × Filled n t tree.now depths.now p }
+    requires filled { (t : Tree) × Filled n t tables.now.tree tables.now.depths tables.now.root }
     requires room { (length columns.old ≡ 2048) × (length rows.old ≡ 1024) }
-    ensures { (t : Tree) → Filled n t tree.now depths.now p
-        → Located n t tree.now columns.new rows.new result }
+    ensures { (t : Tree) → Filled n t tables.now.tree tables.now.depths tables.now.root
+        → Located n t tables.now.tree columns.new rows.new result }
 {
     let top = Line {
         base: 0,
@@ -53,8 +50,8 @@ pub fn place(
     };
     rows[0] = 0;
     rows[n - 1] = 0;
-    let c = draw_piece(tree, depths, columns, rows, p, w, 0);
-    let ud = values(depths, p.e as usize).ud as usize;
+    let c = draw_piece(tables, columns, rows, tables.root, w, 0);
+    let ud = usize::from(tables.values(tables.root.e).ud);
     Size {
         columns: c,
         rows: 2 * ud + 1,

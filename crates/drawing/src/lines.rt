@@ -1,7 +1,7 @@
 // The rows of a piece by lines, and the way on from a triangle of a rim or a stem.
 ghost use Rattle.std.specs.Prelude.{◌≡◌, ◌*◌, ◌≤◌};
 ghost use Rattle.drawing.specs.Lines.{row_at, far_line, near_line};
-ghost use Rattle.drawing.specs.Walk.{differ, beside_line, next_of, rims_of};
+ghost use Rattle.drawing.specs.Walk.{beside_line, next_of, rims_of};
 
 use tree::{Root, Two};
 use umbrella::roles::{Role, Step};
@@ -47,12 +47,10 @@ fn row_at(m: Line, r: u16) -> u16
     ensures { result ≡ row_at m r }
 {
     if m.down {
-        return m.base + r;
+        m.base + r
+    } else {
+        m.base.saturating_sub(r)
     }
-    if r <= m.base {
-        return m.base - r;
-    }
-    0
 }
 
 // The line of row 2D of a piece of D levels.
@@ -77,62 +75,35 @@ pub fn near_line(m: Line) -> Line
     }
 }
 
-pub fn differ(a: bool, b: bool) -> bool
-    ensures { result ≡ differ a b }
-{
-    if a {
-        return !b;
-    }
-    b
-}
-
 // Crossed, the rim beyond the gate and the pieces hung beside a stem lie on the near line.
 pub fn beside_line(crossed: bool, w: Way) -> Line
     ensures { result ≡ beside_line crossed w.far w.near }
 {
-    if crossed {
-        return w.near;
-    }
-    w.far
+    if crossed { w.near } else { w.far }
 }
 
 // The way on from the triangle of the pieces t, after the step s; `right`: the rim or stem is built from the right.
 pub fn go_on(t: Two, s: Step, right: bool, w: Way) -> Next
     ensures { result ≡ next_of t s right w }
 {
-    let far = beside_line(s.crossed, w);
-    let near = w.near;
-    let l = t.left;
-    let r = t.right;
-    let a = s.left;
-    let b = s.right;
-    if differ(right, s.crossed) {
-        let way = Way {
-            role: b,
-            turned: true,
-            d: w.d,
-            far,
-            near,
-        };
-        return Next {
-            beside: r,
-            way,
-            on: l,
-            role: a,
-        };
-    }
+    let turned = right != s.crossed;
+    let (beside, beside_role, on, role) = if turned {
+        (t.right, s.right, t.left, s.left)
+    } else {
+        (t.left, s.left, t.right, s.right)
+    };
     let way = Way {
-        role: a,
-        turned: false,
+        role: beside_role,
+        turned,
         d: w.d,
-        far,
-        near,
+        far: beside_line(s.crossed, w),
+        near: w.near,
     };
     Next {
-        beside: l,
+        beside,
         way,
-        on: r,
-        role: b,
+        on,
+        role,
     }
 }
 
@@ -140,20 +111,13 @@ pub fn go_on(t: Two, s: Step, right: bool, w: Way) -> Next
 pub fn rims_of(t: Two, turned: bool) -> Rims
     ensures { result ≡ rims_of t turned }
 {
-    let l = t.left;
-    let r = t.right;
-    if turned {
-        return Rims {
-            first: r,
-            second: l,
-            role: Role::RightRim,
-            other: Role::LeftRim,
-        };
-    }
+    let left = (t.left, Role::LeftRim);
+    let right = (t.right, Role::RightRim);
+    let ((first, role), (second, other)) = if turned { (right, left) } else { (left, right) };
     Rims {
-        first: l,
-        second: r,
-        role: Role::LeftRim,
-        other: Role::RightRim,
+        first,
+        second,
+        role,
+        other,
     }
 }

@@ -9,7 +9,7 @@ use native.Mathlib.Numerals.{add-one}
 use lib.ListN.{length, take, length-map}
 use Rattle.lists.specs.Lists.{Mem}
 use Rattle.lists.proofs.Lists.{all_imp, all_mem, all_self, choose_no, choose_yes}
-use Rattle.polygon.specs.Polygon.{Edge, ◌—◌, Diagonal, Triangulated}
+use Rattle.polygon.specs.Polygon.{Edge, ◌—◌, Polygon, Diagonal, Triangulated}
 use Rattle.polygon.specs.Order.{Distinct, insert}
 use Rattle.polygon.proofs.Sort.{distinct_of}
 use Rattle.keys.specs.Keys.{key_of, flat_bend}
@@ -18,16 +18,14 @@ use Rattle.keys.proofs.Insert.{merge_one}
 use Rattle.keys.proofs.Beside.{bend_edges}
 use Rattle.sheet.specs.declared.Head.{Head}
 use Rattle.sheet.specs.Sheet.{refused}
-use Rattle.sheet.specs.declared.Read.TheVariants.{Held}
-use Rattle.sheet.specs.Held.{angles_by, part_of, BentInHand, ReadsBent}
+use Rattle.sheet.specs.Hand.{angles_by, part_of}
 use Rattle.sheet.proofs.Asks.{ask_yes, ask_no}
-use Rattle.sheet.proofs.Hand.{bends_count}
 use Rattle.edit.specs.Rules.{add_ear, rule, up, both, entering, ear_added, result}
 use Rattle.edit.specs.declared.shift.Shift.TheVariants.{Up}
-use Rattle.edit.specs.Tables.{Movable, moved_bend, AllMovable}
+use Rattle.edit.specs.Tables.{Movable, moved_bend, AllMovable, Whole, whole}
 use Rattle.edit.proofs.Rule.{given}
 use Rattle.edit.proofs.Add.{moved_ascending, entering_apart}
-use Rattle.edit.proofs.InHand.{edited, result_part, keeps_angles, inserted, new_comes}
+use Rattle.edit.proofs.InHand.{bends_count, Gives, edited, result_part, keeps_angles, inserted, new_comes}
 use Rattle.edit.proofs.Shifting.{up_one, moved_edges, moved_angles}
 
 -- the pair that enters
@@ -46,68 +44,61 @@ entering_low n i h k = go (ℕ_discrete (i + 1) n)
     go (yes e) = rw (entering_root n i e) (omega arith)
     go (no e) = rw (entering_side n i e) (omega arith)
 
-module _ {h : Head} {bs : List ℕ} (P : BentInHand h bs) (i : ℕ) where
-  pub add_outside : ¬ (i < h.n) → rule (add_ear i) (part_of h bs) ≡ refused 9
+module _ (p : Polygon) (i : ℕ) where
+  pub add_outside : ¬ (i < p.n) → rule (add_ear i) p ≡ refused 9
   unfolding rule
   add_outside f = ask_no 9 _ _ f
 
-  module _ (inside : i < h.n) where
-    pub add_full : h.n ≡ 1024 → rule (add_ear i) (part_of h bs) ≡ refused 10
-    unfolding rule
-    add_full e = ask_yes 9 _ _ inside ∙ ask_no 10 _ _ (λ f. f e)
+  pub add_full : i < p.n → p.n ≡ 1024 → rule (add_ear i) p ≡ refused 10
+  unfolding rule
+  add_full inside e = ask_yes 9 _ _ inside ∙ ask_no 10 _ _ (λ f. f e)
 
-    module _ (space : ¬ (h.n ≡ 1024)) where
-      small : h.n ≤ 1023
-      small = omega (arith, P.valid.most, space)
+module _ {p : Polygon} {h : Head} {bs : List ℕ} (H : Whole p h bs) (i : ℕ) (inside : i < h.n) (space : ¬ (h.n ≡ 1024)) where
+  small : h.n ≤ 1023
+  small = omega (arith, H.valid.most, space)
 
-      abbrev old : List ℕ
-      old = take (h.n - 3) bs
+  pub can_rise : AllMovable (Up i 1) bs
+  can_rise = all_imp rises H.valid.triangulated.diagonals
+    where
+      rises : (e : Edge) → Diagonal h.n e → Movable (Up i 1) e.0 × Movable (Up i 1) e.1
+      rises e d = ((omega (arith, d.forth, d.corner, small), λ l. omega (arith, d.forth, d.corner, small)), (omega (arith, d.corner, small), λ l. omega (arith, d.corner, small)))
 
-      pub can_rise : AllMovable (Up i 1) old
-      can_rise = all_imp rises P.valid.triangulated.diagonals
-        where
-          rises : (e : Edge) → Diagonal h.n e → Movable (Up i 1) e.0 × Movable (Up i 1) e.1
-          rises e d = ((omega (arith, d.forth, d.corner, small), λ l. omega (arith, d.forth, d.corner, small)), (omega (arith, d.corner, small), λ l. omega (arith, d.corner, small)))
+  -- the table `moved` begins with the renumbered bends, and `after` with them and the bend that enters
+  module _ (moved : List ℕ) (R : take (length bs) moved ≡ map (moved_bend (Up i 1)) bs)
+      {b : ℕ} (E : b ≡ flat_bend (key_of (entering h.n i))) (after : List ℕ) (I : take (1 + length (take (length bs) moved)) after ≡ merge (b ∷ []) (take (length bs) moved)) where
+    abbrev risen : List ℕ
+    risen = map (moved_bend (Up i 1)) bs
 
-      -- the table `moved` begins with the renumbered bends, and `after` with them and the bend that enters
-      module _ (moved : List ℕ) (R : take (length old) moved ≡ map (moved_bend (Up i 1)) old)
-          {b : ℕ} (E : b ≡ flat_bend (key_of (entering h.n i))) (after : List ℕ) (I : take (1 + length (take (h.n - 3) moved)) after ≡ merge (b ∷ []) (take (h.n - 3) moved)) (long : 1021 ≤ length after) where
-        abbrev risen : List ℕ
-        risen = map (moved_bend (Up i 1)) old
+    edges : bend_edges risen ≡ map (both (up i)) (bend_edges bs)
+    edges = moved_edges (Up i 1) bs can_rise ∙ rw (up_one i)
 
-        first : take (h.n - 3) moved ≡ risen
-        first = rw (bends_count P) at R
+    T : Triangulated h.n (bend_edges bs)
+    T = H.valid.triangulated
 
-        edges : bend_edges risen ≡ map (both (up i)) (bend_edges old)
-        edges = moved_edges (Up i 1) old can_rise ∙ rw (up_one i)
+    -- the diagonal that enters is a new one
+    fresh : ¬ Mem (entering h.n i) (bend_edges risen)
+    fresh m = (all_mem (entering_apart h.n i (bend_edges bs) T inside) (rw edges at m)).other refl
 
-        T : Triangulated h.n (bend_edges old)
-        T = P.valid.triangulated
+    now_first : take (h.n + 1 - 3) after ≡ insert_key b risen
+    now_first =
+        let e : h.n + 1 - 3 ≡ 1 + length (take (length bs) moved) = omega (arith, H.valid.least, ap length R, length-map bs (moved_bend (Up i 1)), bends_count H) in
+        ap (λ (k : ℕ). take k after) e ∙ (I ∙ (merge_one b (take (length bs) moved) ∙ ap (insert_key b) R))
 
-        -- the diagonal that enters is a new one
-        fresh : ¬ Mem (entering h.n i) (bend_edges risen)
-        fresh m = (all_mem (entering_apart h.n i (bend_edges old) T inside) (rw edges at m)).other refl
+    low : (entering h.n i).1 < 1024
+    low = entering_low h.n i inside small
 
-        now_first : take (h.n + 1 - 3) after ≡ insert_key b risen
-        now_first =
-            let e : h.n + 1 - 3 ≡ 1 + length (take (h.n - 3) moved) = omega (arith, P.valid.least, ap length first, length-map old (moved_bend (Up i 1)), bends_count P) in
-            ap (λ (k : ℕ). take k after) e ∙ (I ∙ (merge_one b (take (h.n - 3) moved) ∙ ap (insert_key b) first))
+    all_edges : bend_edges (insert_key b risen) ≡ ear_added h.n i (bend_edges bs)
+    unfolding ear_added
+    all_edges = inserted b (entering h.n i) risen E low fresh ∙ ap (insert (entering h.n i)) edges
 
-        low : (entering h.n i).1 < 1024
-        low = entering_low h.n i inside small
+    part : part_of (record { n = h.n + 1; angled = h.angled }) after ≡ given (add_ear i) (whole h bs)
+    part =
+        let apart : Distinct (bend_edges risen) = rw edges (distinct_of (moved_ascending h.n i (bend_edges bs) T inside)) in
+        let comes = new_comes b (entering h.n i) risen E low fresh fresh (all_imp (λ c m. inl m) (all_self risen)) in
+        let over : 3 < suc h.n = omega (arith, H.valid.least) in
+        let first_so : take (suc h.n - 3) after ≡ insert_key b risen = rw (add-one h.n) at now_first in
+        result_part h.angled (suc h.n) risen (insert_key b risen) bs (moved_angles (Up i 1) bs) apart comes after (add-one h.n) (keeps_angles h.angled (suc h.n) over) first_so
+        ∙ ap₂ (λ (es ds : List Edge). result (suc h.n) es (angles_by h.angled bs) ds) edges all_edges
 
-        all_edges : bend_edges (insert_key b risen) ≡ ear_added h.n i (bend_edges old)
-        unfolding ear_added
-        all_edges = inserted b (entering h.n i) risen E low fresh ∙ ap (insert (entering h.n i)) edges
-
-        part : part_of (record { n = h.n + 1; angled = h.angled }) after ≡ given (add_ear i) (part_of h bs)
-        part =
-            let apart : Distinct (bend_edges risen) = rw edges (distinct_of (moved_ascending h.n i (bend_edges old) T inside)) in
-            let comes = new_comes b (entering h.n i) risen E low fresh fresh (all_imp (λ c m. inl m) (all_self risen)) in
-            let over : 3 < suc h.n = omega (arith, P.valid.least) in
-            let first_so : take (suc h.n - 3) after ≡ insert_key b risen = rw (add-one h.n) at now_first in
-            result_part h.angled (suc h.n) risen (insert_key b risen) old (moved_angles (Up i 1) old) apart comes after (add-one h.n) (keeps_angles h.angled (suc h.n) over) first_so
-            ∙ ap₂ (λ (es ds : List Edge). result (suc h.n) es (angles_by h.angled old) ds) edges all_edges
-
-        pub added : ReadsBent (rule (add_ear i) (part_of h bs)) (Held (record { n = h.n + 1; angled = h.angled })) after
-        added = edited (add_ear i) P (inside, space) part long
+    pub added : Gives (rule (add_ear i) p) (part_of (record { n = h.n + 1; angled = h.angled }) after)
+    added = edited (add_ear i) H (inside, space) part

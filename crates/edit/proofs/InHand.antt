@@ -3,7 +3,7 @@ use mathlib.Core.Path.{◌≡◌, refl, ap, sym, ◌∙◌}
 use mathlib.Core.Logic.{inr}
 use mathlib.Core.Bool.{Bool, true, false, ◌&&◌}
 use mathlib.Core.List.{List}
-use Prim.Native.Nat.{ℕ, ◌+◌, ◌-◌, ◌≤◌, ◌<◌}
+use Prim.Native.Nat.{ℕ, ◌+◌, ◌-◌, ◌<◌}
 use native.Mathlib.Decide.{dec_lt}
 use native.Mathlib.Omega.{arith}
 use borrow.Author.Tests.{lt-ltb, le-ltb}
@@ -12,7 +12,7 @@ use lib.ListN.{length, take, length-map}
 use Rattle.lists.specs.Lists.{All, Mem, Sub, choose}
 use Rattle.lists.proofs.Lists.{all_mem, all_of, choose_no, choose_yes}
 use Rattle.polygon.specs.Angles.{none, each}
-use Rattle.polygon.specs.Polygon.{Edge}
+use Rattle.polygon.specs.Polygon.{Edge, Polygon, Valid}
 use Rattle.polygon.specs.Order.{Distinct, insert, remove}
 use Rattle.polygon.specs.Carried.{carried}
 use Rattle.polygon.proofs.Order.{insert_length}
@@ -25,19 +25,36 @@ use Rattle.keys.proofs.Removal.{remove_edges, remove_sub}
 use Rattle.keys.proofs.Bends.{insert_keys}
 use Rattle.keys.proofs.Beside.{bend_edges, ComesFrom, carry, mem_edge}
 use Rattle.sheet.specs.declared.Head.{Head}
-use Rattle.sheet.specs.declared.Read.TheVariants.{Held}
-use Rattle.sheet.specs.Sheet.{held}
-use Rattle.sheet.specs.Held.{angles_by, part_of, BentInHand, ReadsBent, gives}
+use Rattle.sheet.specs.Sheet.{Reading, held}
+use Rattle.sheet.specs.Hand.{angles_by, part_of, has_angles, head_of}
+use lib.Seq.{take_all}
+use Rattle.edit.specs.Tables.{whole, Whole}
 use Rattle.edit.specs.Rules.{Edit, result, rule}
 use Rattle.edit.proofs.Rule.{Takes, given, rule_takes}
 use Rattle.edit.proofs.Enter.{insert_remove}
 use Rattle.edit.proofs.Keeps.{given_valid}
 
--- what an edit that is taken gives
-pub edited : (e : Edit) {h g : Head} {bs after : List ℕ} → BentInHand h bs → Takes e (part_of h bs) → part_of g after ≡ given e (part_of h bs) → 1021 ≤ length after
-    → ReadsBent (rule e (part_of h bs)) (Held g) after
-edited e {h} {g} {bs} {after} P t same long =
-    gives {h = g} (rule_takes e (part_of h bs) t ∙ ap held (sym same)) (record { valid = rw same (given_valid e (part_of h bs) P.valid t); room = long })
+-- so a part tells them
+pub in_whole : {p : Polygon} {h : Head} {bs : List ℕ} → Valid p → h.n ≡ p.n → h.angled ≡ has_angles p.angles → part_of (head_of p) bs ≡ p → length bs ≡ p.n - 3 → Whole p h bs
+in_whole {p} {h} {bs} V n a same all =
+    let e : p ≡ whole h bs = sym same ∙ rw (take_all (p.n - 3) bs (omega arith), n, a) in
+    record { same = e; valid = rw e at V }
+
+pub whole_count : (h : Head) (bs : List ℕ) → Valid (whole h bs) → length bs ≡ h.n - 3
+whole_count h bs V = omega (arith, V.triangulated.full, length-map (keys_in bs) edge_of, length-map bs key_in)
+
+pub bends_count : {p : Polygon} {h : Head} {bs : List ℕ} → Whole p h bs → length bs ≡ h.n - 3
+bends_count H = whole_count _ _ H.valid
+
+-- what an edit gives: a part, which is valid
+pub record Gives (q : Reading) (p : Polygon) : Type 0 where
+  pub same : q ≡ held p
+  pub valid : Valid p
+
+pub edited : (e : Edit) {p q : Polygon} {h : Head} {bs : List ℕ} → Whole p h bs → Takes e (whole h bs) → q ≡ given e (whole h bs) → Gives (rule e p) q
+edited e {h = h} {bs} H t same =
+    let w = whole h bs in
+    rw H.same (record { same = rule_takes e w t ∙ ap held (sym same); valid = rw same (given_valid e w H.valid t) })
 
 -- The bends `new` of a part of n corners, which all come from `old`, the bends before the edit under their new numbers: they are those of the result.
 module _ (b : Bool) (n : ℕ) (old new : List ℕ) (before : List ℕ) (same : angles_in old ≡ angles_in before) (apart : Distinct (bend_edges old)) (comes : All (ComesFrom old) new) where
@@ -85,23 +102,23 @@ module _ (b : ℕ) (e : Edge) (bs : List ℕ) (key : b ≡ flat_bend (key_of e))
 
 -- the bends of a part's diagonals without that of the diagonal e
 pub record Without (h : Head) (bs : List ℕ) (e : Edge) (rest : List ℕ) : Type 0 where
-  pub member : Mem e (bend_edges (take (h.n - 3) bs))
-  pub left : bend_edges rest ≡ remove e (bend_edges (take (h.n - 3) bs))
-  pub kept : Sub rest (take (h.n - 3) bs)
+  pub member : Mem e (bend_edges bs)
+  pub left : bend_edges rest ≡ remove e (bend_edges bs)
+  pub kept : Sub rest bs
   pub size : length rest + 1 ≡ h.n - 3
 
 -- it is taken out by its key
-pub taken_out : {h : Head} {bs : List ℕ} (P : BentInHand h bs) (e : Edge) → Mem e (bend_edges (take (h.n - 3) bs)) → {k : ℕ} → k ≡ key_of e → {rest : List ℕ}
-    → rest ≡ remove_key k (take (h.n - 3) bs) → Without h bs e rest
-taken_out {h} {bs} P e m {k} K {rest} R =
-    let T = P.valid.triangulated in
-    let ds : List Edge = bend_edges (take (h.n - 3) bs) in
-    let key : edge_of k ≡ e = ap edge_of K ∙ edge_of_key e (omega (arith, (all_mem T.diagonals m).corner, P.valid.most)) in
-    let left : bend_edges rest ≡ remove e ds = ap bend_edges R ∙ (remove_edges k (take (h.n - 3) bs) ∙ ap (λ (f : Edge). remove f ds) key) in
+pub taken_out : {p : Polygon} {h : Head} {bs : List ℕ} (H : Whole p h bs) (e : Edge) → Mem e (bend_edges bs) → {k : ℕ} → k ≡ key_of e → {rest : List ℕ}
+    → rest ≡ remove_key k bs → Without h bs e rest
+taken_out {h = h} {bs} H e m {k} K {rest} R =
+    let T = H.valid.triangulated in
+    let ds : List Edge = bend_edges bs in
+    let key : edge_of k ≡ e = ap edge_of K ∙ edge_of_key e (omega (arith, (all_mem T.diagonals m).corner, H.valid.most)) in
+    let left : bend_edges rest ≡ remove e ds = ap bend_edges R ∙ (remove_edges k bs ∙ ap (λ (f : Edge). remove f ds) key) in
     let again : length (insert e (remove e ds)) ≡ length ds = ap length (insert_remove e ds T.ascending m) in
     record {
       member = m;
       left = left;
-      kept = rw R (remove_sub k (take (h.n - 3) bs));
+      kept = rw R (remove_sub k bs);
       size = omega (arith, T.full, again, insert_length e (remove e ds), ap length left, length-map (keys_in rest) edge_of, length-map rest key_in);
     }

@@ -1,15 +1,16 @@
 -- The table of the corners joined to a corner, marked one edge after another; and the corners marked in two such tables.
 use mathlib.Core.Path.{◌≡◌, refl, sym, ◌∙◌}
 use mathlib.Core.Logic.{◌⊎◌, inl, inr}
+use mathlib.Core.Bool.{Bool, true, false, false≢true}
 use mathlib.Core.List.{List, [], ◌∷◌, ◌++◌}
 use Prim.Native.Nat.{ℕ, zero, suc, ◌+◌, ◌-◌, ◌<◌, ◌≤◌}
 use native.Mathlib.Decide.{ℕ_discrete}
 use native.Mathlib.Omega.{arith}
-use lib.ListN.{length, set, get_or, length-set, length-map, get_or-map}
+use lib.ListN.{length, set, get_or, length-set}
 use lib.Seq.{get_or-set_same, get_or-set_other}
-use Rattle.lists.specs.Lists.{head, All}
+use Rattle.std.proofs.Common.{Some, None}
+use Rattle.lists.specs.Lists.{head, All, all_nil, all_cons}
 use Rattle.lists.proofs.Lists.{mem_left, mem_right, not_empty, snoc_cases, choose_yes, choose_no}
-use Rattle.lists.proofs.Places.{all_at, at_all}
 use Rattle.polygon.specs.Polygon.{Edge, ◌—◌, Side, Joined}
 use Rattle.polygon.proofs.Order.{edge, low_of, high_of}
 use Rattle.keys.specs.Keys.{edge_of, edges_of}
@@ -35,16 +36,23 @@ neighbours_inside n (suc k) f e =
     let w : suc k + 1 ≡ k + 2 = omega arith in
     choose_no (ℕ_discrete (suc (suc k)) n) _ (λ p. e (omega arith)) ∙ rw (z, w)
 
--- edges that do not end at k, by their place in the table
-pub away_all : (k : ℕ) (ks : List ℕ) → ((j : ℕ) → j < length ks → Away k (edge_of (get_or ks j 0))) → All (Away k) (edges_of ks)
-away_all k ks f = all_at (0 — 0) (edges_of ks) (λ j h. rw (get_or-map edge_of ks j 0) (f j (omega (arith, length-map ks edge_of))))
+-- edges that do not end at k, by their keys
+pub keys_away : {k : ℕ} (ks : List ℕ) → All (Away k) (edges_of ks) → All (λ x. Away k (edge_of x)) ks
+keys_away [] a = all_nil
+keys_away (x ∷ ks) (all_cons h a) = all_cons h (keys_away ks a)
 
-pub all_away : (k : ℕ) (ks : List ℕ) → All (Away k) (edges_of ks) → (j : ℕ) → j < length ks → Away k (edge_of (get_or ks j 0))
-all_away k ks a j h = rw (get_or-map edge_of ks j 0) at (at_all (0 — 0) a j (omega (arith, length-map ks edge_of)))
+-- a place stays marked when a second one is marked
+still : (near : List Bool) (p x : ℕ) → x < length near → get_or near x false ≡ true → get_or (set near p true) x false ≡ true
+still near p x h e = go (ℕ_discrete x p)
+  where
+    go : Dec (x ≡ p) → get_or (set near p true) x false ≡ true
+    go (yes q) = rw q (get_or-set_same near p true false (omega (arith, q)))
+    go (no q) = get_or-set_other near p x true false q ∙ e
 
 -- at first, with no diagonal: the two neighbours on the outline are marked
-pub near_begin : (n c : ℕ) (near : List ℕ) → 3 ≤ n → n ≤ 1024 → c < n → length near ≡ 1025 → ((x : ℕ) → get_or near x 0 ≡ 0) → Near n [] c (set (set near (neighbours n c).0 1) (neighbours n c).1 1)
-near_begin n c near h k i size blank = record { joined = joined; apart = apart }
+pub near_begin : (n c : ℕ) (near : List Bool) → 3 ≤ n → n ≤ 1024 → c < n → 1024 ≤ length near → ((x : ℕ) → get_or near x false ≡ false)
+    → Near n [] c (set (set near (neighbours n c).0 true) (neighbours n c).1 true)
+near_begin n c near h k i size blank = record { joined = joined; marked = λ x l J. marked x l (of_joined x J) }
   where
     a : ℕ
     a = (neighbours n c).0
@@ -62,65 +70,64 @@ near_begin n c near h k i size blank = record { joined = joined; apart = apart }
     of_joined x (inr (inl s)) = inr s
     of_joined x (inr (inr m)) = absurd (not_empty m)
 
-    joined : (x : ℕ) → x < n → get_or (set (set near a 1) b 1) x 0 ≡ 1 → Joined n [] x c
+    joined : (x : ℕ) → x < n → get_or (set (set near a true) b true) x false ≡ true → Joined n [] x c
     joined x l e = go (ℕ_discrete x a) (ℕ_discrete x b)
       where
         go : Dec (x ≡ a) → Dec (x ≡ b) → Joined n [] x c
         go (yes p) q = side_of x ((neighbours_read n c x h i l).1 (inl p))
         go (no p) (yes q) = side_of x ((neighbours_read n c x h i l).1 (inr q))
-        go (no p) (no q) = absurd (omega (arith, e, get_or-set_other (set near a 1) b x 1 0 q, get_or-set_other near a x 1 0 p, blank x))
+        go (no p) (no q) = absurd (false≢true (sym (get_or-set_other (set near a true) b x true false q ∙ (get_or-set_other near a x true false p ∙ blank x)) ∙ e))
 
-    apart : (x : ℕ) → x < n → ¬ (get_or (set (set near a 1) b 1) x 0 ≡ 1) → ¬ Joined n [] x c
-    apart x l f J = go ((neighbours_read n c x h i l).0 (of_joined x J)) (ℕ_discrete x b)
+    marked : (x : ℕ) → x < n → Side n x c ⊎ Side n c x → get_or (set (set near a true) b true) x false ≡ true
+    marked x l s = go ((neighbours_read n c x h i l).0 s)
       where
-        go : (x ≡ a) ⊎ (x ≡ b) → Dec (x ≡ b) → ⊥
-        go s (yes q) = f (rw q (get_or-set_same (set near a 1) b 1 0 (simp length-set (omega (arith, q)))))
-        go (inl p) (no q) = f (get_or-set_other (set near a 1) b x 1 0 q ∙ rw p (get_or-set_same near a 1 0 (omega (arith, p))))
-        go (inr p) (no q) = q p
+        go : (x ≡ a) ⊎ (x ≡ b) → get_or (set (set near a true) b true) x false ≡ true
+        go (inl p) = still (set near a true) b x (simp length-set (omega arith)) (rw p (get_or-set_same near a true false (omega (arith, p))))
+        go (inr p) = rw p (get_or-set_same (set near a true) b true false (simp length-set (omega (arith, p))))
 
 -- one more edge
-module _ (n c : ℕ) (ds : List Edge) (e : Edge) (near : List ℕ) (N : Near n ds c near) (small : n ≤ 1024) (size : length near ≡ 1025) (p : ℕ) (O : OtherEnd e c p) where
+module _ (n c : ℕ) (ds : List Edge) (e : Edge) where
   grown : (x : ℕ) → Joined n ds x c → Joined n (ds ++ (e ∷ [])) x c
   grown x (inl (inl s)) = inl (inl s)
   grown x (inl (inr m)) = inl (inr (mem_left (e ∷ []) m))
   grown x (inr (inl s)) = inr (inl s)
   grown x (inr (inr m)) = inr (inr (mem_left (e ∷ []) m))
 
-  by_edge : (x : ℕ) → x < n → x ≡ p → OtherEnd e c p → Joined n (ds ++ (e ∷ [])) x c
-  by_edge x l q (inl (h, k)) = inr (inr (mem_right ds (head (sym (edge h (sym (q ∙ k)))))))
-  by_edge x l q (inr (inl (h, k))) = inl (inr (mem_right ds (head (sym (edge (sym (q ∙ k)) h)))))
-  by_edge x l q (inr (inr (h, i, k))) = absurd (omega arith)
+  by_edge : (x : ℕ) → OtherEnd e c (Some x) → Joined n (ds ++ (e ∷ [])) x c
+  by_edge x (inl (h, k)) = inr (inr (mem_right ds (head (sym (edge h (sym k))))))
+  by_edge x (inr (h, k)) = inl (inr (mem_right ds (head (sym (edge (sym k) h)))))
 
-  is_end : (x : ℕ) → (e ≡ x — c) ⊎ (e ≡ c — x) → OtherEnd e c p → x ≡ p
-  is_end x (inl q) (inl (h, k)) = omega (arith, low_of q, high_of q)
-  is_end x (inr q) (inl (h, k)) = omega (arith, low_of q, high_of q)
-  is_end x (inl q) (inr (inl (h, k))) = omega (arith, low_of q, high_of q)
-  is_end x (inr q) (inr (inl (h, k))) = omega (arith, low_of q, high_of q)
-  is_end x (inl q) (inr (inr (h, i, k))) = absurd (i (high_of q))
-  is_end x (inr q) (inr (inr (h, i, k))) = absurd (h (low_of q))
+  -- what is joined now was so before, or is the edge's other end
+  parted : (x : ℕ) → Joined n (ds ++ (e ∷ [])) x c → Joined n ds x c ⊎ OtherEnd e c (Some x)
+  parted x (inl (inl s)) = inl (inl (inl s))
+  parted x (inl (inr m)) = elim (snoc_cases ds e m) [ inl k ↦ inl (inl (inr k)) | inr q ↦ inr (inr (high_of (sym q), sym (low_of (sym q)))) ]
+  parted x (inr (inl s)) = inl (inr (inl s))
+  parted x (inr (inr m)) = elim (snoc_cases ds e m) [ inl k ↦ inl (inr (inr k)) | inr q ↦ inr (inl (low_of (sym q), sym (high_of (sym q)))) ]
 
-  pub near_next : Near n (ds ++ (e ∷ [])) c (set near p 1)
-  near_next = record { joined = λ x l q. joined x l q (ℕ_discrete x p); apart = λ x l f J. apart x l f J (ℕ_discrete x p) }
-    where
-      joined : (x : ℕ) → x < n → get_or (set near p 1) x 0 ≡ 1 → Dec (x ≡ p) → Joined n (ds ++ (e ∷ [])) x c
-      joined x l q (yes h) = by_edge x l h O
-      joined x l q (no h) = grown x (N.joined x l (sym (get_or-set_other near p x 1 0 h) ∙ q))
+  one_end : (x p : ℕ) → OtherEnd e c (Some x) → OtherEnd e c (Some p) → x ≡ p
+  one_end x p (inl (h, k)) (inl (i, j)) = omega arith
+  one_end x p (inl (h, k)) (inr (i, j)) = omega arith
+  one_end x p (inr (h, k)) (inl (i, j)) = omega arith
+  one_end x p (inr (h, k)) (inr (i, j)) = omega arith
 
-      apart : (x : ℕ) → x < n → ¬ (get_or (set near p 1) x 0 ≡ 1) → Joined n (ds ++ (e ∷ [])) x c → Dec (x ≡ p) → ⊥
-      apart x l f J (yes h) = f (rw h (get_or-set_same near p 1 0 (omega (arith, h))))
-      apart x l f J (no h) = old J
-        where
-          before : ¬ Joined n ds x c
-          before = N.apart x l (λ q. f (get_or-set_other near p x 1 0 h ∙ q))
+  module _ (near : List Bool) (N : Near n ds c near) where
+    pub near_away : OtherEnd e c None → Near n (ds ++ (e ∷ [])) c near
+    near_away O = record {
+      joined = λ x l q. grown x (N.joined x l q);
+      marked = λ x l J. elim (parted x J) [ inl K ↦ N.marked x l K | inr E ↦ absurd (away x E) ];
+    }
+      where
+        away : (x : ℕ) → ¬ OtherEnd e c (Some x)
+        away x (inl (h, k)) = O.0 h
+        away x (inr (h, k)) = O.1 h
 
-          old : Joined n (ds ++ (e ∷ [])) x c → ⊥
-          old (inl (inl s)) = before (inl (inl s))
-          old (inl (inr m)) = elim (snoc_cases ds e m) [ inl k ↦ before (inl (inr k)) | inr q ↦ h (is_end x (inl (sym q)) O) ]
-          old (inr (inl s)) = before (inr (inl s))
-          old (inr (inr m)) = elim (snoc_cases ds e m) [ inl k ↦ before (inr (inr k)) | inr q ↦ h (is_end x (inr (sym q)) O) ]
+    pub near_end : n ≤ length near → (p : ℕ) → OtherEnd e c (Some p) → Near n (ds ++ (e ∷ [])) c (set near p true)
+    near_end room p O = record { joined = λ x l q. joined x l q (ℕ_discrete x p); marked = λ x l J. marked x l (parted x J) }
+      where
+        joined : (x : ℕ) → x < n → get_or (set near p true) x false ≡ true → Dec (x ≡ p) → Joined n (ds ++ (e ∷ [])) x c
+        joined x l q (yes h) = rw h (by_edge p O)
+        joined x l q (no h) = grown x (N.joined x l (sym (get_or-set_other near p x true false h) ∙ q))
 
--- the other end of an edge, or 1,024, is a place of the table
-pub end_below : (c k r : ℕ) → k < 1048576 → OtherEnd (edge_of k) c r → r < 1025
-end_below c k r h (inl (p, q)) = omega arith
-end_below c k r h (inr (inl (p, q))) = omega arith
-end_below c k r h (inr (inr (p, q, e))) = omega arith
+        marked : (x : ℕ) → x < n → Joined n ds x c ⊎ OtherEnd e c (Some x) → get_or (set near p true) x false ≡ true
+        marked x l (inl K) = still near p x (omega arith) (N.marked x l K)
+        marked x l (inr E) = let q = one_end x p E O in rw q (get_or-set_same near p true false (omega (arith, q)))

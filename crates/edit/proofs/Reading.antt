@@ -3,8 +3,8 @@ use mathlib.Core.Path.{◌≡◌, refl}
 use mathlib.Core.Logic.Dec
 use mathlib.Core.Logic.{◌⊎◌, inl, inr, ◌↔◌}
 use mathlib.Core.List.{List}
-use Prim.Native.Nat.{ℕ, zero, suc, ◌+◌, ◌-◌, ◌≤◌, ◌<◌}
-use native.Mathlib.Decide.{dec_lt, ℕ_discrete}
+use Prim.Native.Nat.{ℕ, zero, suc, ◌+◌, ◌-◌, ◌≤◌, ◌<◌, max, min}
+use native.Mathlib.Decide.{dec_le, dec_lt, ℕ_discrete}
 use native.Mathlib.Omega.{arith}
 use Rattle.lists.specs.Lists.{Mem, below, choose}
 use Rattle.lists.proofs.Lists.{all_mem, keep_mem, keep_sub, keep_test}
@@ -100,3 +100,11 @@ either_way a b n r = ask_same 9 _ _ r (λ h. (h.1, h.0)) (λ h. (h.1, h.0))
 pub flip_either : (a b : ℕ) (p : Polygon) → rule (flip a b) p ≡ rule (flip b a) p
 unfolding rule
 flip_either a b p = rw (either_order a b) (either_way a b p.n _)
+
+-- what does not depend on the order of two numbers can be asked with the lower one first
+pub in_order : {A : Type 0} (f : ℕ → ℕ → A) → ((x y : ℕ) → f x y ≡ f y x) → (a b : ℕ) → f (min a b) (max a b) ≡ f a b
+in_order f same a b = go (dec_le a b)
+  where
+    go : Dec (a ≤ b) → f (min a b) (max a b) ≡ f a b
+    go (yes h) = let l : min a b ≡ a = omega arith in let u : max a b ≡ b = omega arith in rw (l, u)
+    go (no h) = let l : min a b ≡ b = omega arith in let u : max a b ≡ a = omega arith in rw (l, u) (same b a)

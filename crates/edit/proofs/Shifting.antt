@@ -6,7 +6,6 @@ use native.Mathlib.Decide.{dec_lt}
 use native.Mathlib.Numerals.{add-one}
 use native.Mathlib.Omega.{arith}
 use lib.ListN.{length, take, set, get_or, length-set, length-map, get_or-map}
-use lib.Seq.{take_all}
 use Rattle.lists.specs.Lists.{all_cons, choose}
 use Rattle.lists.proofs.Places.{mapped_next}
 use Rattle.keys.specs.Keys.{key_of, edge_of, edges_of, key_in, keys_in, angle_in, angles_in}
@@ -73,8 +72,3 @@ module _ {s : Shift} {bends : List ℕ} {size : ℕ} {out : List ℕ} {j : ℕ} 
     kept = simp length-set M.kept;
     done = mapped_next (moved_bend s) bends out j 0 more (omega (arith, M.kept)) e M.done;
   }
-
-  pub mapping_end : length bends ≤ j → take (length bends) out ≡ map (moved_bend s) bends
-  mapping_end h =
-      let e : j ≡ length bends = omega (arith, M.upto) in
-      rw (e, take_all (length bends) bends (omega arith)) at M.done

@@ -1,21 +1,23 @@
-// The edits on a part in hand: its head, the bends of its diagonals in a table, and their keys in another. What an edit gives is again a part in hand, or a refusal.
-ghost use Rattle.std.specs.Prelude.{◌≡◌, ◌&&◌, [], ◌∷◌, ℕ, ◌+◌, ◌-◌, ◌<◌, ◌≤◌, ltb};
+// The edits on a part in hand. What an edit gives is again a part in hand, or a refusal.
+ghost use Rattle.std.specs.Prelude.{◌≡◌, [], ◌∷◌, ℕ, ◌<◌, ◌≤◌, IfSome};
 ghost use Rattle.polygon.specs.Polygon.{◌—◌};
 ghost use Rattle.keys.specs.Keys.{key_of, edges_of, flat_bend};
-ghost use Rattle.sheet.specs.Held.{part_of, SmallKeys, BentInHand, KeysOf, ReadsBent};
+ghost use Rattle.sheet.specs.Held.{reading_of, SmallKeys};
 ghost use Rattle.edit.specs.Rules.{add_ear, remove_ear, flip, rule, entering, common};
 ghost use Rattle.edit.specs.Tables.{edit_of};
 
-use crate::near::{MARKS, first_common, high_neighbour, is_ear, low_neighbour, mark};
+use crate::near::{first_common, is_ear, mark, neighbours};
 use crate::shift::{Shift, renumber};
+use codec::Refusal;
 use keys::bend::{FLAT, bend};
-use keys::change::{has, remove};
+use keys::change::remove;
 use keys::merge::merge;
 use keys::{CORNERS, DIAGONALS, key};
-use sheet::{Head, Read};
+use sheet::Head;
+use sheet::part::Part;
 
 // An edit: add a corner on a side, take off a corner, turn the diagonal of two corners, named in either order.
-#[derive(Drop)]
+#[derive(Clone, Copy, Debug, PartialEq, Eq)]
 pub enum Edit {
     AddEar(usize),
     RemoveEar(usize),
@@ -34,128 +36,114 @@ fn entering_bend(n: usize, i: usize) -> u32
 }
 
 // Adds a corner on a side.
-fn add_to(h: Head, bends: &mut [u32], side: usize) -> Read
-    requires { BentInHand h bends.old }
-    ensures { ReadsBent (rule (add_ear side) (part_of h bends.old)) result bends.new }
+fn add_to(part: &Part, side: usize) -> Result<Part, Refusal>
+    ensures { reading_of result ≡ rule (add_ear side) part.now }
 {
-    let n = h.n;
-    if side >= n {
-        return Read::Refused(9);
+    let h = part.head();
+    if side >= h.n {
+        return Err(Refusal::OutOfRange);
     }
-    if n == CORNERS {
-        return Read::Refused(10);
+    if h.n == CORNERS {
+        return Err(Refusal::TooManyCorners);
     }
-    let m = n - 3;
+    let bends = part.bends();
     let mut moved = [0u32; DIAGONALS];
-    renumber(&bends[..m], Shift::Up(side, 1), &mut moved);
-    let new = [entering_bend(n, side)];
-    merge(&new, &moved[..m], bends);
-    Read::Held(Head {
-        n: n + 1,
+    renumber(bends, Shift::Up(side, 1), &mut moved);
+    let new = [entering_bend(h.n, side)];
+    let mut after = [0u32; DIAGONALS];
+    merge(&new, &moved[..bends.len()], &mut after);
+    let grown = Head {
+        n: h.n + 1,
         angled: h.angled,
-    })
-}
-
-// Whether a part that loses a corner still has angles: a triangle has none.
-fn angled_without(h: Head) -> bool
-    ensures { result ≡ h.angled && ltb 3 (h.n - 1) }
-{
-    if h.n > 4 { h.angled } else { false }
+    };
+    Ok(Part::new(grown, after))
 }
 
 // Takes off a corner.
-fn remove_from(h: Head, bends: &mut [u32], keys: &[u32], corner: usize) -> Read
-    requires { BentInHand h bends.old × KeysOf h bends.old keys.now }
-    ensures { ReadsBent (rule (remove_ear corner) (part_of h bends.old)) result bends.new }
+fn remove_from(part: &Part, corner: usize) -> Result<Part, Refusal>
+    ensures { reading_of result ≡ rule (remove_ear corner) part.now }
 {
-    let n = h.n;
-    if corner >= n {
-        return Read::Refused(9);
+    let h = part.head();
+    if corner >= h.n {
+        return Err(Refusal::OutOfRange);
     }
-    if n == 3 {
-        return Read::Refused(11);
+    if h.n == 3 {
+        return Err(Refusal::Triangle);
     }
-    let m = n - 3;
-    if !is_ear(&keys[..m], corner) {
-        return Read::Refused(12);
+    let bends = part.bends();
+    let keys = part.keys();
+    if !is_ear(&keys[..bends.len()], corner) {
+        return Err(Refusal::NoEar);
     }
-    let a = low_neighbour(n, corner);
-    let b = high_neighbour(n, corner);
+    let (a, b) = neighbours(h.n, corner);
     let mut rest = [0u32; DIAGONALS];
-    let left = remove(&bends[..m], key(a, b), &mut rest);
-    renumber(&rest[..left], Shift::Down(corner, 1), bends);
-    Read::Held(Head {
-        n: n - 1,
-        angled: angled_without(h),
-    })
+    let left = remove(bends, key(a, b), &mut rest);
+    let mut after = [0u32; DIAGONALS];
+    renumber(&rest[..left], Shift::Down(corner, 1), &mut after);
+    let shrunk = Head {
+        n: h.n - 1,
+        // A triangle has no angles.
+        angled: h.angled && h.n > 4,
+    };
+    Ok(Part::new(shrunk, after))
 }
 
-// The key of the pair of corners that are joined to both a and b.
-fn turned_key(keys: &[u32], n: usize, a: usize, b: usize) -> u32
+// The key of the pair of corners that are joined to both a and b, if there are two.
+fn turned_key(keys: &[u32], n: usize, a: usize, b: usize) -> Option<u32>
     requires { (3 ≤ n) × (n ≤ 1024) × (a < n) × (b < n) × SmallKeys keys.now }
-    ensures { ((x y : ℕ) → common n (edges_of keys.now) (a — b) ≡ x ∷ (y ∷ []) → result ≡ key_of (x — y)) × (result < 1048576) }
+    ensures pair { (x y : ℕ) → common n (edges_of keys.now) (a — b) ≡ x ∷ (y ∷ []) → result ≡ Some (key_of (x — y)) }
+    ensures small { IfSome result (λ k. k < 1048576) }
 {
-    let mut near = [0u8; MARKS];
+    let mut near = [false; CORNERS];
     mark(keys, n, a, &mut near);
-    let mut far = [0u8; MARKS];
+    let mut far = [false; CORNERS];
     mark(keys, n, b, &mut far);
-    let x = first_common(&near, &far, 0, n);
-    if x == n {
-        return 0;
-    }
-    let y = first_common(&near, &far, x + 1, n);
-    if y == n {
-        return 0;
-    }
-    key(x, y)
+    let x = first_common(&near, &far, 0, n)?;
+    let y = first_common(&near, &far, x + 1, n)?;
+    Some(key(x, y))
 }
 
-// Turns the diagonal (a,b), a below b.
-fn turn(h: Head, bends: &mut [u32], keys: &[u32], a: usize, b: usize) -> Read
-    requires part { BentInHand h bends.old × KeysOf h bends.old keys.now }
-    requires corners { (a ≤ b) × (b < h.n) }
-    ensures { ReadsBent (rule (flip a b) (part_of h bends.old)) result bends.new }
+// Turns the diagonal (a,b), a not above b.
+fn turn(part: &Part, a: usize, b: usize) -> Result<Part, Refusal>
+    requires { (a ≤ b) × (b < part.now.n) }
+    ensures { reading_of result ≡ rule (flip a b) part.now }
 {
-    let n = h.n;
-    let m = n - 3;
+    let h = part.head();
+    let bends = part.bends();
+    let table = part.keys();
+    let keys = &table[..bends.len()];
     let k = key(a, b);
-    if !has(&keys[..m], k) {
-        return Read::Refused(13);
+    if !keys.contains(&k) {
+        return Err(Refusal::LacksDiagonal);
     }
-    let turned = [bend(turned_key(&keys[..m], n, a, b), FLAT)];
+    // A diagonal has two such corners: it is a side of two triangles.
+    let other = turned_key(keys, h.n, a, b).unwrap();
+    let turned = [bend(other, FLAT)];
     let mut rest = [0u32; DIAGONALS];
-    let left = remove(&bends[..m], k, &mut rest);
-    merge(&turned, &rest[..left], bends);
-    Read::Held(h)
+    let left = remove(bends, k, &mut rest);
+    let mut after = [0u32; DIAGONALS];
+    merge(&turned, &rest[..left], &mut after);
+    Ok(Part::new(h, after))
 }
 
 // Turns the diagonal (a,b), named in either order.
-fn flip_in(h: Head, bends: &mut [u32], keys: &[u32], a: usize, b: usize) -> Read
-    requires { BentInHand h bends.old × KeysOf h bends.old keys.now }
-    ensures { ReadsBent (rule (flip a b) (part_of h bends.old)) result bends.new }
+fn flip_in(part: &Part, a: usize, b: usize) -> Result<Part, Refusal>
+    ensures { reading_of result ≡ rule (flip a b) part.now }
 {
-    let n = h.n;
-    if a >= n {
-        return Read::Refused(9);
+    let n = part.head().n;
+    if a >= n || b >= n {
+        return Err(Refusal::OutOfRange);
     }
-    if b >= n {
-        return Read::Refused(9);
-    }
-    if a < b {
-        turn(h, bends, keys, a, b)
-    } else {
-        turn(h, bends, keys, b, a)
-    }
+    turn(part, a.min(b), a.max(b))
 }
 
 // Does an edit.
-pub fn edit_part(h: Head, bends: &mut [u32], keys: &[u32], e: Edit) -> Read
-    requires { BentInHand h bends.old × KeysOf h bends.old keys.now }
-    ensures { ReadsBent (rule (edit_of e) (part_of h bends.old)) result bends.new }
+pub fn edit_part(part: &Part, e: Edit) -> Result<Part, Refusal>
+    ensures { reading_of result ≡ rule (edit_of e) part.now }
 {
     match e {
-        Edit::AddEar(side) => add_to(h, bends, side),
-        Edit::RemoveEar(corner) => remove_from(h, bends, keys, corner),
-        Edit::Flip(a, b) => flip_in(h, bends, keys, a, b),
+        Edit::AddEar(side) => add_to(part, side),
+        Edit::RemoveEar(corner) => remove_from(part, corner),
+        Edit::Flip(a, b) => flip_in(part, a, b),
     }
 }

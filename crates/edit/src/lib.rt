@@ -10,9 +10,7 @@ ghost use Rattle.edit.specs.Calls.{edited};
 ghost use Rattle.edit.specs.Tables.{edit_of};
 
 use crate::held::{Edit, edit_part};
-use codec::Written;
-use keys::DIAGONALS;
-use sheet::Read;
+use codec::Refusal;
 use sheet::reader::read_sheet;
 use sheet_writer::write_sheet;
 
@@ -21,36 +19,30 @@ pub mod near;
 pub mod shift;
 
 // The sheet's part after an edit, as a sheet in normal order.
-pub fn edit(sheet: &[u8], e: Edit, out: &mut [u8]) -> Written
+pub fn edit(sheet: &[u8], e: Edit, out: &mut [u8]) -> Result<usize, Refusal>
     ensures { answered result out.new ≡ written (edited (edit_of e) sheet.now) out.old }
 {
-    let mut bends = [0u32; DIAGONALS];
-    let mut keys = [0u32; DIAGONALS];
-    match read_sheet(sheet, &mut bends, &mut keys) {
-        Read::Refused(k) => Written::Refused(k),
-        Read::Held(h) => match edit_part(h, &mut bends, &keys, e) {
-            Read::Refused(k) => Written::Refused(k),
-            Read::Held(g) => write_sheet(g, &bends, out),
-        },
-    }
+    let part = read_sheet(sheet)?;
+    let edited = edit_part(&part, e)?;
+    write_sheet(&edited, out)
 }
 
 // Add a corner on a side.
-pub fn add_ear(sheet: &[u8], side: usize, out: &mut [u8]) -> Written
+pub fn add_ear(sheet: &[u8], side: usize, out: &mut [u8]) -> Result<usize, Refusal>
     ensures { answered result out.new ≡ written (edited (add_ear side) sheet.now) out.old }
 {
     edit(sheet, Edit::AddEar(side), out)
 }
 
 // Take off a corner.
-pub fn remove_ear(sheet: &[u8], corner: usize, out: &mut [u8]) -> Written
+pub fn remove_ear(sheet: &[u8], corner: usize, out: &mut [u8]) -> Result<usize, Refusal>
     ensures { answered result out.new ≡ written (edited (remove_ear corner) sheet.now) out.old }
 {
     edit(sheet, Edit::RemoveEar(corner), out)
 }
 
 // Turn the diagonal (a,b), named in either order.
-pub fn flip(sheet: &[u8], a: usize, b: usize, out: &mut [u8]) -> Written
+pub fn flip(sheet: &[u8], a: usize, b: usize, out: &mut [u8]) -> Result<usize, Refusal>
     ensures { answered result out.new ≡ written (edited (flip a b) sheet.now) out.old }
 {
     edit(sheet, Edit::Flip(a, b), out)

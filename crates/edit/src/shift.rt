@@ -6,7 +6,8 @@ use keys::bend::{bend, code_in, key_in};
 use keys::{high, key, low};
 
 // The corners above `at` go up, or down, by so many: Up(at, by), Down(at, by).
-#[derive(Clone, Copy)]
+// An enum and no closure: `moved`, `AllMovable` and `moved_bend` of specs/Tables, which the contracts here, in seam and in cut cite, are by it.
+#[derive(Clone, Copy, Debug, PartialEq, Eq)]
 pub enum Shift {
     Up(usize, usize),
     Down(usize, usize),
@@ -28,12 +29,10 @@ pub fn renumber(bends: &[u32], shift: Shift, out: &mut [u32])
     requires { (length bends.now ≤ length out.old) × AllMovable shift bends.now }
     ensures { take (length bends.now) out.new ≡ map (moved_bend shift) bends.now }
 {
-    let mut j: usize = 0;
-    while j < bends.len() {
-        let k = key_in(bends[j]);
+    for (j, &old) in bends.iter().enumerate() {
+        let k = key_in(old);
         let a = moved(shift, low(k));
         let b = moved(shift, high(k));
-        out[j] = bend(key(a, b), code_in(bends[j]));
-        j += 1;
+        out[j] = bend(key(a, b), code_in(old));
     }
 }

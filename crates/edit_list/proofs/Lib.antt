@@ -1,3 +1,4 @@
+pub mod Pieces
 pub mod Tests
 pub mod Desks
 pub mod Within

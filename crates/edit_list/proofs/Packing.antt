@@ -9,8 +9,9 @@ use Rattle.lists.specs.Lists.{All, all_nil, all_cons, choose}
 use Rattle.codec.proofs.Numbers.{get32_below}
 use Rattle.edit.specs.Rules.{Edit}
 use Rattle.edit.specs.Calls.{edited, called}
-use Rattle.edit_list.specs.declared.Ran.{Ran}
-use Rattle.edit_list.specs.declared.Ran.TheVariants.{Done, Refused}
+use Rattle.std.proofs.Common.{Result as Either, Ok, Err}
+use Rattle.codec.specs.declared.refusal.Refusal.{Refusal}
+use Rattle.edit_list.specs.declared.Left.{Left}
 use Rattle.edit_list.specs.Script.{count, edit_at, script_of, fault_of}
 use Rattle.edit_list.specs.Desk.{placed, Desk, begin, other, current, buffer, answer_of, answered_desk, desk_step, desk_after}
 use Rattle.edit_list.specs.Result.{Result, finished, unchanged, ran_of, result_of, RunReadsBack, SmallRun, Tellable}
@@ -91,22 +92,10 @@ pub run_reads_back : (first list front back outs : List ℕ) → All (λ b. b < 
 run_reads_back first list front back outs bytes = run_back (result_of first list front back outs) (run_number first list front back outs) (result_told first list front back outs bytes)
 
 -- from the result to the code's answer
-module _ (r : Ran) (front back outs : List ℕ) where
+module _ (r : Either Left Refusal) (front back outs : List ℕ) where
   pub tellable : {s : Result} → ran_of r front back outs ≡ s → SmallRun s.place s.size → Tellable r
   tellable e T = go r (rw e T)
     where
-      go : (r : Ran) → SmallRun (ran_of r front back outs).place (ran_of r front back outs).size → Tellable r
-      go (Done place size) T = T
-      go (Refused k) T = tt
-
-  -- the lent bytes of a result are those at the return
-  pub lent_left : {s : Result} → ran_of r front back outs ≡ s → (front ≡ s.front) × ((back ≡ s.back) × (outs ≡ s.outs))
-  lent_left e = rw (← e) (go r)
-    where
-      go : (r : Ran) → let s = ran_of r front back outs in (front ≡ s.front) × ((back ≡ s.back) × (outs ≡ s.outs))
-      go (Done place size) = (refl, (refl, refl))
-      go (Refused k) = (refl, (refl, refl))
-
--- of a run that is done, the place and the size fit
-pub told_fits : (r : Ran) (place size : ℕ) → Tellable r → r ≡ Done place size → SmallRun place size
-told_fits r place size t e = rw e at t
+      go : (r : Either Left Refusal) → SmallRun (ran_of r front back outs).place (ran_of r front back outs).size → Tellable r
+      go (Ok l) T = T
+      go (Err k) T = tt

@@ -15,10 +15,11 @@ use Rattle.lists.proofs.Stores.{sets_front}
 use Rattle.codec.specs.Numbers.{bytes16, run16}
 use Rattle.codec.proofs.Numbers.{length_run16}
 use Rattle.edit.specs.Rules.{Edit}
-use Rattle.edit_list.specs.declared.Ran.TheVariants.{Done}
+use Rattle.std.proofs.Common.{Ok}
+use Rattle.edit_list.specs.declared.Left.{Left}
 use Rattle.edit_list.specs.Script.{count, room_at, edit_at, edits, script_of, Rooms, fault_of}
-use Rattle.edit_list.specs.Desk.{Desk, desk_of, begin, answer_of, desk_step, desk_after, numbers_of}
-use Rattle.edit_list.specs.Steps.{Spacious}
+use Rattle.edit_list.specs.Desk.{Desk, begin, answer_of, desk_step, desk_after, numbers_of}
+use Rattle.edit_list.specs.Steps.{Spacious, desk_by}
 use Rattle.edit_list.specs.Result.{numbered, finished, unchanged, ran_of, result_of}
 use Rattle.edit_list.proofs.Tests.{Number, fault_number, length_edits}
 use Rattle.edit_list.proofs.Within.{Sound, spacious, step_sound}
@@ -64,11 +65,11 @@ module _ (first list front₀ back₀ outs₀ : List ℕ) where
         })
 
   -- after the last edit
-  module _ (place size : ℕ) (front back outs : List ℕ) (i : ℕ) (R : Running (desk_of place size front back) outs i) (h : count list ≤ i) where
+  module _ (d : Desk) (outs : List ℕ) (i : ℕ) (R : Running d outs i) (h : count list ≤ i) where
     none_left : count list - i ≡ 0
     none_left = omega (arith, R.upto)
 
-    pub running_desk : desk_of place size front back ≡ desk_after first (begin first front₀ back₀) (script_of list)
+    pub running_desk : d ≡ desk_after first (begin first front₀ back₀) (script_of list)
     unfolding edits desk_after
     running_desk = rw none_left at R.desk_left
 
@@ -85,11 +86,11 @@ module _ (first list front back outs : List ℕ) where
   unfolding result_of
   result_refused k e h = rw e (sym (choose_no (ℕ_discrete k 0) (finished first list front back outs) (omega arith)))
 
-  pub result_done : (place size : ℕ) (front₂ back₂ outs₂ : List ℕ) → fault_of list (length front) (length back) (length outs) ≡ 0
-      → desk_of place size front₂ back₂ ≡ desk_after first (begin first front back) (script_of list) → outs₂ ≡ numbered (numbers_of first (begin first front back) (script_of list)) outs
-      → ran_of (Done place size) front₂ back₂ outs₂ ≡ result_of first list front back outs
+  pub result_done : (l : Left) (front₂ back₂ outs₂ : List ℕ) → fault_of list (length front) (length back) (length outs) ≡ 0
+      → desk_by l front₂ back₂ ≡ desk_after first (begin first front back) (script_of list) → outs₂ ≡ numbered (numbers_of first (begin first front back) (script_of list)) outs
+      → ran_of (Ok l) front₂ back₂ outs₂ ≡ result_of first list front back outs
   unfolding result_of finished
-  result_done place size front₂ back₂ outs₂ e d o = rw (e, choose_yes (ℕ_discrete 0 0) _ refl, ← d, o)
+  result_done l front₂ back₂ outs₂ e d o = rw (e, choose_yes (ℕ_discrete 0 0) _ refl, ← d, o)
 
   -- a result that is a refusal
   pub refusals : (k : ℕ) → (result_of first list front back outs).number ≡ k → ¬ (k ≡ 0) → (32 ≤ k) × (k ≤ 35) × (result_of first list front back outs ≡ unchanged k front back outs)

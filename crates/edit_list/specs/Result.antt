@@ -1,13 +1,16 @@
 -- What running an encoded list of edits gives: the number, the place and the length of the sheet left, and the lent bytes afterwards.
-use Rattle.std.specs.Prelude.{◌≡◌, List, ◌++◌, ℕ, ◌+◌, ◌*◌, ◌≤◌, ◌<◌, length, drop}
+use Rattle.std.specs.Prelude.{◌≡◌, Result as Either, Ok, Err, List, ◌++◌, ℕ, ◌+◌, ◌*◌, ◌≤◌, ◌<◌, length, drop}
 use Rattle.std.proofs.Math.Decide.{ℕ_discrete}
 use Rattle.lists.specs.Lists.{choose}
 use Rattle.polygon.specs.Polygon.{Polygon}
 use Rattle.codec.specs.Numbers.{run16}
 use Rattle.codec.specs.Unpacked.{number_in, place_in, left_in, OneNumber}
 use Rattle.edit.specs.Model.{model_numbers, model_sheet}
-use Rattle.edit_list.specs.declared.Ran.{Ran}
-use Rattle.edit_list.specs.declared.Ran.TheVariants.{Done, Refused}
+use Rattle.codec.specs.declared.refusal.Refusal.{Refusal}
+use Rattle.codec.specs.Numbered.{number_of}
+use Rattle.edit_list.specs.declared.Place.{Place}
+use Rattle.edit_list.specs.declared.Place.TheVariants.{First, Front, Back}
+use Rattle.edit_list.specs.declared.Left.{Left}
 use Rattle.edit_list.specs.Script.{script_of, fault_of}
 use Rattle.edit_list.specs.Desk.{placed, begin, sheet_at, desk_after, numbers_of}
 
@@ -44,10 +47,16 @@ result_of first list front back outs =
     let k = fault_of list (length front) (length back) (length outs) in
     choose (ℕ_discrete k 0) (finished first list front back outs) (unchanged k front back outs)
 
+-- the number of a place
+abbrev pub place_number : Place → ℕ
+place_number First = 0
+place_number Front = 1
+place_number Back = 2
+
 -- the number and the values of each case of the code's answer, with the lent bytes at its return
-abbrev pub ran_of : Ran → List ℕ → List ℕ → List ℕ → Result
-ran_of (Done place size) front back outs = record { number = 0; place = place; size = size; front = front; back = back; outs = outs }
-ran_of (Refused k) front back outs = unchanged k front back outs
+abbrev pub ran_of : Either Left Refusal → List ℕ → List ℕ → List ℕ → Result
+ran_of (Ok l) front back outs = record { number = 0; place = place_number l.place; size = l.size; front = front; back = back; outs = outs }
+ran_of (Err r) front back outs = unchanged (number_of r) front back outs
 
 -- the numbers written are the plain part's, and the sheet left is the plain part's, from a first sheet that holds p
 pub record AsModel (first : List ℕ) (p : Polygon) (list outs : List ℕ) (r : Result) : Type 0 where
@@ -71,6 +80,6 @@ pub record RunReadsBack (r : Result) : Type 0 where
 abbrev pub SmallRun : ℕ → ℕ → Type 0
 SmallRun place size = (place ≤ 2) × (¬ (place ≡ 0) → size < 4294967296)
 
-abbrev pub Tellable : Ran → Type 0
-Tellable (Done place size) = SmallRun place size
-Tellable (Refused k) = Unit {0}
+abbrev pub Tellable : Either Left Refusal → Type 0
+Tellable (Ok l) = SmallRun (place_number l.place) l.size
+Tellable (Err r) = Unit {0}

@@ -6,8 +6,8 @@ use Prim.Native.Nat.{ℕ, suc, ◌+◌, ◌<◌, ◌≤◌}
 use native.Mathlib.Decide.{ℕ_discrete}
 use native.Mathlib.Numerals.{add-one}
 use native.Mathlib.Omega.{arith}
-use lib.ListN.{length, take, drop, set, get_or, length-set, length-map, get_or-map}
-use lib.Seq.{split_at, take-suc, take_all, append_snoc, get_or-set_same, get_or-set_other}
+use lib.ListN.{length, take, drop, set, get_or, length-set, get_or-map}
+use lib.Seq.{split_at, take-suc, append_snoc, get_or-set_same, get_or-set_other}
 use Rattle.lists.specs.Lists.{All, Sorted, sorted_cons, sorted_nil}
 use Rattle.lists.proofs.Lists.{all_left, all_mem, here, mem_right}
 use Rattle.lists.proofs.Places.{table_next}
@@ -15,7 +15,7 @@ use Rattle.polygon.specs.Polygon.{Edge, ◌—◌, Ascending, Diagonal}
 use Rattle.polygon.specs.Tree.{far}
 use Rattle.polygon.proofs.Scan.{apex_before, far_same, far_other}
 use Rattle.keys.specs.Keys.{edge_of, edges_of}
-use Rattle.keys.specs.Tops.{Diagonals, Tops, apex_of, Apexes}
+use Rattle.keys.specs.Tops.{Diagonals, Tops, apex_of}
 
 -- at first, when no diagonal has been looked at
 pub tops_begin : (n : ℕ) (top : List ℕ) → n ≤ 1024 → ((c : ℕ) → c < 1024 → get_or top c 0 ≡ suc c) → Tops n [] top
@@ -85,8 +85,3 @@ module _ (n : ℕ) (keys : List ℕ) (D : Diagonals n (edges_of keys)) (j : ℕ)
       tops = rw (add-one j, next_edges) next_tops;
       apexes = table_next (λ i. apex_of (edges_of keys) (get_or (edges_of keys) i (0 — 0))) apex j (get_or top e.0 0) (omega (arith, S.apex_size)) apex_now S.apexes;
     }
-
-pub scanned_end : (n : ℕ) (keys : List ℕ) (room : ℕ) (top apex : List ℕ) (j : ℕ) → Scanned n keys room top apex j → length keys ≤ j → Tops n (edges_of keys) top × Apexes (edges_of keys) apex
-scanned_end n keys room top apex j S h =
-    let T : Tops n (edges_of (take j keys)) top = S.tops in
-    (rw (take_all j keys h) at T, λ i k. S.apexes i (omega (arith, S.upto, length-map keys edge_of)))

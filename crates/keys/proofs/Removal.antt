@@ -1,11 +1,10 @@
 -- A bend taken out by its key, one step of a pass over the list at a time; bends and edges without one are the same.
-use mathlib.Core.Path.{◌≡◌, refl, ap, sym, ◌∙◌}
+use mathlib.Core.Path.{◌≡◌, refl, ap}
 use mathlib.Core.List.{List, [], ◌∷◌}
 use Prim.Native.Nat.{ℕ, ◌+◌, ◌<◌, ◌≤◌}
 use native.Mathlib.Decide.{ℕ_discrete}
 use native.Mathlib.Omega.{arith}
 use lib.ListN.{length, take, set, get_or, length-set}
-use lib.Seq.{take_all, length-take-le}
 use Rattle.lists.specs.Lists.{Mem, Sub, head, keep, not?, put, tail}
 use Rattle.lists.proofs.Lists.{keep_sub}
 use Rattle.lists.proofs.Kept.{kept_next, kept_past}
@@ -44,11 +43,6 @@ module _ {k : ℕ} {keys : List ℕ} {size : ℕ} {out : List ℕ} {left j : ℕ
       kept = simp length-set R.kept;
       done = kept_next (λ b. not? (ℕ_discrete (key_in b) k)) keys out left j 0 more R.done (omega (arith, R.low, R.kept)) f;
     }
-
-  pub removing_end : length keys ≤ j → (take left out ≡ remove_key k keys) × (left ≡ length (remove_key k keys))
-  removing_end h =
-      let d : take left out ≡ remove_key k keys = R.done ∙ ap (remove_key k) (take_all j keys h) in
-      (d, sym (length-take-le left out (omega (arith, R.low, R.upto, R.kept))) ∙ ap length d)
 
 -- edges are the same only if their keys are
 key_of_edge : (x y : ℕ) → edge_of x ≡ edge_of y → x ≡ y

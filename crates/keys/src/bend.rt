@@ -41,6 +41,7 @@ pub fn code_of(a: usize) -> u32
 {
     let x = (a + 1800) % 65536;
     if x > 3600 {
+        // what may not change: 4,095 is part of the packed number, by the definition code_of
         return 4095;
     }
     x as u32
@@ -51,9 +52,7 @@ pub fn keys_in(bends: &[u32], keys: &mut [u32])
     requires { length keys.old ≡ length bends.now }
     ensures { keys.new ≡ keys_in bends.now }
 {
-    let mut j = 0;
-    while j < bends.len() {
-        keys[j] = key_in(bends[j]);
-        j += 1;
+    for (j, &b) in bends.iter().enumerate() {
+        keys[j] = key_in(b);
     }
 }

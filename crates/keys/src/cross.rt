@@ -12,10 +12,8 @@ fn begin(top: &mut [u16])
     requires { length top.old ≡ 1024 }
     ensures { (c : ℕ) → c < 1024 → get_or top.new c 0 ≡ suc c }
 {
-    let mut c = 0;
-    while c < CORNERS {
-        top[c] = (c + 1) as u16;
-        c += 1;
+    for (c, farthest) in top.iter_mut().enumerate() {
+        *farthest = (c + 1) as u16;
     }
 }
 
@@ -27,12 +25,10 @@ pub fn apexes(keys: &[u32], n: usize, top: &mut [u16], apex: &mut [u16])
     ensures apexes { Apexes (edges_of keys.now) apex.new }
 {
     begin(top);
-    let mut j = 0;
-    while j < keys.len() {
-        let u = low(keys[j]);
+    for (j, &k) in keys.iter().enumerate() {
+        let u = low(k);
         apex[j] = top[u];
-        top[u] = high(keys[j]) as u16;
-        j += 1;
+        top[u] = high(k) as u16;
     }
 }
 
@@ -43,13 +39,10 @@ fn reaches(keys: &[u32], top: &[u16], apex: &[u16]) -> bool
     ensures yes { result ≡ true → Reaches keys.now top.now apex.now }
     ensures no { result ≡ false → Fails keys.now top.now apex.now }
 {
-    let mut j = 0;
-    while j < keys.len() {
-        let c = apex[j] as usize;
-        if top[c] as usize != high(keys[j]) {
+    for (&k, &c) in keys.iter().zip(apex) {
+        if top[c as usize] as usize != high(k) {
             return false;
         }
-        j += 1;
     }
     true
 }

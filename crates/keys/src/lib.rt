@@ -1,6 +1,6 @@
 // Diagonals as keys in the code: the edge (a,b), lower corner first, is the number a * 1,024 + b, so that keys ascend as edges do.
 // A bend is such a number with its angle beside it (bend.rt).
-// sort.rt puts bends in order, merge.rt merges ascending tables, cross.rt finds out whether two diagonals cross, change.rt looks for a key and takes a bend out.
+// sort.rt puts bends in order, merge.rt merges ascending tables, cross.rt finds out whether two diagonals cross, change.rt takes a bend out.
 #![tactic(auto)]
 
 ghost use Rattle.std.specs.Prelude.{◌≡◌, ◌+◌, ◌*◌, ◌/◌, ◌%◌, ◌<◌};

@@ -53,16 +53,20 @@ module _ {tr ds path : List ℕ} {from e₀ : ℕ} {t₀ : Tree} where
     pub turn_rises : Rising tr ds' path from e₀ t₀ j
     turn_rises = record { e = T.e; t = node T.l T.r; passed = passed_grows turn_grows (λ i h. refl) T.passed; deep = stored_deep T.held room ds' is }
 
+  -- the way up begins no lower than the path does
+  passed_from : {k e : ℕ} {t : Tree} → Passed tr ds path from e₀ t₀ k e t → from ≤ k
+  passed_from (begun p q z) = omega arith
+  passed_from (left p s x y d) = omega (arith, passed_from s)
+  passed_from (right p s x y d) = omega (arith, passed_from s)
+
+  pub rising_from : {k : ℕ} → Rising tr ds path from e₀ t₀ k → from ≤ k
+  rising_from R = passed_from R.passed
+
   -- at the place where the path begins the way is back
   pub back_at_start : (k : ℕ) → k ≤ from → Rising tr ds path from e₀ t₀ k → Deep tr ds e₀ t₀
   back_at_start k h R = go R.passed R.deep
     where
-      below : {k e : ℕ} {t : Tree} → Passed tr ds path from e₀ t₀ k e t → from ≤ k
-      below (begun p q z) = omega arith
-      below (left p s x y d) = omega (arith, below s)
-      below (right p s x y d) = omega (arith, below s)
-
       go : {e : ℕ} {t : Tree} → Passed tr ds path from e₀ t₀ k e t → Deep tr ds e t → Deep tr ds e₀ t₀
       go (begun p q z) d = rw (q, z) at d
-      go (left p s x y a) d = absurd (omega (arith, below s))
-      go (right p s x y a) d = absurd (omega (arith, below s))
+      go (left p s x y a) d = absurd (omega (arith, passed_from s))
+      go (right p s x y a) d = absurd (omega (arith, passed_from s))

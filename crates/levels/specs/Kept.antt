@@ -82,6 +82,11 @@ pub record PartsHeld (tr ds : List ℕ) (e : ℕ) (l r : Tree) : Type 0 where
   pub deep_l : Deep tr ds (e - 1) l
   pub deep_r : Deep tr ds (right_edge tr e) r
 
+-- tables that are not filled yet
+pub record Blank (tr ds : List ℕ) : Type 0 where
+  pub no_edges : (i : ℕ) → get_or tr i 0 ≡ 0
+  pub no_values : (i : ℕ) → get_or ds i 0 ≡ 0
+
 -- the tables of a part with n corners and the tree t, p being the whole part
 pub record Filled (n : ℕ) (t : Tree) (tr ds : List ℕ) (p : Root) : Type 0 where
   pub kept : length tr ≡ 3072

@@ -1,15 +1,16 @@
 // The six values of each edge by the steps of document 004, chapter 6, in its order: the handle's, the fans', the partial umbrellas', the whole's.
 // They are worked out recursively over the tree: a piece's larger part is gone into, a call is made for the smaller one, and the span v - u falls at each.
 // They are kept in one table of bytes, six for each edge, the edges ascending; 0 for a side other than the root.
-// Definitions: Values.antt of the crate umbrella; specs/Kept.antt says how the table holds them. (`kept` in proofs/Theorems.antt: what stands at the place of each edge.)
+// Definitions: Values.antt of the crate umbrella; specs/Kept.antt says how the table holds them.
+// (`kept` in proofs/Theorems.antt: what stands at the place of each edge.)
 #![tactic(auto)]
 
 ghost use Rattle.std.specs.Prelude.{◌≡◌, ◌⊎◌, ℕ, ◌+◌, ◌*◌, ◌-◌, ◌<◌, ◌≤◌, max, min, length, get_or};
 ghost use Rattle.polygon.specs.Polygon.{Triangulated};
 ghost use Rattle.polygon.specs.Tree.{Tree, leaf, node, tree_of};
 ghost use Rattle.keys.specs.Keys.{edges_of};
-ghost use Rattle.tree.specs.Table.{right_edge, TreeAt, SomeTreeAt};
-ghost use Rattle.levels.specs.Kept.{six, join, SideZero, six_at, with_six, Small, Leaves, Deep, PartsHeld, Grows, Rising, Filled};
+ghost use Rattle.tree.specs.Table.{right_edge, TreeAt, SomeTreeAt, beyond};
+ghost use Rattle.levels.specs.Kept.{six, join, SideZero, six_at, with_six, Small, Leaves, Deep, PartsHeld, Grows, Rising, Blank, Filled};
 
 use keys::CORNERS;
 use tree::{LAST, PLACES, Root, Two, build, open};
@@ -28,20 +29,11 @@ pub struct Six {
     pub ud: u16,
 }
 
-// The larger of two numbers.
-fn larger(a: u16, b: u16) -> u16
-    ensures { result ≡ max a b }
-{
-    if a < b { b } else { a }
-}
-
 // The smaller of the larger of a and b and the larger of c and d.
 fn least(a: u16, b: u16, c: u16, d: u16) -> u16
     ensures { result ≡ min (max a b) (max c d) }
 {
-    let x = larger(a, b);
-    let y = larger(c, d);
-    if x < y { x } else { y }
+    a.max(b).min(c.max(d))
 }
 
 // Lemma 6.4 at a corner: 0 if the piece beside it has no levels, being empty; else by the fan of that piece and the piece that hangs on it.
@@ -52,7 +44,7 @@ fn fan(beside: u16, fan: u16, ud: u16) -> u16
     if beside == 0 {
         return 0;
     }
-    larger(fan, ud)
+    fan.max(ud)
 }
 
 // Lemma 6.6 likewise, with a stem through at most one of the pieces that hang.
@@ -108,26 +100,19 @@ fn of_side() -> Six
     }
 }
 
-// A value as it is kept.
-fn wide(x: u8) -> u16
-    ensures { result ≡ x }
-{
-    x as u16
-}
-
 // The values that stand at an edge.
-pub fn values(depths: &[u8; VALUES], e: usize) -> Six
+fn values(depths: &[u8; VALUES], e: usize) -> Six
     requires { e < 2045 }
     ensures { result ≡ six_at depths.now e }
 {
     let i = 6 * e;
     Six {
-        handle: wide(depths[i]),
-        fan_a: wide(depths[i + 1]),
-        fan_b: wide(depths[i + 2]),
-        partial_a: wide(depths[i + 3]),
-        partial_b: wide(depths[i + 4]),
-        ud: wide(depths[i + 5]),
+        handle: u16::from(depths[i]),
+        fan_a: u16::from(depths[i + 1]),
+        fan_b: u16::from(depths[i + 2]),
+        partial_a: u16::from(depths[i + 3]),
+        partial_b: u16::from(depths[i + 4]),
+        ud: u16::from(depths[i + 5]),
     }
 }
 
@@ -155,6 +140,7 @@ fn right_edge(tree: &[u32; PLACES], e: usize) -> usize
     tree[LAST + c] as usize
 }
 
+// No plainer as one function with the next: the place is looked up in the tree here alone, and only where there is an edge, so it would be a closure.
 // The values of the edge (d,c) beyond the edge (a,c) at e, whose own are ac; those of a side if it is one.
 fn beyond_left(tree: &[u32; PLACES], depths: &[u8; VALUES], e: usize, ac: Six) -> Six
     requires { 0 < ac.ud → (1 ≤ e) × (e < 2045) × (right_edge tree.now e < 2045) }
@@ -179,6 +165,8 @@ fn beyond_right(depths: &[u8; VALUES], e: usize, cb: Six) -> Six
     values(depths, e - 1)
 }
 
+// Here and in those below that store, the tree and the values come apart and not as `Tables`: the tree is read while the values are written.
+// As one they would be no plainer: each would have to ensure that the tree stays, and each loop to keep it.
 // Stores the values of an edge that is no side, from those of the edges of the pieces beyond its triangle.
 fn join_at(tree: &[u32; PLACES], depths: &mut [u8; VALUES], e: usize)
     requires { (l : Tree) × (r : Tree) × PartsHeld tree.now depths.old e l r }
@@ -209,10 +197,8 @@ fn ascend(
     ensures deep { (e : ℕ) (t : Tree) → Rising tree.now depths.old path.now from e t upto
         → Deep tree.now depths.new e t }
 {
-    let mut k = upto;
-    while k > from {
-        k -= 1;
-        join_at(tree, depths, path[k] as usize);
+    for &e in path[from..upto].iter().rev() {
+        join_at(tree, depths, usize::from(e));
     }
 }
 
@@ -240,7 +226,7 @@ fn ear(tree: &[u32; PLACES], depths: &mut [u8; VALUES], p: Root)
     ensures deep { (t : Tree) → TreeAt tree.now p.e p.u p.v t → Deep tree.now depths.new p.e t }
 {
     if p.u + 1 < p.v {
-        join_at(tree, depths, p.e as usize);
+        join_at(tree, depths, usize::from(p.e));
     }
 }
 
@@ -277,15 +263,52 @@ pub fn levels(
     ascend(tree, depths, path, from, k);
 }
 
-// Fills the two tables of a part from the keys of its diagonals, and gives the whole part.
-pub fn fill(keys: &[u32], n: usize, tree: &mut [u32; PLACES], depths: &mut [u8; VALUES]) -> Root
-    requires part { Triangulated n (edges_of keys.now) × (n ≤ 1024) }
-    requires room { (length tree.old ≡ 3072) × (length depths.old ≡ 12270) }
-    requires fresh { ((i : ℕ) → get_or tree.old i 0 ≡ 0) × ((i : ℕ) → get_or depths.old i 0 ≡ 0) }
-    ensures { Filled n (tree_of n (edges_of keys.now)) tree.new depths.new result }
-{
-    let p = build(keys, n, tree);
-    let mut path = [0u16; CORNERS];
-    levels(tree, depths, &mut path, 0, p);
-    p
+// The tables of a part: its tree, the six values of each edge, and the whole part.
+#[derive(Drop)]
+pub struct Tables {
+    pub tree: [u32; PLACES],
+    pub depths: [u8; VALUES],
+    pub root: Root,
+}
+
+impl Tables {
+    // Tables that are not filled yet.
+    pub fn new() -> Tables
+        ensures { Blank result.tree result.depths }
+    {
+        Tables {
+            tree: [0; PLACES],
+            depths: [0; VALUES],
+            root: Root { e: 0, u: 0, v: 0 },
+        }
+    }
+
+    // Fills them, where they stand, from the keys of the diagonals of a part of n corners.
+    pub fn fill(&mut self, keys: &[u32], n: usize)
+        requires part { Triangulated n (edges_of keys.now) × (n ≤ 1024) }
+        requires fresh { Blank self.old.tree self.old.depths }
+        ensures { Filled n (tree_of n (edges_of keys.now)) self.new.tree self.new.depths self.new.root }
+    {
+        let root = build(keys, n, &mut self.tree);
+        let mut path = [0u16; CORNERS];
+        levels(&self.tree, &mut self.depths, &mut path, 0, root);
+        self.root = root;
+    }
+
+    // The values that stand at an edge.
+    pub fn values(&self, e: u16) -> Six
+        requires { e < 2045 }
+        ensures { result ≡ six_at self.now.depths e }
+    {
+        values(&self.depths, usize::from(e))
+    }
+
+    // Opens a piece that is no side.
+    pub fn open(&self, p: Root) -> Two
+        requires shown { SomeTreeAt self.now.tree p }
+        requires apart { p.u + 1 < p.v }
+        ensures { result ≡ beyond self.now.tree p }
+    {
+        open(&self.tree, p)
+    }
 }

@@ -1,7 +1,7 @@
 -- Lists by their places: the element at a place, all elements by their places, tables that are stored to; the numbers below n, what holds of each and of each two of them.
 use mathlib.Core.Path.{◌≡◌, refl, sym, ◌∙◌, ap, ap₂, subst}
 use mathlib.Core.List.{List, [], ◌∷◌, ◌++◌, map, map-append, reverse, reverse-cons}
-use Prim.Native.Nat.{ℕ, zero, suc, ◌+◌, ◌-◌, ◌≤◌, ◌<◌}
+use Prim.Native.Nat.{ℕ, zero, suc, ◌+◌, ◌≤◌, ◌<◌}
 use native.Mathlib.Decide.{dec_lt, ℕ_discrete}
 use native.Mathlib.Numerals.{add-one}
 use native.Mathlib.Omega.{arith}
@@ -66,9 +66,6 @@ module _ {A B : Type 0} (f : A → B) where
   nth_unmap {j = zero} (x ∷ l) n = (x, now refl, nth_first n)
   nth_unmap {j = suc j} (x ∷ l) n = let (z, m, e) = nth_unmap l (nth_next n) in (z, next m, e)
 
-pub get_d_reverse : (xs : List ℕ) (j : ℕ) → j < length xs → get_or (reverse xs) j 0 ≡ get_or xs (length xs - 1 - j) 0
-get_d_reverse xs j h = nth_same (nth_get_d (reverse xs) j 0 (omega (arith, length-reverse xs))) (nth_reverse j (omega arith) (nth_get_d xs (length xs - 1 - j) 0 (omega arith)))
-
 -- a property of each element by its place
 pub all_at : {A : Type 0} {Q : A → Type 0} (d : A) (l : List A) → ((j : ℕ) → j < length l → Q (get_or l j d)) → All Q l
 all_at d [] f = all_nil
@@ -78,12 +75,6 @@ pub at_all : {A : Type 0} {Q : A → Type 0} (d : A) {l : List A} → All Q l �
 at_all d all_nil j h = absurd (omega arith)
 at_all d (all_cons q a) zero h = q
 at_all d (all_cons q a) (suc j) h = at_all d a j (omega arith)
-
--- membership by the place
-pub at_mem : (k : ℕ) (ks : List ℕ) (j : ℕ) → j < length ks → get_or ks j 0 ≡ k → Mem k ks
-at_mem k [] j h e = absurd (omega arith)
-at_mem k (x ∷ ks) zero h e = head (sym e)
-at_mem k (x ∷ ks) (suc j) h e = tail (at_mem k ks j (omega arith) e)
 
 pub mem_at : (k : ℕ) (ks : List ℕ) → Mem k ks → (j : ℕ) × (j < length ks) × (get_or ks j 0 ≡ k)
 mem_at k (x ∷ ks) (head e) = (0, omega arith, sym e)
@@ -182,14 +173,6 @@ module _ {R : ℕ → ℕ → Type 0} where
   unfolding below
   below_sorted_by n f = numbers_sorted_by n 0 (λ x y h i j. f x y i (omega arith))
 
-  -- one more
-  pub two_more : (n : ℕ) → ((x y : ℕ) → x < y → y < n → R x y) → ((x : ℕ) → x < n → R x n) → (x y : ℕ) → x < y → y < n + 1 → R x y
-  two_more n f g x y h k = go (dec_lt y n)
-    where
-      go : Dec (y < n) → R x y
-      go (yes p) = f x y h p
-      go (no p) = let e : n ≡ y = omega arith in rw e at (g x (omega arith))
-
 -- the numbers below i + 1
 numbers_next : (k u : ℕ) → numbers (suc k) u ≡ numbers k u ++ ((u + k) ∷ [])
 unfolding numbers
@@ -214,14 +197,6 @@ map_places g h d (x ∷ l) u f =
 pub map_below : {B : Type 0} (g h : ℕ → B) (n : ℕ) → ((i : ℕ) → i < n → g i ≡ h i) → map g (below n) ≡ map h (below n)
 unfolding below
 map_below g h n f = map_same (all_imp (λ x k. f x (omega arith)) (numbers_in n 0))
-
--- what no number from a place on before x has, and x has not, no number before x + 1 has
-pub between_more : (Q : ℕ → Type 0) (from x : ℕ) → ((y : ℕ) → from ≤ y → y < x → ¬ Q y) → ¬ Q x → (y : ℕ) → from ≤ y → y < x + 1 → ¬ Q y
-between_more Q from x f g y a b q = go (ℕ_discrete y x)
-  where
-    go : Dec (y ≡ x) → ⊥
-    go (yes e) = g (rw e at q)
-    go (no e) = f y a (omega arith) q
 
 -- one element more of a list under a function; and of a table that a loop fills with its values
 pub map_next : {A B : Type 0} (f : A → B) (l : List A) (j : ℕ) (d : A) → j < length l → map f (take (j + 1) l) ≡ map f (take j l) ++ (f (get_or l j d) ∷ [])

@@ -1,11 +1,14 @@
 -- Stores of a run of values into a list, one after another: `sets l i vs` of the kit's lib.Seq.
-use mathlib.Core.Path.{◌≡◌, refl, ◌∙◌, ap}
+use mathlib.Core.Path.{◌≡◌, refl, sym, ◌∙◌, ap, ap₂}
 use mathlib.Core.List.{List, [], ◌∷◌, ◌++◌}
 use Prim.Native.Nat.{ℕ, zero, suc, ◌+◌, ◌<◌, ◌≤◌}
 use native.Mathlib.Nat.{add-zero, zero-add}
 use native.Mathlib.Omega.{arith}
 use lib.ListN.{length, drop, get_or, set, length-set}
 use lib.Seq.{sets, sets-eq, set_comm, get_or-set_same, get_or-set_other}
+use Rattle.std.proofs.lemmas.List.{take-append-drop}
+use Rattle.std.proofs.lemmas.Slice.{take-put_mid, drop-put_mid}
+use borrow.Rule.Slice.PartMut.{put_mid}
 
 -- a run after a run
 pub sets_append : (xs ys l : List ℕ) (i : ℕ) → sets l i (xs ++ ys) ≡ sets (sets l i xs) (i + length xs) ys
@@ -39,3 +42,10 @@ sets_within (x ∷ xs) l i zero h k = rw (add-zero i) (sets_outside xs (set l i 
 sets_within (x ∷ xs) l i (suc j) h k =
     let e : i + suc j ≡ suc i + j = omega arith in
     rw e (sets_within xs (set l i x) (suc i) j (omega arith) (omega (arith, length-set l i x)))
+
+-- a run copied into a part of a list by `copy_from_slice`
+pub sets_mid : (a k : ℕ) (xs ys : List ℕ) → k ≡ length ys → a + length ys ≤ length xs → put_mid a k xs ys ≡ sets xs a ys
+sets_mid a k xs ys e h =
+    sym (take-append-drop (a + k) (put_mid a k xs ys))
+    ∙ (ap₂ ◌++◌ (take-put_mid a k xs ys (a + k) (omega arith) (omega arith)) (drop-put_mid a k xs ys (a + k) (omega arith) (omega arith) (sym e))
+    ∙ (rw e (sym (sets-eq ys xs a h))))

@@ -1,11 +1,10 @@
 -- Runs of bytes written one behind the other.
 use mathlib.Core.Path.{◌≡◌, ap, ◌∙◌}
-use mathlib.Core.List.{List, [], ◌∷◌, ◌++◌}
-use Prim.Native.Nat.{ℕ, ◌+◌, ◌<◌}
-use native.Mathlib.Numerals.{add-one}
+use mathlib.Core.List.{List, ◌++◌}
+use Prim.Native.Nat.{ℕ}
 use native.Mathlib.Omega.{arith}
-use lib.ListN.{length, take, get_or, set, length-append}
-use lib.Seq.{sets, length-sets, take-suc, length-take-le}
+use lib.ListN.{length, length-append}
+use lib.Seq.{length-sets}
 use Rattle.lists.proofs.Stores.{sets_append}
 use Rattle.log_line.specs.Put.{Put}
 
@@ -18,9 +17,3 @@ put_then {xs} {ys} {o₀} {o₁} {o₂} {a} {b} {c} p q = record {
 -- the length stays
 pub put_length : {xs o₀ o₁ : List ℕ} {a b : ℕ} → Put xs o₀ a o₁ b → length o₁ ≡ length o₀
 put_length {xs} {o₀} {o₁} {a} p = ap length p.bytes ∙ length-sets o₀ a xs
-
--- one byte more of a word
-pub word_next : (word out : List ℕ) (at i : ℕ) → i < length word → set (sets out at (take i word)) (at + i) (get_or word i 0) ≡ sets out at (take (i + 1) word)
-word_next word out at i h =
-    let n : length (take i word) ≡ i = length-take-le i word (omega arith) in
-    rw (add-one i, take-suc word i 0 h, sets_append (take i word) (get_or word i 0 ∷ []) out at, n)

@@ -78,9 +78,6 @@ module _ {S E : List ℕ} (O : InOrder S E) {j : ℕ} (small : j < 65536) {top b
   pub walk_short : top ≤ bottom → bottom ≤ top + 1 → Answer S E j top bottom last none
   walk_short b l = seen_all S E O j small top bottom last none (top + 1) b l (λ r m h. absurd (omega arith)) (λ _. refl)
 
-  pub walk_start : {a i : ℕ} → a ≡ (top + 1) * 65536 + j → Cut E a i → Walk S E j top bottom last none (top + 1) i
-  walk_start e C = record { below = omega arith; seen = λ r l h. absurd (omega arith); only = λ _. refl; passed = cut_within ((top + 1) * 65536 + j) (omega arith) C }
-
   module _ {f : Found} {row i₀ : ℕ} (W : Walk S E j top bottom last f row i₀) where
     pub walk_end : top ≤ bottom → bottom ≤ row → Answer S E j top bottom last f
     walk_end b l = seen_all S E O j small top bottom last f row b l W.seen W.only

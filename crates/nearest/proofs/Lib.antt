@@ -1,3 +1,4 @@
+pub mod Seeking
 pub mod Areas
 pub mod Line
 pub mod Spans

@@ -1,4 +1,5 @@
 -- Spans in order (specs/Order.antt): which addresses no span has, and which span is nearest a cell.
+use Rattle.std.specs.Prelude.{Option, Some, None}
 use mathlib.Core.Path.{◌≡◌, refl, sym, ◌∙◌, ap, subst}
 use mathlib.Core.List.{List}
 use mathlib.Core.Logic.{◌⊎◌, inl, inr}
@@ -8,11 +9,10 @@ use native.Mathlib.Omega.{arith}
 use lib.ListN.{length, get_or}
 use Rattle.chart.specs.Chart.{Bar}
 use Rattle.nearest.specs.declared.Cell.{Cell}
-use Rattle.nearest.specs.declared.Nearest as code
-use Rattle.nearest.specs.declared.Nearest.TheVariants as variants
 use Rattle.nearest.specs.Cells.{cell, HasCell, Amid, Inside, Stands}
 use Rattle.nearest.specs.Nearest.{none, bar, apart, away, IsNearest, nearest, found_of}
 use Rattle.nearest.specs.Order.{address, span_at, Climbs, Cut, InOrder, Ordered}
+use Rattle.nearest.proofs.Seeking.{climb}
 use Rattle.nearest.proofs.Line.{nearest_of, of_nearest, none_of, of_none}
 
 -- a span of addresses s to e, on one row, has a cell exactly if it has the cell's address
@@ -57,9 +57,6 @@ nearer p q at d (inr h) (inr k) l = inr (
   amid_nearer _ q.row _ _ _ _ h.2 k.2 (apart_sum _ _) (apart_sum _ _)
       ((less_of _ _ _ _ (apart_none p.column d.column k.0) (apart_none p.column at.column h.0)).1 l),
 )
-
-pub climb : (t : List ℕ) → Climbs t → (i j : ℕ) → i ≤ j → j < length t → get_or t i 0 ≤ get_or t j 0
-climb t C i j h k = elim (dec_lt i j) [ yes l ↦ C i j l k | no l ↦ (let e : i ≡ j = omega arith in rw e (omega arith)) ]
 
 -- no span has the address a; none has an address from x up to y, y not counted
 abbrev pub Void : List ℕ → List ℕ → ℕ → Type 0
@@ -151,10 +148,10 @@ module _ (bars : ℕ → Bar) (n : ℕ) (S E C : List ℕ) (O : Ordered bars n S
   place : (x : ℕ) → x < n → (i : ℕ) × (i < length S) × (get_or C i 0 ≡ x) × (span_at S E i ≡ bars x)
   place x k = let (i, l, h) = O.place x k in (i, omega (arith, O.count), h, O.held i l ∙ ap bars h)
 
-  pub corner_none : (r : code.Nearest) → r ≡ variants.None → found_of r ≡ nearest (span_at S E) (length S) e → none ≡ nearest bars n e
+  pub corner_none : (r : Option ℕ) → r ≡ None → found_of r ≡ nearest (span_at S E) (length S) e → none ≡ nearest bars n e
   corner_none r w h = sym (none_of bars n e λ x k s. let P = place x k in of_none (span_at S E) (length S) e (sym h ∙ ap found_of w) P.0 P.1 (subst (Stands e) (sym P.3) s))
 
-  module _ (r : code.Nearest) (i : ℕ) (w : r ≡ variants.Bar i) (h : found_of r ≡ nearest (span_at S E) (length S) e) where
+  module _ (r : Option ℕ) (i : ℕ) (w : r ≡ Some i) (h : found_of r ≡ nearest (span_at S E) (length S) e) where
     found : IsNearest (span_at S E) (length S) e i
     found = of_nearest (span_at S E) (length S) e i (sym h ∙ ap found_of w)
 

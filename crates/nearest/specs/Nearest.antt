@@ -1,12 +1,10 @@
 -- Request (x): "The small question behind the chart reader, .., whether a bar stands between two cells of a row or column, neither cell counted, now answers with the corner of such a bar nearest the first cell
 -- (the lowest if bars share a cell), or none exactly if there is no such bar." Cells.antt says when a bar stands between two cells. The bars are any n of them, tested or not: one with left > right has no cell.
-use Rattle.std.specs.Prelude.{List, [], ◌∷◌, ℕ, ◌+◌, ◌-◌, ◌≤◌, ◌<◌, min, max}
+use Rattle.std.specs.Prelude.{List, [], ◌∷◌, Option, Some, None, ℕ, ◌+◌, ◌-◌, ◌≤◌, ◌<◌, min, max}
 use Rattle.std.proofs.Math.Decide.{dec_le, ℕ_discrete}
 use Rattle.lists.specs.Lists.{choose, numbers, below, three?}
 use Rattle.chart.specs.Chart.{Bar}
 use Rattle.nearest.specs.declared.Cell.{Cell}
-use Rattle.nearest.specs.declared.Nearest as code
-use Rattle.nearest.specs.declared.Nearest.TheVariants as variants
 use Rattle.nearest.specs.Cells.{cell, HasCell, Inside}
 
 -- "the corner .. or none"
@@ -64,6 +62,6 @@ unfoldable pub nearest : (ℕ → Bar) → ℕ → Cell × Cell → Found
 nearest bars n e = first (λ k. lowest_at bars n (step e k)) (numbers (steps e) 1)
 
 -- the paper's answer of each case of the code's
-abbrev pub found_of : code.Nearest → Found
-found_of variants.None = none
-found_of (variants.Bar x) = bar x
+abbrev pub found_of : Option ℕ → Found
+found_of None = none
+found_of (Some x) = bar x

@@ -4,8 +4,9 @@ ghost use Rattle.lists.specs.Lists.{All, below};
 ghost use Rattle.chart.specs.Decode.{chart_in, bar_of};
 ghost use Rattle.nearest.specs.BarRule.{LiesIn, Lies, BarRule};
 ghost use Rattle.nearest.specs.Held.{Bars};
-ghost use Rattle.nearest.specs.Order.{Ordered};
+ghost use Rattle.nearest.specs.Order.{OrderedBars};
 
+use crate::Span;
 use crate::order::put_in_order;
 use chart::{Bar, corner_bar};
 use codec::get16;
@@ -15,13 +16,7 @@ fn lies(b: Bar, rows: usize, columns: usize) -> bool
     ensures yes { result ≡ true → LiesIn rows columns (bar_of b) }
     ensures no { result ≡ false → LiesIn rows columns (bar_of b) → ⊥ }
 {
-    if b.left > b.right {
-        return false;
-    }
-    if b.right as usize >= columns {
-        return false;
-    }
-    (b.row as usize) < rows
+    b.left <= b.right && (b.right as usize) < columns && (b.row as usize) < rows
 }
 
 // Whether each bar does.
@@ -32,32 +27,16 @@ fn all_lie(chart: &[u8], n: usize) -> bool
 {
     let rows = get16(chart, 0);
     let columns = get16(chart, 2);
-    let mut x = 0;
-    while x < n {
-        if !lies(corner_bar(chart, x), rows, columns) {
-            return false;
-        }
-        x += 1;
-    }
-    true
+    (0..n).all(|x| lies(corner_bar(chart, x), rows, columns))
 }
 
-// Whether the bars keep their rule, with the bars in order in the tables if they do.
-pub fn bars_keep(
-    chart: &[u8],
-    n: usize,
-    starts: &mut [u32],
-    ends: &mut [u32],
-    corners: &mut [u16],
-) -> bool
+// Whether the bars keep their rule, with the bars in order in the table if they do.
+pub fn bars_keep(chart: &[u8], n: usize, spans: &mut [Span]) -> bool
     requires bars { Bars chart.now n × (n ≤ 1024) }
-    requires sizes { (length starts.old ≡ n) × (length ends.old ≡ n) × (length corners.old ≡ n) }
+    requires size { length spans.old ≡ n }
     ensures yes { result ≡ true → BarRule (chart_in chart.now)
-        × Ordered (chart_in chart.now).bar n starts.new ends.new corners.new }
+        × OrderedBars (chart_in chart.now).bar n spans.new }
     ensures no { result ≡ false → BarRule (chart_in chart.now) → ⊥ }
 {
-    if !all_lie(chart, n) {
-        return false;
-    }
-    put_in_order(chart, n, starts, ends, corners)
+    all_lie(chart, n) && put_in_order(chart, n, spans)
 }

@@ -15,9 +15,17 @@ pub struct Cell {
     pub column: usize,
 }
 
-// The answer to the question which bar is nearest: that of a corner, or none.
-#[derive(Drop)]
-pub enum Nearest {
-    None,
-    Bar(usize),
+// The bar of a corner: the addresses of its first and last cells (question.rt), and the corner.
+#[derive(Clone, Copy)]
+pub struct Span {
+    pub first: u32,
+    pub last: u32,
+    pub corner: u16,
 }
+
+// The span that a table holds before it is filled.
+pub const BLANK: Span = Span {
+    first: 0,
+    last: 0,
+    corner: 0,
+};

@@ -1,8 +1,7 @@
 -- From the values and counts of a part to what the operation answers.
 -- Rests on Counted.antt and on the theorems of the crate umbrella.
 use mathlib.Core.Path.{◌≡◌, ◌∙◌}
-use Prim.Native.Nat.{ℕ, ◌+◌, ◌*◌}
-use native.Mathlib.Omega.{arith}
+use Prim.Native.Nat.{ℕ}
 use Rattle.polygon.specs.Tree.{Tree}
 use Rattle.umbrella.specs.Best.{best}
 use Rattle.umbrella.proofs.Theorems.{computed_has}
@@ -10,19 +9,9 @@ use Rattle.umbrella.specs.declared.roles.Role.TheVariants.{Hung}
 use Rattle.levels.specs.declared.Six.{Six}
 use Rattle.levels.specs.Kept.{six}
 use Rattle.plan.specs.declared.counts.Tally.{Tally}
-use Rattle.plan.specs.declared.Planned.{Planned}
-use Rattle.plan.specs.declared.Planned.TheVariants.{Counts, Refused}
 use Rattle.plan.specs.Counts.{counted, totals_of}
-use Rattle.plan.specs.Answer.{planned_of, packed_plan}
 use Rattle.plan.proofs.Counted.{counted_best}
 
 -- the counts of the plan drawn
 pub totals_are : (t : Tree) (d : ℕ) (s : Six) (x : Tally) → s ≡ six t → x ≡ counted Hung d t → record { levels = s.ud; umbrellas = x.umbrellas; stems = x.stems } ≡ totals_of (best t)
 totals_are t d s x p q = let k = q ∙ counted_best t d in rw (p, k, ← computed_has t)
-
--- the two cases in one number
-pub packed_counts : (p : Planned) (l u s : ℕ) → p ≡ Counts l u s → l * 65536 + u * 4294967296 + s * 281474976710656 ≡ packed_plan (planned_of p)
-packed_counts p l u s e = rw e (omega arith)
-
-pub packed_no_plan : (p : Planned) (k : ℕ) → p ≡ Refused k → k ≡ packed_plan (planned_of p)
-packed_no_plan p k e = rw e (omega arith)

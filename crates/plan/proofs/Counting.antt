@@ -6,13 +6,14 @@ use mathlib.Core.Bool.{Bool, true, false}
 use mathlib.Core.List.{List}
 use Prim.Native.Nat.{ℕ, ◌+◌, ◌-◌, ◌≤◌, ◌<◌, min, max}
 use native.Mathlib.Omega.{arith}
+use Rattle.std.specs.Prelude.{Some, None}
+use Rattle.std.proofs.lemmas.Option.{MatchOption-at_some, MatchOption-at_none}
 use Rattle.polygon.specs.Tree.{Tree, leaf, node, span}
 use Rattle.umbrella.specs.Values.{ud}
 use Rattle.umbrella.specs.declared.roles.Role.{Role}
 use Rattle.umbrella.specs.declared.roles.Role.TheVariants.{Hung, LeftRim, RightRim, FromLeft, FromRight}
 use Rattle.umbrella.specs.declared.roles.Step.{Step}
-use Rattle.umbrella.specs.Roles.{is_hung, step_at, step_of, levels_under}
-use Rattle.umbrella.proofs.Induction.{only_hung}
+use Rattle.umbrella.specs.Roles.{step_at, step_of, levels_under}
 use Rattle.tree.specs.declared.Root.{Root}
 use Rattle.tree.specs.declared.Two.{Two}
 use Rattle.tree.specs.Table.{beyond}
@@ -23,7 +24,7 @@ use Rattle.levels.proofs.Knowing.{TabledParts}
 use Rattle.plan.specs.declared.counts.Tally.{Tally}
 use Rattle.plan.specs.declared.counts.Spot.{Spot}
 use Rattle.plan.specs.declared.counts.Fork.{Fork}
-use Rattle.plan.specs.Counts.{adds, at_gate, weight, counted, spot, fork_of, low_fork, ToCount, Forked}
+use Rattle.plan.specs.Counts.{adds, at_gate, weight, counted, spot, fork_of, low_fork, ToCount, ForkedInto, Forked}
 use Rattle.plan.proofs.Counted.{counted_one_level}
 
 no_gate : (k : Bool) → at_gate 0 k ≡ 0
@@ -48,10 +49,6 @@ few x y h (node l r) p d =
     let s = step_of p d l r in
     let k : ℕ = levels_under p d (ud (node l r) - 1) in
     omega (arith, adds_few x y p s.crossed, few x y h l s.left k, few x y h r s.right k)
-
--- what a triangle adds, as it is worked out
-pub fork_is : (p : Role) (s : Step) (x y : Spot) {m n g : ℕ} → m ≡ adds p 1 0 → g ≡ at_gate 1 s.crossed → n ≡ adds p 0 g → ◌≡◌ {A = Fork} (record { adds = record { umbrellas = m; stems = n }; small = x; large = y }) (fork_of p s x y)
-fork_is p s x y e f g = rw (e, g, f)
 
 -- a piece beyond a triangle is left to be counted
 to_count : {tr ds : List ℕ} {p : Root} {t : Tree} (k : ℕ) (r : Role) → Tabled tr ds p.e p.u p.v t → ToCount tr ds (spot k p r) t
@@ -81,23 +78,8 @@ module _ {tr ds : List ℕ} (x : Spot) {own : Six} {t : Tree} (own_is : own ≡ 
   of_node y z = ap (weight y z x.role x.d) K.parts.is
 
   -- an umbrella with one level is counted at once
-  pub fork_low : {w : Fork} → own.ud ≡ 1 → is_hung x.role ≡ true → w ≡ low_fork (min (max own.fan_a own.fan_b) 1) → Forked tr ds x t w
-  unfolding weight
-  fork_low z h e =
-      let q = counted_one_level a c x.d (omega (arith, own_levels)) in
-      rw (e, own_six) (record {
-        small = leaf;
-        large = leaf;
-        left_small = nothing;
-        left_large = nothing;
-        less_small = omega (arith, K.parts);
-        less_large = omega (arith, K.parts);
-        umbrellas_are = of_node 1 0 ∙ rw (only_hung x.role h) (ap (λ (z : Tally). z.umbrellas) q ∙ omega arith);
-        stems_are = of_node 0 1 ∙ rw (only_hung x.role h) (ap (λ (z : Tally). z.stems) q ∙ omega arith);
-      })
-    where
-      nothing : ToCount tr ds (low_fork 0).small leaf
-      nothing = record { known = λ h. absurd (omega arith); none = λ h. refl; low = omega arith }
+  pub fork_low : {w : Fork} → own.ud ≡ 1 → x.role ≡ Hung → w ≡ low_fork (min (max own.fan_a own.fan_b) 1) → Forked tr ds x t w
+  fork_low z h e = rw (e, own_six) (ap (counted x.role x.d) K.parts.is ∙ rw h (counted_one_level a c x.d (omega (arith, own_levels))))
 
   -- else the two pieces beyond are left
   module _ {b : Two} {l r : Six} (two_is : b ≡ beyond tr x.piece) (left_is : l ≡ six_at ds b.left.e) (right_is : r ≡ six_at ds b.right.e) where
@@ -162,9 +144,17 @@ counting_begins x {t} K = record {
   narrower = omega arith;
 }
 
+module _ (tr ds : List ℕ) (x : Spot) (t : Tree) (w : Fork) where
+  -- where two pieces are left, and where none is
+  pub into : Forked tr ds x t w → (y z : Spot) → w.rest ≡ Some (y, z) → ForkedInto tr ds x t w.adds y z
+  into F y z e = MatchOption-at_some (counted x.role x.d t ≡ w.adds) (λ (p : Spot × Spot). ForkedInto tr ds x t w.adds p.0 p.1) (y, z) e F
+
+  pub low : Forked tr ds x t w → w.rest ≡ None → counted x.role x.d t ≡ w.adds
+  low F e = MatchOption-at_none (counted x.role x.d t ≡ w.adds) (λ (p : Spot × Spot). ForkedInto tr ds x t w.adds p.0 p.1) e F
+
 module _ {tr ds : List ℕ} {x₀ x : Spot} {m n : ℕ} (C : Counting tr ds x₀ x m n) where
-  pub counting_on : {w : Fork} (T : Forked tr ds x C.t w) {m' n' : ℕ}
-      → (m' ≡ m + w.adds.umbrellas + weight 1 0 w.small.role w.small.d T.small) × (n' ≡ n + w.adds.stems + weight 0 1 w.small.role w.small.d T.small) → Counting tr ds x₀ w.large m' n'
+  pub counting_on : {adds : Tally} {x' y' : Spot} (T : ForkedInto tr ds x C.t adds x' y') {m' n' : ℕ}
+      → (m' ≡ m + adds.umbrellas + weight 1 0 x'.role x'.d T.small) × (n' ≡ n + adds.stems + weight 0 1 x'.role x'.d T.small) → Counting tr ds x₀ y' m' n'
   counting_on T p = record {
     t₀ = C.t₀;
     t = T.large;
@@ -178,6 +168,13 @@ module _ {tr ds : List ℕ} {x₀ x : Spot} {m n : ℕ} (C : Counting tr ds x₀
   }
 
   -- at the end nothing is left
-  pub counting_ends : {t : Tree} → Tabled tr ds x₀.piece.e x₀.piece.u x₀.piece.v t → x.piece.v ≤ x.piece.u + 1 → ◌≡◌ {A = Tally} (record { umbrellas = m; stems = n }) (counted x₀.role x₀.d t)
-  unfolding weight
-  counting_ends K h = rw (one_piece K.shows C.whole.shows, ← C.umbrellas_are, ← C.stems_are, C.left.none h) (ap₂ (λ (y z : ℕ). record { umbrellas = y; stems = z }) (omega arith) (omega arith))
+  module _ {t : Tree} (K : Tabled tr ds x₀.piece.e x₀.piece.u x₀.piece.v t) where
+    pub counting_ends : x.piece.v ≤ x.piece.u + 1 → ◌≡◌ {A = Tally} (record { umbrellas = m; stems = n }) (counted x₀.role x₀.d t)
+    unfolding weight
+    counting_ends h = rw (one_piece K.shows C.whole.shows, ← C.umbrellas_are, ← C.stems_are, C.left.none h) (ap₂ (λ (y z : ℕ). record { umbrellas = y; stems = z }) (omega arith) (omega arith))
+
+    pub counting_ends_low : {adds : Tally} → counted x.role x.d C.t ≡ adds → ◌≡◌ {A = Tally} (record { umbrellas = m + adds.umbrellas; stems = n + adds.stems }) (counted x₀.role x₀.d t)
+    counting_ends_low {adds} e =
+        let u = ap (λ (z : Tally). z.umbrellas) e in
+        let s = ap (λ (z : Tally). z.stems) e in
+        rw (one_piece K.shows C.whole.shows, ← C.umbrellas_are, ← C.stems_are) (ap₂ (λ (y z : ℕ). record { umbrellas = y; stems = z }) (omega arith) (omega arith))

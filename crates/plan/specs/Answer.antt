@@ -1,12 +1,13 @@
 -- Document 01, "Operations and their refusals": Plan gives levels, umbrellas and stems of the plan drawn, or a refusal 1 to 7, or 23 of request (xi), and zeros.
-use Rattle.std.specs.Prelude.{◌≡◌, List, ℕ, ◌+◌, ◌*◌}
+use Rattle.std.specs.Prelude.{◌≡◌, List, ℕ, ◌+◌, ◌*◌, Result, Ok, Err}
 use Rattle.polygon.specs.Tree.{Tree}
+use Rattle.codec.specs.declared.refusal.Refusal.{Refusal}
+use Rattle.codec.specs.Numbered.{number_of}
 use Rattle.codec.specs.Unpacked.{number_in, levels_in, umbrellas_in, stems_in, OneNumber}
 use Rattle.sheet.specs.Sheet.{Reading, refused, held, read_sheet}
 use Rattle.umbrella.specs.Plan.{Plan, levels, umbrellas, stems}
 use Rattle.umbrella.specs.Best.{plan_of}
-use Rattle.plan.specs.declared.Planned.{Planned}
-use Rattle.plan.specs.declared.Planned.TheVariants.{Counts, Refused}
+use Rattle.plan.specs.declared.Totals.{Totals}
 
 pub record PlanAnswer : Type 0 where
   pub number : ℕ
@@ -31,9 +32,9 @@ unfoldable pub planned : List ℕ → PlanAnswer
 planned s = answer (read_sheet s)
 
 -- the number and the values of each case of the code's answer
-abbrev pub planned_of : Planned → PlanAnswer
-planned_of (Counts l u s) = record { number = 0; levels = l; umbrellas = u; stems = s }
-planned_of (Refused k) = plan_refusal k
+abbrev pub planned_of : Result Totals Refusal → PlanAnswer
+planned_of (Ok t) = record { number = 0; levels = t.levels; umbrellas = t.umbrellas; stems = t.stems }
+planned_of (Err r) = plan_refusal (number_of r)
 
 -- the answer in one number, for C: the number in the low 16 bits, then levels, umbrellas and stems, 16 bits each
 abbrev pub packed_plan : PlanAnswer → ℕ

@@ -1,6 +1,6 @@
 -- The umbrellas and stems of a piece, counted triangle by triangle by the roles of the pieces.
 -- (`counted_best` in proofs/Counted.antt: they are those of the plan drawn.)
-use Rattle.std.specs.Prelude.{◌≡◌, Bool, true, false, List, ℕ, ◌+◌, ◌-◌, ◌<◌, ◌≤◌}
+use Rattle.std.specs.Prelude.{◌≡◌, Bool, true, false, List, ℕ, ◌+◌, ◌-◌, ◌<◌, ◌≤◌, Some, None, MatchOption}
 use Rattle.polygon.specs.Tree.{Tree, leaf, node}
 use Rattle.umbrella.specs.Plan.{Plan, levels, umbrellas, stems}
 use Rattle.umbrella.specs.Values.{ud}
@@ -48,13 +48,11 @@ spot k p r = record { piece = p; role = r; d = k }
 
 -- at a triangle whose piece has the role p: what it adds, and the two pieces beyond
 abbrev pub fork_of : Role → Step → Spot → Spot → Fork
-fork_of p s x y = record { adds = record { umbrellas = adds p 1 0; stems = adds p 0 (at_gate 1 s.crossed) }; small = x; large = y }
+fork_of p s x y = record { adds = record { umbrellas = adds p 1 0; stems = adds p 0 (at_gate 1 s.crossed) }; rest = Some (x, y) }
 
 -- at an umbrella with one level and so many stems
 abbrev pub low_fork : ℕ → Fork
-low_fork n =
-    let none = spot 0 (record { e = 0; u = 0; v = 0 }) Hung in
-    record { adds = record { umbrellas = 1; stems = n }; small = none; large = none }
+low_fork n = record { adds = record { umbrellas = 1; stems = n }; rest = None }
 
 -- the tree t is to be counted at x, and nothing where x has no triangle
 pub record ToCount (tr ds : List ℕ) (x : Spot) (t : Tree) : Type 0 where
@@ -62,13 +60,17 @@ pub record ToCount (tr ds : List ℕ) (x : Spot) (t : Tree) : Type 0 where
   pub none : x.piece.v ≤ x.piece.u + 1 → t ≡ leaf
   pub low : x.piece.u < 1024
 
--- what the triangle at x adds, and what is left, are the counts of its piece t
-pub record Forked (tr ds : List ℕ) (x : Spot) (t : Tree) (w : Fork) : Type 0 where
+-- what the triangle at x adds, and the two pieces left, are the counts of its piece t
+pub record ForkedInto (tr ds : List ℕ) (x : Spot) (t : Tree) (adds : Tally) (x' y' : Spot) : Type 0 where
   pub small : Tree
   pub large : Tree
-  pub left_small : ToCount tr ds w.small small
-  pub left_large : ToCount tr ds w.large large
-  pub less_small : w.small.piece.v - w.small.piece.u < x.piece.v - x.piece.u
-  pub less_large : w.large.piece.v - w.large.piece.u < x.piece.v - x.piece.u
-  pub umbrellas_are : weight 1 0 x.role x.d t ≡ w.adds.umbrellas + weight 1 0 w.small.role w.small.d small + weight 1 0 w.large.role w.large.d large
-  pub stems_are : weight 0 1 x.role x.d t ≡ w.adds.stems + weight 0 1 w.small.role w.small.d small + weight 0 1 w.large.role w.large.d large
+  pub left_small : ToCount tr ds x' small
+  pub left_large : ToCount tr ds y' large
+  pub less_small : x'.piece.v - x'.piece.u < x.piece.v - x.piece.u
+  pub less_large : y'.piece.v - y'.piece.u < x.piece.v - x.piece.u
+  pub umbrellas_are : weight 1 0 x.role x.d t ≡ adds.umbrellas + weight 1 0 x'.role x'.d small + weight 1 0 y'.role y'.d large
+  pub stems_are : weight 0 1 x.role x.d t ≡ adds.stems + weight 0 1 x'.role x'.d small + weight 0 1 y'.role y'.d large
+
+-- or what it adds is all
+abbrev pub Forked : List ℕ → List ℕ → Spot → Tree → Fork → Type 0
+Forked tr ds x t w = MatchOption w.rest (counted x.role x.d t ≡ w.adds) (λ y. ForkedInto tr ds x t w.adds y.0 y.1)

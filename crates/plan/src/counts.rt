@@ -3,11 +3,11 @@
 ghost use Rattle.std.specs.Prelude.{◌≡◌, ◌⊎◌, ◌+◌, ◌<◌, ◌≤◌, max, min};
 ghost use Rattle.polygon.specs.Tree.{Tree};
 ghost use Rattle.levels.specs.Kept.{Tabled};
-ghost use Rattle.plan.specs.Counts.{at_gate, adds, counted, spot, fork_of, low_fork, Forked};
+ghost use Rattle.plan.specs.Counts.{adds, counted, spot, fork_of, low_fork, Forked};
 
-use levels::{VALUES, values};
-use tree::{PLACES, Root, Two, open};
-use umbrella::roles::{Role, Step, is_hung, levels_under, step_at};
+use levels::Tables;
+use tree::{Root, Two};
+use umbrella::roles::{Role, Step, levels_under, step_at};
 
 // Umbrellas and stems.
 #[derive(Drop)]
@@ -24,19 +24,11 @@ struct Spot {
     d: u16,
 }
 
-// What a triangle adds, and what is left to be counted.
+// What a triangle adds, and the two pieces that are left to be counted, the smaller one first; at an umbrella with one level none are.
 #[derive(Drop)]
 struct Fork {
     adds: Tally,
-    small: Spot,
-    large: Spot,
-}
-
-// The stem whose first gate is at a triangle.
-fn at_gate(crossed: bool) -> u16
-    ensures { result ≡ at_gate 1 crossed }
-{
-    if crossed { 1 } else { 0 }
+    rest: Option<(Spot, Spot)>,
 }
 
 // What the triangle of a piece adds: x if the piece is hung, y if it lies on a rim.
@@ -45,10 +37,8 @@ fn adds(role: Role, x: u16, y: u16) -> u16
 {
     match role {
         Role::Hung => x,
-        Role::LeftRim => y,
-        Role::RightRim => y,
-        Role::FromLeft => 0,
-        Role::FromRight => 0,
+        Role::LeftRim | Role::RightRim => y,
+        Role::FromLeft | Role::FromRight => 0,
     }
 }
 
@@ -60,109 +50,79 @@ fn larger_last(role: Role, k: u16, t: Two, s: Step) -> Fork
 {
     let adds = Tally {
         umbrellas: adds(role, 1, 0),
-        stems: adds(role, 0, at_gate(s.crossed)),
+        stems: adds(role, 0, u16::from(s.crossed)),
     };
-    let l = t.left;
-    let r = t.right;
-    let a = s.left;
-    let b = s.right;
     let left = Spot {
-        piece: l,
-        role: a,
+        piece: t.left,
+        role: s.left,
         d: k,
     };
     let right = Spot {
-        piece: r,
-        role: b,
+        piece: t.right,
+        role: s.right,
         d: k,
     };
-    if r.v - r.u < l.v - l.u {
-        return Fork {
-            adds,
-            small: right,
-            large: left,
-        };
-    }
-    Fork {
-        adds,
-        small: left,
-        large: right,
-    }
+    let rest = if t.right.v - t.right.u < t.left.v - t.left.u {
+        Some((right, left))
+    } else {
+        Some((left, right))
+    };
+    Fork { adds, rest }
 }
 
-// The stems of an umbrella with one level: only sides are hung on it, so it has one if a piece on its rim is no side; a and b are the levels of its fans.
-fn one_stem(a: u16, b: u16) -> u16
-    ensures { result ≡ min (max a b) 1 }
-{
-    if a > 0 {
-        return 1;
-    }
-    if b > 0 { 1 } else { 0 }
-}
-
-// An umbrella with one level: nothing is left to be counted.
+// An umbrella with one level: nothing is left to be counted. Only sides are hung on it, so it has a stem if a piece on its rim is no side.
+// a and b are the levels of its fans.
 fn one_level(a: u16, b: u16) -> Fork
     ensures { result ≡ low_fork (min (max a b) 1) }
 {
-    let none = Spot {
-        piece: Root { e: 0, u: 0, v: 0 },
-        role: Role::Hung,
-        d: 0,
-    };
     let adds = Tally {
         umbrellas: 1,
-        stems: one_stem(a, b),
+        stems: a.max(b).min(1),
     };
-    Fork {
-        adds,
-        small: none,
-        large: none,
-    }
+    Fork { adds, rest: None }
 }
 
 // Counts at the triangle of a piece that is no side.
-fn triangle(tree: &[u32; PLACES], depths: &[u8; VALUES], x: Spot) -> Fork
-    requires known { (t : Tree) × Tabled tree.now depths.now x.piece.e x.piece.u x.piece.v t }
+fn triangle(tables: &Tables, x: Spot) -> Fork
+    requires known { (t : Tree) × Tabled tables.now.tree tables.now.depths x.piece.e x.piece.u x.piece.v t }
     requires apart { x.piece.u + 1 < x.piece.v }
-    ensures { (t : Tree) → Tabled tree.now depths.now x.piece.e x.piece.u x.piece.v t
-        → Forked tree.now depths.now x t result }
+    ensures { (t : Tree) → Tabled tables.now.tree tables.now.depths x.piece.e x.piece.u x.piece.v t
+        → Forked tables.now.tree tables.now.depths x t result }
 {
     let p = x.piece;
     let role = x.role;
-    let own = values(depths, p.e as usize);
-    if own.ud == 1 {
-        if is_hung(role) {
-            return one_level(own.fan_a, own.fan_b);
-        }
+    let own = tables.values(p.e);
+    if own.ud == 1 && matches!(role, Role::Hung) {
+        return one_level(own.fan_a, own.fan_b);
     }
-    let t = open(tree, p);
-    let l = values(depths, t.left.e as usize);
-    let r = values(depths, t.right.e as usize);
+    let t = tables.open(p);
+    let l = tables.values(t.left.e);
+    let r = tables.values(t.right.e);
     let s = step_at(role, x.d, l.ud, r.ud, l.handle);
     larger_last(role, levels_under(role, x.d, own.ud - 1), t, s)
 }
 
 // Counts in the piece p, by its role with d levels under the umbrella; for a hung piece d is not looked at.
-pub fn count(tree: &[u32; PLACES], depths: &[u8; VALUES], p: Root, role: Role, d: u16) -> Tally
-    requires { (t : Tree) × Tabled tree.now depths.now p.e p.u p.v t }
-    ensures { (t : Tree) → Tabled tree.now depths.now p.e p.u p.v t → result ≡ counted role d t }
+pub fn count(tables: &Tables, p: Root, role: Role, d: u16) -> Tally
+    requires { (t : Tree) × Tabled tables.now.tree tables.now.depths p.e p.u p.v t }
+    ensures { (t : Tree) → Tabled tables.now.tree tables.now.depths p.e p.u p.v t → result ≡ counted role d t }
 {
     let mut x = Spot { piece: p, role, d };
     let mut umbrellas: u16 = 0;
     let mut stems: u16 = 0;
     while x.piece.u + 1 < x.piece.v {
-        let w = triangle(tree, depths, x);
+        let w = triangle(tables, x);
         umbrellas += w.adds.umbrellas;
         stems += w.adds.stems;
-        let y = w.small;
-        let q = y.piece;
-        let g = y.role;
-        if q.u + 1 < q.v {
-            let c = count(tree, depths, q, g, y.d);
+        let Some((small, large)) = w.rest else {
+            return Tally { umbrellas, stems };
+        };
+        if small.piece.u + 1 < small.piece.v {
+            let c = count(tables, small.piece, small.role, small.d);
             umbrellas += c.umbrellas;
             stems += c.stems;
         }
-        x = w.large;
+        x = large;
     }
     Tally { umbrellas, stems }
 }

@@ -5,28 +5,19 @@
 
 ghost use Rattle.std.specs.Prelude.{◌≡◌, ℕ};
 ghost use Rattle.polygon.specs.Tree.{Tree};
-ghost use Rattle.sheet.specs.Held.{polygon_of, InHand};
 ghost use Rattle.umbrella.specs.Best.{best, plan_of};
 ghost use Rattle.levels.specs.Kept.{Filled};
 ghost use Rattle.plan.specs.Counts.{totals_of};
 ghost use Rattle.plan.specs.Answer.{planned_of, planned};
 
 use crate::counts::count;
-use keys::DIAGONALS;
-use levels::{VALUES, fill, values};
+use codec::Refusal;
+use levels::Tables;
+use sheet::part::Part;
 use sheet::reader::read_sheet;
-use sheet::{Head, Read};
-use tree::{PLACES, Root};
 use umbrella::roles::Role;
 
 pub mod counts;
-
-// The answer: levels, umbrellas and stems, or the number of the refusal.
-#[derive(Drop)]
-pub enum Planned {
-    Counts(u16, u16, u16),
-    Refused(u16),
-}
 
 // Levels, umbrellas and stems.
 #[derive(Drop)]
@@ -37,12 +28,13 @@ pub struct Totals {
 }
 
 // The counts of a part whose tables are filled.
-pub fn counts_of(tree: &[u32; PLACES], depths: &[u8; VALUES], p: Root) -> Totals
-    requires { (n : ℕ) × (t : Tree) × Filled n t tree.now depths.now p }
-    ensures { (n : ℕ) (t : Tree) → Filled n t tree.now depths.now p → result ≡ totals_of (best t) }
+pub fn counts_of(tables: &Tables) -> Totals
+    requires { (n : ℕ) × (t : Tree) × Filled n t tables.now.tree tables.now.depths tables.now.root }
+    ensures { (n : ℕ) (t : Tree) → Filled n t tables.now.tree tables.now.depths tables.now.root
+        → result ≡ totals_of (best t) }
 {
-    let s = values(depths, p.e as usize);
-    let t = count(tree, depths, p, Role::Hung, 0);
+    let s = tables.values(tables.root.e);
+    let t = count(tables, tables.root, Role::Hung, 0);
     Totals {
         levels: s.ud,
         umbrellas: t.umbrellas,
@@ -51,28 +43,20 @@ pub fn counts_of(tree: &[u32; PLACES], depths: &[u8; VALUES], p: Root) -> Totals
 }
 
 // The counts of a part in hand.
-pub fn plan_part(h: Head, keys: &[u32]) -> Totals
-    requires { InHand h keys.now }
-    ensures { result ≡ totals_of (plan_of (polygon_of h keys.now)) }
+pub fn plan_part(part: &Part) -> Totals
+    ensures { result ≡ totals_of (plan_of part.now) }
 {
-    let m = h.n - 3;
-    let mut tree = [0u32; PLACES];
-    let mut depths = [0u8; VALUES];
-    let p = fill(&keys[..m], h.n, &mut tree, &mut depths);
-    counts_of(&tree, &depths, p)
+    let n = part.head().n;
+    let keys = part.keys();
+    let mut tables = Tables::new();
+    tables.fill(&keys[..n - 3], n);
+    counts_of(&tables)
 }
 
 // Plan.
-pub fn plan(sheet: &[u8]) -> Planned
+pub fn plan(sheet: &[u8]) -> Result<Totals, Refusal>
     ensures { planned_of result ≡ planned sheet.now }
 {
-    let mut bends = [0u32; DIAGONALS];
-    let mut keys = [0u32; DIAGONALS];
-    match read_sheet(sheet, &mut bends, &mut keys) {
-        Read::Refused(k) => Planned::Refused(k),
-        Read::Held(h) => {
-            let c = plan_part(h, &keys);
-            Planned::Counts(c.levels, c.umbrellas, c.stems)
-        }
-    }
+    let part = read_sheet(sheet)?;
+    Ok(plan_part(&part))
 }

@@ -16,9 +16,10 @@ use Rattle.keys.specs.Sort.{sort_keys}
 use Rattle.keys.proofs.Insert.{all_sort}
 use Rattle.keys.proofs.Beside.{bend_edges, carry}
 use Rattle.sheet.specs.declared.Head.{Head}
-use Rattle.sheet.specs.Held.{angles_by, part_of}
+use Rattle.polygon.specs.Polygon.{Polygon}
+use Rattle.sheet.specs.Hand.{angles_by, part_of}
 use Rattle.edit.specs.declared.shift.Shift.TheVariants.{Up}
-use Rattle.edit.specs.Tables.{moved_bend}
+use Rattle.edit.specs.Tables.{whole, moved_bend}
 use Rattle.edit.proofs.Shifting.{moved_angles}
 use Rattle.seam.specs.Join.{seam, zeros, glued_edges, glued_angles, glue}
 use Rattle.seam.specs.Halves.{Half, Joins, laid_bends, glued_bends}
@@ -55,21 +56,19 @@ carried_sorted false bs d = refl
 abbrev pub glued_head : Head → Head → Head
 glued_head h g = record { n = h.n + g.n - 2; angled = h.angled || g.angled }
 
-module _ {h g : Head} {bs cs : List ℕ} (P : Half h bs) (Q : Half g cs) (i : ℕ) (J : Joins i h.n g.n) where
+module _ {p q : Polygon} {h g : Head} {bs cs : List ℕ} (P : Half p h bs) (Q : Half q g cs) (i : ℕ) (J : Joins i h.n g.n) where
   abbrev glued : List ℕ
-  glued = glued_bends i g.n (take (h.n - 3) bs) (take (g.n - 3) cs)
+  glued = glued_bends i g.n bs cs
 
-  pub glued_part : (after : List ℕ) → take (h.n + g.n - 5) after ≡ sort_keys glued → part_of (glued_head h g) after ≡ glue i (part_of h bs) (part_of g cs)
+  pub glued_part : (after : List ℕ) → take (h.n + g.n - 5) after ≡ sort_keys glued → part_of (glued_head h g) after ≡ glue i (whole h bs) (whole g cs)
   unfolding glue
   glued_part after e =
-      let p = part_of h bs in
-      let q = part_of g cs in
-      let E : bend_edges glued ≡ glued_edges i p q = glued_edges_lem P.part Q.part i J in
-      let D : Distinct (bend_edges glued) = rw E (glued_distinct i p q P.part.valid.triangulated Q.part.valid.triangulated) in
+      let E : bend_edges glued ≡ glued_edges i (whole h bs) (whole g cs) = glued_edges_lem h g bs cs P.part.valid Q.part.valid i J in
+      let D : Distinct (bend_edges glued) = rw E (glued_distinct i (whole h bs) (whole g cs) P.part.valid.triangulated Q.part.valid.triangulated) in
       let size : h.n + g.n - 2 - 3 ≡ h.n + g.n - 5 = omega arith in
       let k : take (h.n + g.n - 2 - 3) after ≡ sort_keys glued = ap (λ (j : ℕ). take j after) size ∙ e in
-      let ds : bend_edges (sort_keys glued) ≡ sort (glued_edges i p q) = sorted_edges glued D ∙ ap sort E in
-      let xs = angles_by_lem i g.n (take (h.n - 3) bs) (take (g.n - 3) cs) h.angled g.angled P.flat Q.flat in
+      let ds : bend_edges (sort_keys glued) ≡ sort (glued_edges i (whole h bs) (whole g cs)) = sorted_edges glued D ∙ ap sort E in
+      let xs = angles_by_lem i g.n bs cs h.angled g.angled P.flat Q.flat in
       let c : Bool = h.angled || g.angled in
       let edges = ap bend_edges k ∙ ds in
       let angles = ap (angles_by c) k ∙ (carried_sorted c glued D ∙ (λ j. carried (E j) (xs j) (ds j))) in

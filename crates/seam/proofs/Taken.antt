@@ -1,63 +1,49 @@
--- A half as it is read, and the part in hand that joining gives.
-use mathlib.Core.Path.{◌≡◌, ap, sym, ◌∙◌}
-use mathlib.Core.Bool.{Bool, true, false, ◌||◌, false≢true}
+-- The bends of a half, and the part that joining gives.
+use mathlib.Core.Path.{◌≡◌, refl, ap, sym, ◌∙◌}
+use mathlib.Core.Bool.{Bool, false, ◌||◌, false≢true}
 use mathlib.Core.List.{List, map}
-use Prim.Native.Nat.{ℕ, ◌+◌, ◌-◌, ◌≤◌}
+use Prim.Native.Nat.{ℕ, ◌+◌, ◌-◌}
 use native.Mathlib.Omega.{arith}
-use lib.ListN.{length, take}
+use lib.ListN.{take}
 use Rattle.lists.proofs.Lists.{all_map, all_of}
-use Rattle.keys.specs.Keys.{edges_of, keys_in, flat_bend}
+use Rattle.polygon.specs.Angles.{Angles, none, each}
+use Rattle.polygon.specs.Polygon.{Polygon, Valid}
+use Rattle.keys.specs.Keys.{edges_of, flat_bend}
 use Rattle.keys.specs.Sort.{sort_keys}
 use Rattle.sheet.specs.declared.Head.{Head}
-use Rattle.sheet.specs.declared.Read.{Read}
-use Rattle.sheet.specs.declared.Read.TheVariants.{Held}
-use Rattle.sheet.specs.Sheet.{Reading, held}
-use Rattle.sheet.specs.Held.{angles_by, part_of, BentInHand, ReadsBent, KeysOf, gives}
+use Rattle.sheet.specs.Sheet.{held}
+use Rattle.sheet.specs.Hand.{part_of, has_angles, head_of}
 use Rattle.sheet.proofs.Hand.{flat_keys}
+use Rattle.edit.specs.Tables.{whole}
+use Rattle.edit.proofs.InHand.{Gives}
 use Rattle.seam.specs.Join.{join_rule}
-use Rattle.seam.specs.Halves.{Half, HalfSays, Joins, glued_bends}
+use Rattle.seam.specs.Halves.{Half, Joins, glued_bends}
 use Rattle.seam.proofs.Grafted.{glued_valid}
 use Rattle.seam.proofs.Answers.{join_gives}
 use Rattle.seam.proofs.Sewn.{glued_part}
 
--- a half with angles
-pub angled_half : {h : Head} {bs : List ℕ} → BentInHand h bs → h.angled ≡ true → Half h bs
-angled_half P a = record { part = P; flat = λ f. absurd (false≢true (sym f ∙ a)) }
+-- a half without: its keys, with the angle 0 at each
+no_angles : (a : Angles) → has_angles a ≡ false → none ≡ a
+no_angles none e = refl
+no_angles (each vs) e = absurd (false≢true (sym e))
 
--- a half without: the table `after` begins with its keys and the angle 0 at each
-module _ {h : Head} {bs ks : List ℕ} (K : KeysOf h bs ks) (plain : h.angled ≡ false) (after : List ℕ) (flat : take (h.n - 3) after ≡ map flat_bend (take (h.n - 3) ks)) where
-  same : part_of h after ≡ part_of h bs
-  same =
-      let keys : keys_in (take (h.n - 3) after) ≡ keys_in (take (h.n - 3) bs) = ap keys_in flat ∙ (flat_keys (take (h.n - 3) ks) ∙ K.same) in
-      let none_by : (xs : List ℕ) → angles_by h.angled xs ≡ angles_by false xs = λ xs. ap (λ (b : Bool). angles_by b xs) plain in
-      let angles = none_by (take (h.n - 3) after) ∙ sym (none_by (take (h.n - 3) bs)) in
-      λ j. record { n = h.n; ds = edges_of (keys j); angles = angles j }
+pub flat_half : {p : Polygon} (ks : List ℕ) → Valid p → has_angles p.angles ≡ false → edges_of ks ≡ p.ds → Half p (head_of p) (map flat_bend ks)
+flat_half {p} ks V a same =
+    let e : p ≡ whole (head_of p) (map flat_bend ks) = rw a (λ i. record { n = p.n; ds = sym (ap edges_of (flat_keys ks) ∙ same) i; angles = sym (no_angles p.angles a) i }) in
+    record { part = record { same = e; valid = rw e at V }; flat = λ f. all_map flat_bend (all_of ks (λ k m. omega arith)) }
 
-  pub flat_reads : {q : Reading} → ReadsBent q (Held h) bs → 1021 ≤ length after → ReadsBent q (Held h) after
-  flat_reads (gives e P) long = gives {h = h} (e ∙ ap held (sym same)) (record { valid = rw same P.valid; room = long })
-
-  pub flat_half : BentInHand h bs → 1021 ≤ length after → Half h after
-  flat_half P long = record {
-    part = record { valid = rw same P.valid; room = long };
-    flat = λ f. rw flat (all_map flat_bend (all_of (take (h.n - 3) ks) (λ k m. omega arith)));
-  }
-
--- in the case x of what is read
-pub read_as : {q : Reading} {r x : Read} {bs : List ℕ} → ReadsBent q r bs → r ≡ x → ReadsBent q x bs
-read_as R e = rw e at R
-
-pub half_of : {r : Read} {h : Head} {bs : List ℕ} → HalfSays r bs → r ≡ Held h → Half h bs
-half_of H e = rw e at H
+-- by the head as the code has it
+pub by_head : {p : Polygon} {h : Head} (bs : List ℕ) → h.n ≡ p.n → h.angled ≡ has_angles p.angles → Half p (head_of p) (take (p.n - 3) bs) → Half p h (take (h.n - 3) bs)
+by_head {p} {h} bs n a H = let e : h ≡ head_of p = λ i. record { n = n i; angled = a i } in rw e H
 
 -- Two halves, the second on side i.
-module _ {h g : Head} {bs cs : List ℕ} (P : Half h bs) (Q : Half g cs) (i : ℕ) where
+module _ {p q : Polygon} {h g : Head} {bs cs : List ℕ} (P : Half p h bs) (Q : Half q g cs) (i : ℕ) where
   -- the table `after` begins with the bends of both, in order
   pub join_taken : Joins i h.n g.n → {a : Bool} → a ≡ (h.angled || g.angled) → (after : List ℕ)
-      → take (h.n + g.n - 5) after ≡ sort_keys (glued_bends i g.n (take (h.n - 3) bs) (take (g.n - 3) cs)) → 1021 ≤ length after
-      → ReadsBent (join_rule i (part_of h bs) (part_of g cs)) (Held (record { n = h.n + g.n - 2; angled = a })) after
-  join_taken J {a} e after first long =
-      let p = part_of h bs in
-      let q = part_of g cs in
+      → take (h.n + g.n - 5) after ≡ sort_keys (glued_bends i g.n bs cs) → Gives (join_rule i p q) (part_of (record { n = h.n + g.n - 2; angled = a }) after)
+  join_taken J {a} e after first =
+      let l = whole h bs in
+      let r = whole g cs in
       let part = ap (λ (b : Bool). part_of (record { n = h.n + g.n - 2; angled = b }) after) e ∙ glued_part P Q i J after first in
-      let valid = glued_valid i p q P.part.valid Q.part.valid J.0 J.1 in
-      gives {h = record { n = h.n + g.n - 2; angled = a }} (join_gives i p q J ∙ ap held (sym part)) (record { valid = rw part valid; room = long })
+      let valid = glued_valid i l r P.part.valid Q.part.valid J.0 J.1 in
+      rw (P.part.same, Q.part.same) (record { same = join_gives i l r J ∙ ap held (sym part); valid = rw part valid })

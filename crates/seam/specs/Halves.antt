@@ -1,23 +1,17 @@
 -- How the code holds the two halves of a joined part.
-use Rattle.std.specs.Prelude.{◌≡◌, false, List, ◌∷◌, ◌++◌, map, ℕ, suc, ◌+◌, ◌*◌, ◌-◌, ◌≤◌, ◌<◌, take}
+use Rattle.std.specs.Prelude.{◌≡◌, false, List, ◌∷◌, ◌++◌, map, ℕ, suc, ◌+◌, ◌*◌, ◌-◌, ◌≤◌, ◌<◌}
 use Rattle.lists.specs.Lists.{All}
+use Rattle.polygon.specs.Polygon.{Polygon}
 use Rattle.keys.specs.Keys.{key_of, edges_of, keys_in, angle_in, flat_bend}
 use Rattle.sheet.specs.declared.Head.{Head}
-use Rattle.sheet.specs.declared.Read.{Read}
-use Rattle.sheet.specs.declared.Read.TheVariants.{Refused, Held}
-use Rattle.sheet.specs.Held.{BentInHand}
 use Rattle.edit.specs.declared.shift.Shift.TheVariants.{Up}
-use Rattle.edit.specs.Tables.{moved_bend}
+use Rattle.edit.specs.Tables.{Whole, moved_bend}
 use Rattle.seam.specs.Join.{seam}
 
--- a part in hand whose bends have the angle 0 if it has no angles
-pub record Half (h : Head) (bs : List ℕ) : Type 0 where
-  pub part : BentInHand h bs
-  pub flat : h.angled ≡ false → All (λ b. angle_in b ≡ 0) (take (h.n - 3) bs)
-
-abbrev pub HalfSays : Read → List ℕ → Type 0
-HalfSays (Refused k) bs = Unit {0}
-HalfSays (Held h) bs = Half h bs
+-- the part p by its head and its bends, which have the angle 0 if it has no angles
+pub record Half (p : Polygon) (h : Head) (bs : List ℕ) : Type 0 where
+  pub part : Whole p h bs
+  pub flat : h.angled ≡ false → All (λ b. angle_in b ≡ 0) bs
 
 -- what the rule asks of a side i, and of the n and m corners of the two halves
 abbrev pub Joins : ℕ → ℕ → ℕ → Type 0

@@ -1,108 +1,102 @@
-// The two halves of a joined part in hand: reading one, and joining both in a third table.
-ghost use Rattle.std.specs.Prelude.{◌≡◌, ◌||◌, map, ◌+◌, ◌-◌, ◌<◌, ◌≤◌, length, take};
+// The two halves of a joined part: the bends of each, and joining both in a third table.
+ghost use Rattle.std.specs.Prelude.{◌≡◌, map, ◌+◌, ◌-◌, ◌<◌, ◌≤◌, length, take};
+ghost use Rattle.polygon.specs.Polygon.{Valid};
 ghost use Rattle.keys.specs.Sort.{sort_keys};
-ghost use Rattle.sheet.specs.Sheet.{read_sheet};
-ghost use Rattle.sheet.specs.Held.{part_of, BentInHand, ReadsBent};
+ghost use Rattle.sheet.specs.Hand.{head_of};
+ghost use Rattle.sheet.specs.Held.{reading_of};
+ghost use Rattle.edit.specs.Tables.{whole};
 ghost use Rattle.seam.specs.Join.{join_rule};
-ghost use Rattle.seam.specs.Halves.{Half, HalfSays, Joins, raised_bend, Raisable, laid_bends, glued_bends};
+ghost use Rattle.seam.specs.Halves.{Half, Joins, raised_bend, Raisable, laid_bends, glued_bends};
 
+use codec::Refusal;
 use edit::shift::{Shift, renumber};
 use keys::bend::{FLAT, bend};
 use keys::merge::merge;
 use keys::{CORNERS, DIAGONALS, key};
-use sheet::reader::read_sheet;
-use sheet::{Head, Read};
-use sheet_writer::flat_bends;
+use sheet::Head;
+use sheet::part::{Part, flat_bends};
 
 // What a bend grows by when both its corners go up by one: 1,025 in its key.
 const FURTHER: u32 = 4198400;
 
-// Reads a sheet. If its part has no angles, each bend gets the angle 0: the other half may have some.
-pub fn read_half(sheet: &[u8], bends: &mut [u32]) -> Read
-    requires { 1021 ≤ length bends.old }
-    ensures part { ReadsBent (read_sheet sheet.now) result bends.new }
-    ensures flat { HalfSays result bends.new }
+// The bends of a half at the start of a table. If it has no angles, each bend gets the angle 0: the other half may have some.
+pub fn half_bends(part: &Part) -> [u32; DIAGONALS]
+    ensures { Half part.now (head_of part.now) (take (part.now.n - 3) result) }
 {
-    let mut keys = [0u32; DIAGONALS];
-    match read_sheet(sheet, bends, &mut keys) {
-        Read::Refused(k) => Read::Refused(k),
-        Read::Held(h) => {
-            let m = h.n - 3;
-            if h.angled {
-                return Read::Held(h);
-            }
-            flat_bends(&keys[..m], bends);
-            Read::Held(h)
-        }
+    let bends = part.bends();
+    let m = bends.len();
+    let mut half = [0u32; DIAGONALS];
+    if part.head().angled {
+        half[..m].copy_from_slice(bends);
+    } else {
+        flat_bends(&part.keys()[..m], &mut half);
     }
+    half
 }
 
 // Puts the bends with both corners so many further on at the front of `out`; their angles stay.
+// Beside edit's `renumber`: here all corners move, so that a bend is raised by one addition.
 fn raise(bends: &[u32], by: usize, out: &mut [u32])
     requires { (length bends.now ≤ length out.old) × (by < 1024) × Raisable by bends.now }
     ensures { take (length bends.now) out.new ≡ map (raised_bend by) bends.now }
 {
     let step = by as u32 * FURTHER;
-    let mut j: usize = 0;
-    while j < bends.len() {
-        out[j] = bends[j] + step;
-        j += 1;
+    for (j, &old) in bends.iter().enumerate() {
+        out[j] = old + step;
     }
 }
 
 // The bends of the second half under their new numbers, and the seam's, in order at the front of `out`.
 fn lay(g: Head, second: &[u32], side: usize, out: &mut [u32])
-    requires part { BentInHand g second.now }
+    requires part { Valid (whole g second.now) }
     requires sizes { (side + g.n ≤ 1024) × (g.n ≤ 1023) × (1021 ≤ length out.old) }
-    ensures { take (g.n - 2) out.new ≡ sort_keys (laid_bends side g.n (take (g.n - 3) second.now)) }
+    ensures { take (g.n - 2) out.new ≡ sort_keys (laid_bends side g.n second.now) }
 {
-    let m = g.n;
     let mut laid = [0u32; DIAGONALS];
-    raise(&second[..m - 3], side, &mut laid);
-    let seam = [bend(key(side, side + m - 1), FLAT)];
-    merge(&seam, &laid[..m - 3], out);
+    raise(second, side, &mut laid);
+    let seam = [bend(key(side, side + g.n - 1), FLAT)];
+    merge(&seam, &laid[..second.len()], out);
 }
 
 // The bends of both halves under their new numbers, and the seam's, in order at the front of `out`.
 fn sew(h: Head, first: &[u32], g: Head, second: &[u32], side: usize, out: &mut [u32])
-    requires halves { BentInHand h first.now × BentInHand g second.now }
+    requires halves { Valid (whole h first.now) × Valid (whole g second.now) }
     requires sizes { Joins side h.n g.n × (1021 ≤ length out.old) }
-    ensures { take (h.n + g.n - 5) out.new
-        ≡ sort_keys (glued_bends side g.n (take (h.n - 3) first.now) (take (g.n - 3) second.now)) }
+    ensures { take (h.n + g.n - 5) out.new ≡ sort_keys (glued_bends side g.n first.now second.now) }
 {
-    let n = h.n;
-    let m = g.n;
     let mut laid = [0u32; DIAGONALS];
     lay(g, second, side, &mut laid);
     let mut moved = [0u32; DIAGONALS];
-    renumber(&first[..n - 3], Shift::Up(side, m - 2), &mut moved);
-    merge(&moved[..n - 3], &laid[..m - 2], out);
-}
-
-// Whether one of two is true.
-fn either(a: bool, b: bool) -> bool
-    ensures { result ≡ (a || b) }
-{
-    if a { true } else { b }
+    renumber(first, Shift::Up(side, g.n - 2), &mut moved);
+    merge(&moved[..first.len()], &laid[..g.n - 2], out);
 }
 
 // Joins the second part to the first along a side of the first.
-pub fn glue(h: Head, first: &[u32], g: Head, second: &[u32], side: usize, out: &mut [u32]) -> Read
-    requires halves { Half h first.now × Half g second.now }
-    requires sizes { 1021 ≤ length out.old }
-    ensures { ReadsBent (join_rule side (part_of h first.now) (part_of g second.now)) result out.new }
+pub fn glue(first: &Part, second: &Part, side: usize) -> Result<Part, Refusal>
+    ensures { reading_of result ≡ join_rule side first.now second.now }
 {
-    let n = h.n;
-    let m = g.n;
-    if side >= n - 1 {
-        return Read::Refused(9);
+    let h = first.head();
+    let g = second.head();
+    if side >= h.n - 1 {
+        return Err(Refusal::OutOfRange);
     }
-    if n + m > CORNERS + 2 {
-        return Read::Refused(10);
+    if h.n + g.n > CORNERS + 2 {
+        return Err(Refusal::TooManyCorners);
     }
-    sew(h, first, g, second, side, out);
-    Read::Held(Head {
-        n: n + m - 2,
-        angled: either(h.angled, g.angled),
-    })
+    let of_first = half_bends(first);
+    let of_second = half_bends(second);
+    let mut glued = [0u32; DIAGONALS];
+    sew(
+        h,
+        &of_first[..h.n - 3],
+        g,
+        &of_second[..g.n - 3],
+        side,
+        &mut glued,
+    );
+    let joined = Head {
+        n: h.n + g.n - 2,
+        angled: h.angled || g.angled,
+    };
+    Ok(Part::new(joined, glued))
 }

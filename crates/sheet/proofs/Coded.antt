@@ -15,7 +15,8 @@ use Rattle.polygon.specs.Carried.{carried}
 use Rattle.keys.specs.Keys.{edges_of, keys_in, angles_in, code_of}
 use Rattle.keys.proofs.Beside.{code_low, low_code, code_back, carry}
 use Rattle.sheet.specs.Sheet.{angles_if}
-use Rattle.sheet.specs.Held.{bit, angles_by, CodeFits, CodesBy}
+use Rattle.sheet.specs.Hand.{angles_by}
+use Rattle.sheet.specs.Held.{bit, CodeFits, CodesBy}
 
 -- the twelve lowest bits of bends
 abbrev pub codes_in : List ℕ → List ℕ

@@ -4,12 +4,12 @@ use mathlib.Core.Bool.{true, false, true≢false}
 use mathlib.Core.List.{List, [], ◌∷◌, ◌++◌, map}
 use Prim.Native.Nat.{ℕ, ◌+◌, ◌*◌, ◌-◌, ◌≤◌}
 use native.Mathlib.Omega.{arith}
-use lib.ListN.{length, take, drop, get_or, length-append, length-drop, length-map}
+use lib.ListN.{length, take, drop, get_or, length-map}
 use lib.Seq.{take_at, length-take-le}
 use Rattle.lists.specs.Lists.{All, Sub, all_cons, all_nil}
 use Rattle.lists.proofs.Lists.{all_mem, all_of}
 use Rattle.polygon.specs.Angles.{Angle, Allowed}
-use Rattle.polygon.specs.Polygon.{Edge, Ascending, NoneCross, Diagonal}
+use Rattle.polygon.specs.Polygon.{Edge, Valid, Ascending, NoneCross, Diagonal}
 use Rattle.polygon.specs.Order.{Distinct, sort}
 use Rattle.polygon.specs.Carried.{carried}
 use Rattle.polygon.proofs.Sort.{sort_all, sort_sub, sort_mem, sort_ascends}
@@ -20,23 +20,15 @@ use Rattle.keys.specs.Tops.{Diagonals}
 use Rattle.keys.proofs.Insert.{length_sort}
 use Rattle.keys.proofs.InOrder.{sort_edges, ascends_edges, edges_ascend}
 use Rattle.sheet.specs.declared.Head.{Head}
-use Rattle.sheet.specs.declared.Read.{Read}
-use Rattle.sheet.specs.declared.Read.TheVariants.{Refused, Held}
 use Rattle.sheet.specs.Sheet.{refused, held, bit3, field, angles_at, angles, listed_angles, read_sheet, pairs}
 use Rattle.sheet.specs.Framed.{Paired}
-use Rattle.sheet.specs.Held.{bit, angles_by, part_of, HeadOf, HeadSays, ReadsBent, gives, KeysOf, BendsRead, CodesAllowed}
+use Rattle.sheet.specs.Hand.{angles_by, part_of}
+use Rattle.sheet.specs.Held.{bit, HeadOf, BendsRead, CodesAllowed}
 use Rattle.sheet.proofs.Asks.{refused_5, refused_6, refused_7, refused_23, form_held, edges_in, part_in}
 use Rattle.sheet.proofs.Fields.{length_is, angles_at_lem}
 use Rattle.sheet.proofs.Normal.{angles_count}
 use Rattle.sheet.proofs.Coded.{codes_in, stand_by, stands_by, codes_allowed, allowed_codes, angles_moved}
 use Rattle.sheet.proofs.Valid.{read_valid}
-
--- the two cases of a head
-pub says_refused : (s : List ℕ) (r : Read) (k : ℕ) → HeadSays s r → r ≡ Refused k → read_sheet s ≡ refused k
-says_refused s r k h e = rw e at h
-
-pub says_held : (s : List ℕ) (r : Read) (h : Head) → HeadSays s r → r ≡ Held h → HeadOf s h
-says_held s r h S e = rw e at S
 
 none_cross_sub : (xs ys : List Edge) → Sub xs ys → NoneCross ys → NoneCross xs
 none_cross_sub xs ys f N = all_of xs (λ p m. all_of xs (λ q k. all_mem (all_mem N (f p m)) (f q k)))
@@ -120,9 +112,6 @@ module _ {s : List ℕ} {h : Head} {bs o k : List ℕ} (F : Ordered s h bs o k) 
   pub bends_count : length o ≡ h.n - 3
   bends_count = sym (length-map o key_in) ∙ (ap length F.keys ∙ keys_count)
 
-  pub table_long : 1021 ≤ length table
-  table_long = simp (length-append, length-drop) (omega (arith, bends_count, F.long, room F.head))
-
   first : take (h.n - 3) table ≡ o
   first = take_at o (drop (h.n - 3) bs) (h.n - 3) bends_count
 
@@ -143,12 +132,6 @@ module _ {s : List ℕ} {h : Head} {bs o k : List ℕ} (F : Ordered s h bs o k) 
 
     pub first_count : length (take (h.n - 3) keys) ≡ h.n - 3
     first_count = ap length first_key ∙ keys_count
-
-    pub keys_long : 1021 ≤ length ks → 1021 ≤ length keys
-    keys_long l = simp (length-append, length-drop) (omega (arith, keys_count, room F.head))
-
-    pub keys_said : 1021 ≤ length ks → KeysOf h table keys
-    keys_said l = record { same = first_key ∙ (sym F.keys ∙ ap keys_in (sym first)); room = keys_long l }
 
     module _ (B : true ≡ ascends k) where
       ascending : Ascending (edges_of k)
@@ -184,5 +167,5 @@ module _ {s : List ℕ} {h : Head} {bs o k : List ℕ} (F : Ordered s h bs o k) 
           is : read_sheet s ≡ held (part_of h table)
           is = form_held (record { paired = paired; allowed = rw F.head.corners at (fit_angles F.head F.listed C) }) ∙ ap held same
 
-          pub read : ReadsBent (read_sheet s) (Held h) table
-          read = gives is (record { valid = read_valid s _ is; room = table_long })
+          pub read : Valid (part_of h table) × (held (part_of h table) ≡ read_sheet s)
+          read = (read_valid s _ is, sym is)

@@ -5,4 +5,5 @@ pub mod Refusals
 pub mod Skipped
 -- What serves these, the contracts and the code.
 pub mod Framed
+pub mod Hand
 pub mod Held

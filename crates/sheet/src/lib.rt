@@ -1,7 +1,8 @@
-// The sheet, and reading it with its refusals (reader.rt). The crate sheet_writer writes it in normal order.
-// The definitions that the contracts cite are in specs/: Sheet.antt says what a sheet is, Held.antt how the code holds a part.
+// The sheet, reading it with its refusals (reader.rt), and a part in hand (part.rt). The crate sheet_writer writes it in normal order.
+// The definitions that the contracts cite are in specs/: Sheet.antt says what a sheet is, Held.antt what the code answers, Hand.antt how it holds a part.
 #![tactic(auto)]
 
+pub mod part;
 pub mod reader;
 
 // How long the longest sheet is: 1,024 corners, with the four bytes of bit 2 and with angles (`longest` in specs/Sheet.antt).
@@ -12,11 +13,4 @@ pub const LONGEST: usize = 6133;
 pub struct Head {
     pub n: usize,
     pub angled: bool,
-}
-
-// What reading a sheet gives: the number of a refusal, or the head of a part whose diagonals stand in the lent tables.
-#[derive(Drop)]
-pub enum Read {
-    Refused(u16),
-    Held(Head),
 }

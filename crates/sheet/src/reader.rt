@@ -5,14 +5,15 @@ ghost use Rattle.polygon.specs.Polygon.{◌—◌, Diagonal};
 ghost use Rattle.codec.specs.Numbers.{get16};
 ghost use Rattle.keys.specs.Keys.{code_of};
 ghost use Rattle.sheet.specs.Sheet.{read_sheet, sheet_length, pairs, bit0, bit1, bit2, bit3, more};
-ghost use Rattle.sheet.specs.Held.{ReadsBent, KeysSay, HeadOf, HeadSays, KeyIs, pair_at, BendsRead, CodeFits, CodesAllowed};
+ghost use Rattle.sheet.specs.Held.{reading_of, HeadOf, HeadSays, KeyIs, pair_at, BendsRead, CodeFits, CodesAllowed};
 
-use crate::{Head, Read};
-use codec::get16;
+use crate::Head;
+use crate::part::Part;
+use codec::{Refusal, get16};
 use keys::bend::{bend, code_in, code_of};
 use keys::cross::crosses;
 use keys::sort::order;
-use keys::{CORNERS, key};
+use keys::{CORNERS, DIAGONALS, key};
 
 // Whether bit 1 of the map stands exactly when there are more than 3 corners.
 fn agrees(map: u8, n: usize) -> bool
@@ -48,61 +49,55 @@ fn length_for(map: u8, n: usize) -> usize
 }
 
 // The tests up to the sheet's exact length.
-fn read_head(sheet: &[u8]) -> Read
+fn read_head(sheet: &[u8]) -> Result<Head, Refusal>
     ensures { HeadSays sheet.now result }
 {
     let size = sheet.len();
     if size == 0 {
-        return Read::Refused(1);
+        return Err(Refusal::MapByte);
     }
     let map = sheet[0];
     if map % 2 == 0 {
-        return Read::Refused(1);
+        return Err(Refusal::MapByte);
     }
     if map >= 16 {
-        return Read::Refused(1);
+        return Err(Refusal::MapByte);
     }
     if size < 3 {
-        return Read::Refused(2);
+        return Err(Refusal::SheetLength);
     }
     let n = get16(sheet, 1);
     if n < 3 {
-        return Read::Refused(3);
+        return Err(Refusal::CornerCount);
     }
     if n > CORNERS {
-        return Read::Refused(3);
+        return Err(Refusal::CornerCount);
     }
     if !agrees(map, n) {
-        return Read::Refused(4);
+        return Err(Refusal::PairBit);
     }
     if size != length_for(map, n) {
-        return Read::Refused(2);
+        return Err(Refusal::SheetLength);
     }
-    Read::Held(Head {
+    Ok(Head {
         n,
         angled: map >= 8,
     })
 }
 
-// The key of the edge (a,b), a below b, if it is a diagonal of n corners; else 0.
-fn edge_key(a: usize, b: usize, n: usize) -> u32
+// The key of the edge (a,b), a below b, if it is a diagonal of n corners.
+fn edge_key(a: usize, b: usize, n: usize) -> Option<u32>
     requires { (a < 65536) × (b < 65536) × (n ≤ 1024) }
     ensures { KeyIs n (a — b) result }
 {
-    if b >= n {
-        return 0;
+    if b >= n || b < a + 2 || a + n < b + 2 {
+        return None;
     }
-    if b < a + 2 {
-        return 0;
-    }
-    if a + n < b + 2 {
-        return 0;
-    }
-    key(a, b)
+    Some(key(a, b))
 }
 
-// The key of the pair at `at`, either corner first, if it is a diagonal; else 0.
-fn pair_key(sheet: &[u8], at: usize, n: usize) -> u32
+// The key of the pair at `at`, either corner first, if it is a diagonal.
+fn pair_key(sheet: &[u8], at: usize, n: usize) -> Option<u32>
     requires { (at + 4 ≤ length sheet.now) × (n ≤ 1024) }
     ensures { KeyIs n (pair_at sheet.now at) result }
 {
@@ -133,14 +128,11 @@ fn read_bends(sheet: &[u8], n: usize, angled: bool, bends: &mut [u32]) -> bool
     ensures no { result ≡ false → All (Diagonal n) (pairs sheet.now 3 (n - 3)) → ⊥ }
 {
     let m = n - 3;
-    let mut i = 0;
-    while i < m {
-        let k = pair_key(sheet, 3 + 4 * i, n);
-        if k == 0 {
+    for i in 0..m {
+        let Some(k) = pair_key(sheet, 3 + 4 * i, n) else {
             return false;
-        }
+        };
         bends[i] = bend(k, angle_code(sheet, angled, sheet.len() - 2 * m + 2 * i));
-        i += 1;
     }
     true
 }
@@ -150,14 +142,7 @@ fn in_range(bends: &[u32]) -> bool
     ensures yes { result ≡ true → All CodeFits bends.now }
     ensures no { result ≡ false → All CodeFits bends.now → ⊥ }
 {
-    let mut j = 0;
-    while j < bends.len() {
-        if code_in(bends[j]) > 3600 {
-            return false;
-        }
-        j += 1;
-    }
-    true
+    bends.iter().all(|&bend| code_in(bend) <= 3600)
 }
 
 // Whether the angles are allowed: there are none, or there are more than 3 corners and each is in range.
@@ -176,39 +161,34 @@ fn allowed(h: Head, bends: &[u32]) -> bool
 }
 
 // The tests of the pairs and the angles of a sheet whose head was read. The angles are looked at before they move, and tested last.
-fn read_rest(sheet: &[u8], h: Head, bends: &mut [u32], keys: &mut [u32]) -> Read
-    requires head { HeadOf sheet.now h }
-    requires sizes { (1021 ≤ length bends.old) × (1021 ≤ length keys.old) }
-    ensures part { ReadsBent (read_sheet sheet.now) result bends.new }
-    ensures keys { KeysSay result bends.new keys.new }
+fn read_rest(sheet: &[u8], h: Head) -> Result<Part, Refusal>
+    requires { HeadOf sheet.now h }
+    ensures { reading_of result ≡ read_sheet sheet.now }
 {
     let n = h.n;
-    let angled = h.angled;
     let m = n - 3;
-    if !read_bends(sheet, n, angled, bends) {
-        return Read::Refused(5);
+    let mut bends = [0u32; DIAGONALS];
+    if !read_bends(sheet, n, h.angled, &mut bends) {
+        return Err(Refusal::NoDiagonal);
     }
     let fits = allowed(h, &bends[..m]);
+    let mut keys = [0u32; DIAGONALS];
     if !order(&mut bends[..m], &mut keys[..m]) {
-        return Read::Refused(6);
+        return Err(Refusal::RepeatedPair);
     }
     if crosses(&keys[..m], n) {
-        return Read::Refused(7);
+        return Err(Refusal::Crossing);
     }
     if !fits {
-        return Read::Refused(23);
+        return Err(Refusal::Angles);
     }
-    Read::Held(h)
+    Ok(Part::new(h, bends))
 }
 
-// Reads a sheet: the part's head, with the bends of its diagonals in one table, ascending, and their keys in another, or a refusal.
-pub fn read_sheet(sheet: &[u8], bends: &mut [u32], keys: &mut [u32]) -> Read
-    requires { (1021 ≤ length bends.old) × (1021 ≤ length keys.old) }
-    ensures part { ReadsBent (read_sheet sheet.now) result bends.new }
-    ensures keys { KeysSay result bends.new keys.new }
+// Reads a sheet: the part that it holds, or a refusal.
+pub fn read_sheet(sheet: &[u8]) -> Result<Part, Refusal>
+    ensures { reading_of result ≡ read_sheet sheet.now }
 {
-    match read_head(sheet) {
-        Read::Refused(k) => Read::Refused(k),
-        Read::Held(h) => read_rest(sheet, h, bends, keys),
-    }
+    let h = read_head(sheet)?;
+    read_rest(sheet, h)
 }

@@ -1,23 +1,22 @@
 -- Writing a normal sheet field by field into an output: stores one behind the other are the sheet's bytes, followed by what was there.
 use mathlib.Core.Path.{◌≡◌, refl, ap, sym, ◌∙◌}
-use mathlib.Core.Bool.{Bool, true, false}
+use mathlib.Core.Bool.{Bool}
 use mathlib.Core.List.{List, [], ◌∷◌, ◌++◌, map-append}
 use Prim.Native.Nat.{ℕ, ◌+◌, ◌*◌, ◌-◌, ◌/◌, ◌%◌, ◌≤◌, ◌<◌}
 use native.Mathlib.Omega.{arith}
-use lib.ListN.{length, take, drop, set, get_or, length-append, length-map}
-use lib.Seq.{sets, length-take-le}
-use Rattle.polygon.specs.Polygon.{Edge}
+use lib.ListN.{length, take, set, get_or, length-append, length-map}
+use lib.Seq.{sets, length-take-le, take_all}
+use Rattle.polygon.specs.Polygon.{Edge, Polygon, Valid}
 use Rattle.codec.specs.Numbers.{bytes16, run16}
 use Rattle.codec.proofs.Numbers.{length_run16, run16_snoc}
-use Rattle.codec.specs.Answer.{Answer, refusal, whole, written, write}
+use Rattle.codec.specs.Answer.{whole}
 use Rattle.lists.proofs.Places.{map_next}
 use Rattle.lists.proofs.Stores.{sets_append, sets_front}
-use Rattle.codec.proofs.Answers.{written_short, written_fits}
 use Rattle.keys.specs.Keys.{edge_of, edges_of, key_in, keys_in, angle_in, angles_in}
-use Rattle.sheet.specs.declared.Head.{Head}
 use Rattle.sheet.specs.Sheet.{field, pair_bytes, angle_bytes, map_byte, normal_sheet}
-use Rattle.sheet.specs.Held.{bit, angles_by, part_of, normal_length, BentInHand}
-use Rattle.sheet.proofs.Hand.{bends_count}
+use Rattle.polygon.specs.Angles.{Angles, none, each, Allowed}
+use Rattle.sheet.specs.Hand.{angles_by, part_of, head_of, has_angles}
+use Rattle.sheet.specs.Held.{bit, normal_length}
 use Rattle.sheet.proofs.Normal.{pairs_length}
 
 pairs_snoc : (es : List Edge) (e : Edge) → pair_bytes (es ++ (e ∷ [])) ≡ pair_bytes es ++ (bytes16 e.0 ++ bytes16 e.1)
@@ -45,55 +44,43 @@ angles_next bends out at i h =
     let n : length (run16 vs) ≡ i * 2 = omega (arith, length_run16 vs, length-map (take i bends) angle_in, length-take-le i bends (omega arith)) in
     rw (map_next angle_in bends i 0 h, run16_snoc vs v, sets_append (run16 vs) (bytes16 v) out at, n)
 
--- the angles' bit, and their bytes, by the head
-pub map_of : (n : ℕ) (b : Bool) (bs : List ℕ) → map_byte n (angles_by b []) ≡ map_byte n (angles_by b bs)
+angles_size : (n : ℕ) (a : Angles) → Allowed n a → length (angle_bytes a) ≡ field (bit (has_angles a)) (2 * (n - 3))
+angles_size n none h = refl
+angles_size n (each vs) h = omega (arith, length_run16 vs, h)
+
+pub size_is : {p : Polygon} → Valid p → length (normal_sheet p) ≡ normal_length (head_of p)
+unfolding normal_sheet
+size_is {p} V = omega (arith, pairs_length p.ds, V.triangulated.full, angles_size p.n p.angles V.allowed, length-append (pair_bytes p.ds) (angle_bytes p.angles))
+
+pub size_by : {p : Polygon} → Valid p → (b : Bool) → has_angles p.angles ≡ b → length (normal_sheet p) ≡ 3 + 4 * (p.n - 3) + field (bit b) (2 * (p.n - 3))
+size_by V b e = rw e at (size_is V)
+
+-- bit 3 of the map byte hangs on whether there are angles, and not on which
+map_of : (n : ℕ) (a : Angles) → map_byte n (angles_by (has_angles a) []) ≡ map_byte n a
 unfolding map_byte
-map_of n true bs = refl
-map_of n false bs = refl
+map_of n none = refl
+map_of n (each vs) = refl
 
-bytes_by : (b : Bool) (bs : List ℕ) → length (angle_bytes (angles_by b bs)) ≡ field (bit b) (2 * length bs)
-bytes_by true bs = omega (arith, length_run16 (angles_in bs), length-map bs angle_in)
-bytes_by false bs = refl
+-- all fields of a part p, whose bends are bs, are stored one behind the other in an output
+module _ {p : Polygon} (V : Valid p) (bs : List ℕ) (same : part_of (head_of p) bs ≡ p) (all : length bs ≡ p.n - 3) (out : List ℕ) where
+  front : take (p.n - 3) bs ≡ bs
+  front = take_all (p.n - 3) bs (omega (arith, all))
 
--- the part that the code holds
-module _ {h : Head} {bs : List ℕ} (P : BentInHand h bs) (out : List ℕ) where
-  abbrev bends : List ℕ
-  bends = take (h.n - 3) bs
+  edges_same : edges_of (keys_in bs) ≡ p.ds
+  edges_same = rw front at (ap (λ (q : Polygon). q.ds) same)
 
-  abbrev bytes : List ℕ
-  bytes = normal_sheet (part_of h bs)
+  angles_same : angles_by (has_angles p.angles) bs ≡ p.angles
+  angles_same = rw front at (ap (λ (q : Polygon). q.angles) same)
 
-  pairs_size : length (pair_bytes (edges_of (keys_in bends))) ≡ 4 * (h.n - 3)
-  pairs_size = omega (arith, pairs_length (edges_of (keys_in bends)), length-map (keys_in bends) edge_of, length-map bends key_in, bends_count P)
-
-  pub sheet_size : length bytes ≡ normal_length h
-  unfolding normal_sheet
-  sheet_size = omega (arith, pairs_size, length-append (pair_bytes (edges_of (keys_in bends))) (angle_bytes (angles_by h.angled bends)), rw (bends_count P) at (bytes_by h.angled bends))
-
-  pub too_short : length out < normal_length h → refusal 8 out ≡ written (write bytes) out
-  too_short k = sym (written_short bytes out (omega (arith, sheet_size)))
-
-  abbrev pub stored : List ℕ
-  stored = sets (sets (set out 0 (map_byte h.n (angles_by h.angled []))) 1 (bytes16 h.n)) 3 (pair_bytes (edges_of (keys_in bends)))
-
-  -- all fields are there, with angles or without
-  pub finished : (o : List ℕ) (b : Bool) → h.angled ≡ b → normal_length h ≤ length out → o ≡ sets stored (3 + 4 * (h.n - 3)) (angle_bytes (angles_by b bends))
-      → o ≡ (whole bytes out).bytes
+  pub finished : (o : List ℕ) (b : Bool) → has_angles p.angles ≡ b → length (normal_sheet p) ≤ length out
+      → o ≡ sets (sets (sets (set out 0 (map_byte p.n (angles_by (has_angles p.angles) []))) 1 (bytes16 p.n)) 3 (pair_bytes (edges_of (keys_in bs)))) (3 + 4 * (p.n - 3)) (angle_bytes (angles_by b bs))
+      → o ≡ (whole (normal_sheet p) out).bytes
   unfolding normal_sheet
   finished o b a fits e =
-      let es : List ℕ = pair_bytes (edges_of (keys_in bends)) in
-      let vs : List ℕ = angle_bytes (angles_by h.angled bends) in
-      let m : ℕ = map_byte h.n (angles_by h.angled bends) in
-      let at : 3 + 4 * (h.n - 3) ≡ 3 + length es = omega (arith, pairs_size) in
-      let count : List ℕ = sets (set out 0 m) 1 (bytes16 h.n) in
-      let one : sets (sets count 3 es) (3 + 4 * (h.n - 3)) vs ≡ bytes ++ drop (length bytes) out =
-      ap (λ (j : ℕ). sets (sets count 3 es) j vs) at ∙ (sym (sets_append es vs count 3) ∙ (sym (sets_append (bytes16 h.n) (es ++ vs) (set out 0 m) 1) ∙ sets_front (m ∷ (bytes16 h.n ++ (es ++ vs))) out (omega (arith, sheet_size)))) in
-      let own = e ∙ sym (ap (λ (b : Bool). sets stored (3 + 4 * (h.n - 3)) (angle_bytes (angles_by b bends))) a) in
-      rw (map_of h.n h.angled bends) at own ∙ one
-
-  -- r is the size that the code tells
-  pub told_whole : (o : List ℕ) (r : ℕ) → r ≡ normal_length h → r ≤ length out → o ≡ (whole bytes out).bytes
-      → ◌≡◌ {A = Answer} (record { number = 0; size = r; bytes = o }) (written (write bytes) out)
-  told_whole o r told fits e =
-      let n = told ∙ sym sheet_size in
-      (λ i. record { number = 0; size = n i; bytes = e i }) ∙ sym (written_fits bytes out (omega (arith, sheet_size)))
+      let es : List ℕ = pair_bytes p.ds in
+      let vs : List ℕ = angle_bytes p.angles in
+      let m : ℕ = map_byte p.n p.angles in
+      let at : 3 + 4 * (p.n - 3) ≡ 3 + length es = omega (arith, pairs_length p.ds, V.triangulated.full) in
+      let count : List ℕ = sets (set out 0 m) 1 (bytes16 p.n) in
+      let own : o ≡ sets (sets count 3 es) (3 + 4 * (p.n - 3)) vs = rw (← a, map_of p.n p.angles, edges_same, angles_same) at e in
+      own ∙ (ap (λ (j : ℕ). sets (sets count 3 es) j vs) at ∙ (sym (sets_append es vs count 3) ∙ (sym (sets_append (bytes16 p.n) (es ++ vs) (set out 0 m) 1) ∙ sets_front (m ∷ (bytes16 p.n ++ (es ++ vs))) out fits)))

@@ -6,8 +6,9 @@ use Prim.Native.Nat.{ℕ, zero, suc, ◌+◌, ◌*◌, ◌-◌, ◌/◌, ◌≤�
 use native.Mathlib.Decide.{ℕ_discrete, dec_lt}
 use native.Mathlib.Nat.{zero-add}
 use native.Mathlib.Omega.{arith}
-use lib.ListN.{length, get_or, set, length-map}
-use lib.Seq.{get_or-set_same, get_or-set_other}
+use lib.ListN.{length, take, get_or, set, length-map, length-take}
+use lib.Seq.{get_or-set_same, get_or-set_other, get_or-take}
+use Rattle.std.proofs.lemmas.List.{get_or_past}
 use Rattle.lists.specs.Lists.{Sorted, sorted_cons, below}
 use Rattle.lists.proofs.Lists.{choose_yes, choose_no}
 use Rattle.lists.proofs.Places.{below_count, number_at}
@@ -63,14 +64,6 @@ pub record Filling (n : ℕ) (ks out₀ out : List ℕ) (i k : ℕ) : Type 0 whe
   pub kept : (j : ℕ) → k ≤ j → get_or out j 0 ≡ get_or out₀ j 0
   pub behind : (j : ℕ) → j < k - i → before ks j ≤ i
   pub ahead : (j : ℕ) → k - i ≤ j → j < length ks → i ≤ before ks j
-
-pub filling_begins : (n : ℕ) (ks out : List ℕ) → Filling n ks out out 0 0
-filling_begins n ks out = record {
-  merging = record { first = omega arith; both = omega arith; second = omega arith; kept = refl; rest = refl };
-  kept = λ j h. refl;
-  behind = λ j h. absurd (omega arith);
-  ahead = λ j h k. omega arith;
-}
 
 module _ {n : ℕ} (ks : List ℕ) (P : Triangulated n (edges_of ks)) (small : n ≤ 1024) where
   pub count : length ks + 3 ≡ n
@@ -131,7 +124,7 @@ module _ {n : ℕ} (ks : List ℕ) (P : Triangulated n (edges_of ks)) (small : n
         go j h e (no p) = f (omega arith, omega (arith, F.ahead (k - i) (omega arith) (omega arith), up (k - i) j (omega arith) h, F.merging.both))
 
     -- an edge around the part
-    fill_free : get_or out₀ k 0 ≡ 0 → Filling n ks out₀ (set out k (outline_at n i)) (i + 1) (k + 1)
+    pub fill_free : get_or out₀ k 0 ≡ 0 → Filling n ks out₀ (set out k (outline_at n i)) (i + 1) (k + 1)
     fill_free z =
         record {
           merging = subst (λ (x : ℕ). Merging (outline n) ks (length out₀) (set out k x) (i + 1) (k + 1)) (outline_there n i few)
@@ -155,30 +148,30 @@ module _ {n : ℕ} (ks : List ℕ) (P : Triangulated n (edges_of ks)) (small : n
             go (yes p) = omega (arith, less p, inside (k - i) p, count)
             go (no p) = omega (arith, F.merging.second)
 
-    -- a diagonal
-    fill_taken : 0 < get_or out₀ k 0 → Filling n ks out₀ (set out k (get_or out₀ k 0)) i (k + 1)
+    -- a diagonal, which stands there already
+    pub fill_taken : ¬ (get_or out₀ k 0 ≡ 0) → Filling n ks out₀ (set out k (get_or out k 0)) i (k + 1)
     fill_taken z = go next?
       where
-        go : Dec ((k - i < length ks) × (before ks (k - i) ≡ i)) → Filling n ks out₀ (set out k (get_or out₀ k 0)) i (k + 1)
-        go (no f) = absurd (omega (arith, none f))
+        go : Dec ((k - i < length ks) × (before ks (k - i) ≡ i)) → Filling n ks out₀ (set out k (get_or out k 0)) i (k + 1)
+        go (no f) = absurd (z (none f))
         go (yes h) = record {
-          merging = rw (diagonal h).0 (merging_second F.merging room h.0 (λ p. rw (outline_there n i (omega (arith, outline_count n))) (comes_behind i (k - i) h.0 (omega (arith, h.1)))));
+          merging = rw (F.kept k (omega arith) ∙ (diagonal h).0) (merging_second F.merging room h.0 (λ p. rw (outline_there n i (omega (arith, outline_count n))) (comes_behind i (k - i) h.0 (omega (arith, h.1)))));
           kept = kept_on _;
           behind = λ j p. omega (arith, up j (k - i) (omega (arith, F.merging.both)) h.0, h.1);
           ahead = λ j p q. F.ahead j (omega arith) q;
         }
 
-    -- whichever it is, as the code chooses it: y is what stands there, x the next edge around the part
-    pub fill_next : (y x z d : ℕ) → y ≡ get_or out₀ k 0 → x ≡ outline_at n i → (y ≡ 0 → z ≡ x) → (0 < y → z ≡ y) → (y ≡ 0 → d ≡ 1) → (0 < y → d ≡ 0) → Filling n ks out₀ (set out k z) (i + d) (k + 1)
-    fill_next y x z d e x-is z-free z-taken d-free d-taken = go (ℕ_discrete y 0)
-      where
-        go : Dec (y ≡ 0) → Filling n ks out₀ (set out k z) (i + d) (k + 1)
-        go (yes q) = rw (z-free q ∙ x-is, d-free q) (fill_free (sym e ∙ q))
-        go (no q) =
-            let p : 0 < y = omega arith in
-            let o : i + d ≡ i = omega (arith, d-taken p) in
-            rw (z-taken p ∙ e, o) (fill_taken (omega arith))
-
   -- behind all edges nothing stands
   pub none_behind : {out : List ℕ} → Stood (length ks) ks out → (k : ℕ) → 2 * n - 3 ≤ k → get_or out k 0 ≡ 0
   none_behind S k h = S.free k (λ j p e. omega (arith, inside j p))
+
+  -- nor does a diagonal
+  pub stood_front : {out : List ℕ} → Stood (length ks) ks out → Stood (length ks) ks (take (n + length ks) out)
+  stood_front {out} S = record { there = λ j h. get_or-take m out (place_of ks j) 0 (omega (arith, inside j h, count)) ∙ S.there j h; free = λ k f. go k f (dec_lt k m) }
+    where
+      m : ℕ
+      m = n + length ks
+
+      go : (k : ℕ) → ((j : ℕ) → j < length ks → ¬ (k ≡ place_of ks j)) → Dec (k < m) → get_or (take m out) k 0 ≡ 0
+      go k f (yes h) = get_or-take m out k 0 h ∙ S.free k f
+      go k f (no h) = get_or_past (take m out) k 0 (omega (arith, length-take m out))

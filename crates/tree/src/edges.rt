@@ -15,13 +15,11 @@ fn outline_at(n: usize, i: usize) -> u32
     ensures root { i ≡ 1 → result ≡ n - 1 }
     ensures side { ¬ (i ≡ 1) → result ≡ side (i - 1) }
 {
-    if i == 1 {
-        return (n - 1) as u32;
+    match i {
+        0 => 1,
+        1 => (n - 1) as u32,
+        _ => ((i - 1) * 1025 + 1) as u32,
     }
-    if i == 0 {
-        return 1;
-    }
-    ((i - 1) * 1025 + 1) as u32
 }
 
 // How many of these come before a diagonal with the lower corner a.
@@ -39,28 +37,9 @@ fn place_diagonals(keys: &[u32], n: usize, listed: &mut [u32])
     requires fresh { (i : ℕ) → get_or listed.old i 0 ≡ 0 }
     ensures { Stood (length keys.now) keys.now listed.new }
 {
-    let mut j = 0;
-    while j < keys.len() {
-        let k = keys[j];
+    for (j, &k) in keys.iter().enumerate() {
         listed[j + outline_before(low(k))] = k;
-        j += 1;
     }
-}
-
-// What stands at a place, or x if it is free.
-fn or_else(y: u32, x: u32) -> u32
-    ensures free { y ≡ 0 → result ≡ x }
-    ensures taken { 0 < y → result ≡ y }
-{
-    if y == 0 { x } else { y }
-}
-
-// 1 if nothing stands at a place.
-fn is_free(y: u32) -> usize
-    ensures free { y ≡ 0 → result ≡ 1 }
-    ensures taken { 0 < y → result ≡ 0 }
-{
-    if y == 0 { 1 } else { 0 }
 }
 
 // Stores the edges around n corners at the places that the diagonals leave free.
@@ -71,14 +50,13 @@ fn place_outline(keys: &[u32], n: usize, listed: &mut [u32])
     ensures merged { take (2 * n - 3) listed.new ≡ merge (outline n) keys.now }
     ensures rest { (j : ℕ) → 2 * n - 3 ≤ j → get_or listed.new j 0 ≡ 0 }
 {
-    let size = n + keys.len();
     let mut i = 0;
-    let mut k = 0;
-    while k < size {
-        let y = listed[k];
-        listed[k] = or_else(y, outline_at(n, i));
-        i += is_free(y);
-        k += 1;
+    for place in listed[..n + keys.len()].iter_mut() {
+        // 0 stays for a free place: the clauses fresh and rest of list_edges say so of the table, and no key is 0.
+        if *place == 0 {
+            *place = outline_at(n, i);
+            i += 1;
+        }
     }
 }
 

@@ -42,7 +42,7 @@ pub fn open(tree: &[u32; PLACES], p: Root) -> Two
     requires apart { p.u + 1 < p.v }
     ensures { result ≡ beyond tree.now p }
 {
-    let e = p.e as usize;
+    let e = usize::from(p.e);
     let c = tree[e - 1] % 1024;
     let r = tree[LAST + c as usize];
     let left = Root {
@@ -64,11 +64,9 @@ fn place_lasts(tree: &mut [u32], m: usize)
     ensures edges { take 2048 tree.new ≡ take 2048 tree.old }
     ensures lasts { Lasts m tree.new }
 {
-    let mut j = 0;
-    while j < m {
+    for j in 0..m {
         let c = low(tree[j]);
         tree[LAST + c] = j as u32;
-        j += 1;
     }
 }
 

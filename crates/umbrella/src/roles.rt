@@ -1,9 +1,9 @@
 // How the plan drawn goes on from a triangle to the two pieces beyond its other edges. specs/Roles.antt has the same in definitions.
 ghost use Rattle.std.specs.Prelude.{◌≡◌};
-ghost use Rattle.umbrella.specs.Roles.{from_right, is_hung, left_step, right_step, goes_left, stem_step, step_at, levels_under};
+ghost use Rattle.umbrella.specs.Roles.{from_right, left_step, right_step, goes_left, stem_step, step_at, levels_under};
 
 // A piece is hung, with an umbrella of its own; or it lies on the rim below or above the apex of an umbrella; or the umbrella's stem has entered it, and is built from the left or from the right.
-#[derive(Clone, Copy)]
+#[derive(Clone, Copy, Debug, PartialEq, Eq)]
 pub enum Role {
     Hung,
     LeftRim,
@@ -13,7 +13,7 @@ pub enum Role {
 }
 
 // The roles of the left and of the right piece, and whether their columns are crossed.
-#[derive(Clone, Copy)]
+#[derive(Clone, Copy, Debug, PartialEq, Eq)]
 pub struct Step {
     pub left: Role,
     pub right: Role,
@@ -24,25 +24,7 @@ pub struct Step {
 pub fn from_right(p: Role) -> bool
     ensures { result ≡ from_right p }
 {
-    match p {
-        Role::Hung => false,
-        Role::LeftRim => true,
-        Role::RightRim => false,
-        Role::FromLeft => false,
-        Role::FromRight => true,
-    }
-}
-
-pub fn is_hung(p: Role) -> bool
-    ensures { result ≡ is_hung p }
-{
-    match p {
-        Role::Hung => true,
-        Role::LeftRim => false,
-        Role::RightRim => false,
-        Role::FromLeft => false,
-        Role::FromRight => false,
-    }
+    matches!(p, Role::LeftRim | Role::FromRight)
 }
 
 // On the rim below the apex: the piece hung on the rim edge, or the one that the stem enters.
@@ -85,28 +67,12 @@ fn right_step(d: u16, ud_l: u16) -> Step
 fn goes_left(right: bool, d: u16, ud_l: u16, ud_r: u16, handle_l: u16) -> bool
     ensures { result ≡ goes_left right d ud_l ud_r handle_l }
 {
-    if ud_l == 0 {
-        if ud_r == 0 {
-            return !right;
-        }
-        if ud_r <= d {
-            return true;
-        }
-        return false;
+    match (ud_l, ud_r) {
+        (0, 0) => !right,
+        (0, _) => ud_r <= d,
+        (_, 0) => ud_l > d,
+        _ => ud_r <= d && handle_l <= d,
     }
-    if ud_r == 0 {
-        if ud_l <= d {
-            return false;
-        }
-        return true;
-    }
-    if ud_r > d {
-        return false;
-    }
-    if handle_l > d {
-        return false;
-    }
-    true
 }
 
 // The stem goes on across one edge, the other piece is hung.
@@ -150,9 +116,6 @@ pub fn levels_under(p: Role, d: u16, own: u16) -> u16
 {
     match p {
         Role::Hung => own,
-        Role::LeftRim => d,
-        Role::RightRim => d,
-        Role::FromLeft => d,
-        Role::FromRight => d,
+        _ => d,
     }
 }

@@ -5,7 +5,6 @@
 
 use chart_text::TEXT_ROOM;
 use chart_text::program::INPUT_ROOM;
-use console::Input;
 
 // Prints what is said of an input of which these are the first bytes.
 fn answer(rt: &(impl Print + Eprint), input: &[u8; INPUT_ROOM], size: usize) {
@@ -14,9 +13,10 @@ fn answer(rt: &(impl Print + Eprint), input: &[u8; INPUT_ROOM], size: usize) {
     console::print(rt, &text[..n]);
 }
 
+// bend does the same with another room and another answer: a function that takes both would be no plainer than these four lines.
 fn main(rt: HostRuntime) {
     let mut input = [0u8; INPUT_ROOM];
-    if let Input::Bytes(size) = console::read_input(&rt, &mut rt.stdin(), &mut input) {
+    if let Some(size) = console::read_input(&rt, &mut rt.stdin(), &mut input) {
         answer(&rt, &input, size);
     }
 }

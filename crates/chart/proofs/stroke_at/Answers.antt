@@ -2,13 +2,13 @@
 use Rattle.std.proofs.Common.{◌≡◌, ◌%◌, get_or, arith}
 use Rattle.chart.specs.Decode.{shaped}
 use Rattle.chart.proofs.stroke_at.Goals as goal
-
-pub returns-then-bytes-at-eq0 : goal.returns-then-bytes-at-eq0
-unfolding shaped
-returns-then-bytes-at-eq0 c = rw (c.if-bytes-at-eq0.true, c.number-a.ensures, c.number-b.ensures)
+use Rattle.chart.proofs.stroke_at.Goals.{then-bytes-at-eq1, else-bytes-at-eq1}
 
 pub returns : goal.returns
 unfolding shaped
-returns c =
-    let bit : get_or c.args.bytes.now c.args.at 0 % 2 ≡ 1 = omega (arith, c.if-bytes-at-eq0.false) in
-    rw (bit, c.number-a.ensures, c.number-b.ensures, c.number-column.ensures)
+returns c = elim c.if-bytes-at-eq1.branch [
+  | then-bytes-at-eq1 w ↦ rw (w.column-is, w.if-bytes-at-eq1.true, w.number.ensures, c.number-2.ensures, c.number-3.ensures)
+  | else-bytes-at-eq1 w ↦
+      let bit : get_or c.args.bytes.now c.args.at 0 % 2 ≡ 0 = omega (arith, w.if-bytes-at-eq1.false) in
+      rw (w.column-is, bit, c.number-2.ensures, c.number-3.ensures)
+]

@@ -1,15 +1,17 @@
 -- Read, then written.
-use Rattle.std.proofs.Common.{◌∙◌}
+use Rattle.std.proofs.Common.{ap, ◌∙◌}
+use Rattle.std.proofs.lemmas.Result.{err_from_is_err_and}
 use Rattle.codec.specs.Answer.{written}
 use Rattle.sheet.specs.Sheet.{Reading, outcome}
-use Rattle.sheet.proofs.Hand.{read_is}
 use Rattle.chart_reader.specs.Reader.{chart_read}
 use Rattle.chart_reader.proofs.read_chart.Goals as goal
 
-pub returns-in-Refused : goal.returns-in-Refused
+pub returns-in_err-part : goal.returns-in_err-part
 unfolding chart_read outcome written
-returns-in-Refused c = read_is (λ (q : Reading). written (outcome q) c.args.out.now) c.read_part.ensures.part c.in-Refused.is
+returns-in_err-part c =
+    let p = err_from_is_err_and c.from_residual.result c.from_residual.ensures.1 in
+    rw (p.1, p.2) (ap (λ (q : Reading). written (outcome q) c.args.out.now) c.in_err-part.ensures)
 
-pub returns-in-Held : goal.returns-in-Held
+pub returns : goal.returns
 unfolding chart_read outcome
-returns-in-Held c = c.write_keys.ensures ∙ read_is (λ (q : Reading). written (outcome q) c.args.out.now) c.read_part.ensures.part c.in-Held.is
+returns c = c.write_sheet.ensures ∙ ap (λ (q : Reading). written (outcome q) c.args.out.now) c.in_ok-part.ensures

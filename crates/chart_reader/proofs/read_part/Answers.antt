@@ -1,7 +1,13 @@
 -- The form of the bytes is tested, and the tables are as long as there are corners and strokes.
-use Rattle.sheet.specs.Held.{refuses}
+use Rattle.std.proofs.Common.{sym}
+use Rattle.std.proofs.lemmas.Option.{MatchOption-at_none}
+use Rattle.std.proofs.lemmas.Result.{err_from_is_err_and}
+use Rattle.chart_reader.proofs.Stroked.{refused_as}
 use Rattle.chart_reader.proofs.Verdict.{by_14, read_by}
 use Rattle.chart_reader.proofs.read_part.Goals as goal
 
-pub returns-then-n-eq0 : goal.returns-then-n-eq0
-returns-then-n-eq0 c = record { part = refuses (read_by c.args.chart.now (by_14 (c.frame-n.ensures.none c.if-n-eq0.true))); bare = tt }
+pub returns-in_err-n : goal.returns-in_err-n
+returns-in_err-n c =
+    let none = MatchOption-at_none _ _ c.in_err-n.ensures.ok_part c.frame.ensures in
+    let p = err_from_is_err_and c.from_residual.result c.from_residual.ensures.1 in
+    rw (p.1, p.2, refused_as _ c.in_err-n.ensures.value) (sym (read_by c.args.chart.now (by_14 none)))

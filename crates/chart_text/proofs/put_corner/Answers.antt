@@ -6,10 +6,6 @@ use Rattle.chart_text.specs.Text.{corner_word, row_word, to_word, corner_line}
 use Rattle.chart_text.proofs.Lines.{field_end}
 use Rattle.chart_text.proofs.put_corner.Goals as goal
 
-pub put_word-requires : goal.put_word-requires
-put_word-requires c =
-    omega (arith, c.requires, c.put_field-a.ensures.within, c.put_field-a.auto.out, c.put_field-b.ensures.within, c.put_field-b.auto.out, c.put_field-c.ensures.within, c.put_field-c.auto.out, c.put_field-d.ensures.within, c.put_field-d.auto.out)
-
 pub returns : goal.returns
 unfolding corner_line
 returns c =

@@ -1,10 +1,10 @@
 -- Read, cut, written.
-use mathlib.Core.Path.{◌∙◌}
+use mathlib.Core.Path.{ap, ◌∙◌}
 use Prim.Native.Nat.{ℕ}
+use Rattle.std.proofs.lemmas.Result.{err_from_is_err_and}
 use Rattle.polygon.specs.Order.{lower_first}
 use Rattle.codec.specs.TwoOutputs.{BothAnswer, written_both}
 use Rattle.sheet.specs.Sheet.{Reading}
-use Rattle.sheet.proofs.Hand.{read_is, in_hand, keys_of}
 use Rattle.edit.specs.Calls.{on_held}
 use Rattle.cut.specs.Cut.{cuttable, halved, cut_sheet}
 use Rattle.cut.proofs.cut.Goals.{Start}
@@ -14,15 +14,12 @@ use Rattle.cut.proofs.cut.Goals as goal
 abbrev answer : Start → Reading → BothAnswer ℕ
 answer c q = written_both (halved (lower_first (c.args.a, c.args.b)) (on_held q (cuttable c.args.a c.args.b))) c.args.inner.now c.args.rest.now
 
-pub cut_part-requires : goal.cut_part-requires
-cut_part-requires c =
-    (in_hand c.read_sheet.ensures.part c.in-Held.is, keys_of c.read_sheet.ensures.keys c.in-Held.is)
-
-pub returns-in-Refused : goal.returns-in-Refused
+pub returns-in_err-part : goal.returns-in_err-part
 unfolding cut_sheet on_held halved written_both
-returns-in-Refused c = read_is (answer (goal.at.returns-in-Refused c).Start) c.read_sheet.ensures.part c.in-Refused.is
+returns-in_err-part c =
+    let p = err_from_is_err_and c.from_residual.result c.from_residual.ensures.1 in
+    rw (p.1, p.2) (ap (answer (goal.at.returns-in_err-part c).Start) c.in_err-part.ensures)
 
-pub returns-in-Held : goal.returns-in-Held
+pub returns : goal.returns
 unfolding cut_sheet on_held
-returns-in-Held c =
-    c.cut_part.ensures ∙ read_is (answer (goal.at.returns-in-Held c).Start) c.read_sheet.ensures.part c.in-Held.is
+returns c = c.cut_part.ensures ∙ ap (answer (goal.at.returns c).Start) c.in_ok-part.ensures

@@ -5,7 +5,7 @@ use Prim.Native.Nat.{ℕ}
 use native.Mathlib.Omega.{arith}
 use Rattle.codec.specs.Answer.{written, write}
 use Rattle.drawing.proofs.Whole.{sized}
-use Rattle.draw.proofs.Charting.{stopped_by, not_stopped, placed_sizes, count, placed_few, placed_inside, front_size, after_size, placed_asks, placed_edges, placed_among, placed_laid, placed_chart, placed_corners, placed_rows, placed_columns}
+use Rattle.draw.proofs.Charting.{stopped_by, not_stopped, placed_few, placed_inside, front_size, placed_asks, placed_edges, placed_among, placed_laid, placed_chart, placed_corners, placed_rows, placed_columns}
 use Rattle.draw.proofs.write_part.Goals as goal
 
 pub slice_bounds-rows-end : goal.slice_bounds-rows-end
@@ -29,37 +29,16 @@ close-height-requires c =
     record { inside = placed_inside F least P; few = placed_few F least P }
 
 -- the chart is refused before it is written
-pub returns-then-k-gt0 : goal.returns-then-k-gt0
-returns-then-k-gt0 c t F =
+pub returns-in-Some : goal.returns-in-Some
+returns-in-Some c t F =
     let P = c.place-placed.ensures t F in
     let shut = c.close-height in
     let rows_are = placed_rows F c.requires.least P shut.new.rows shut.ensures.rows shut.ensures.height in
     record {
-      answer = stopped_by _ _ _ _ c.stop-k.ensures rows_are (placed_corners F c.requires.least P) c.if-k-gt0.true;
+      answer = stopped_by _ _ _ _ c.stop.ensures rows_are (placed_corners F c.requires.least P) _ c.in-Some.is;
       rows_are = rows_are;
       columns_are = placed_columns F c.requires.least P;
     }
-
-pub slice_bounds-columns-end : goal.slice_bounds-columns-end
-slice_bounds-columns-end c =
-    let least = c.requires.least in
-    let t = c.requires.filled.0 in
-    let F = c.requires.filled.1 in
-    let P = c.place-placed.ensures t F in
-    omega (arith, placed_sizes F least P, P.columns_kept)
-
-pub slice_bounds-write_chart-end-2 : goal.slice_bounds-write_chart-end-2
-slice_bounds-write_chart-end-2 c = let least = c.requires.least in
-    let t = c.requires.filled.0 in
-    let F = c.requires.filled.1 in sym (count F least (c.place-placed.ensures t F))
-
-pub slice_bounds-write_chart-end-3 : goal.slice_bounds-write_chart-end-3
-slice_bounds-write_chart-end-3 c =
-    let least = c.requires.least in
-    let t = c.requires.filled.0 in
-    let F = c.requires.filled.1 in
-    let shut = c.close-height in
-    sym (after_size F least (c.place-placed.ensures t F) shut.new.rows shut.ensures.rows shut.ensures.height)
 
 pub write_chart-requires : goal.write_chart-requires
 write_chart-requires c =
@@ -83,7 +62,7 @@ returns c t F =
       answer =
           c.write_chart.ensures _ _ _ (placed_laid F least P front e k)
           ∙ (ap (λ (bs : List ℕ). written (write bs) c.args.out.now) (placed_chart F least P front e k)
-          ∙ not_stopped _ _ _ _ c.stop-k.ensures rows_are (placed_corners F least P) c.if-k-gt0.false);
+          ∙ not_stopped _ _ _ _ c.stop.ensures rows_are (placed_corners F least P) c.in_default.is);
       rows_are = rows_are;
       columns_are = placed_columns F least P;
     }

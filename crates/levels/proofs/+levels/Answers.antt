@@ -3,7 +3,6 @@ use Prim.Native.Nat.{ℕ}
 use native.Mathlib.Omega.{arith}
 use lib.ListN.{length-set}
 use Rattle.tree.proofs.Pieces.{corners, opened, one_piece}
-use Rattle.levels.proofs.Storing.{grows_on}
 use Rattle.levels.proofs.Joining.{side_deep}
 use Rattle.levels.proofs.Descending.{descending_begins, Halves, halves}
 use Rattle.levels.proofs.+levels.Goals.{then-y, else-y, After-by_size-t}
@@ -15,18 +14,6 @@ loop-x-init t c = let pre = c.requires in descending_begins c.args.tree.now c.ar
 pub overflow_add-x : goal.overflow_add-x
 overflow_add-x t c = omega (arith, corners c.loop-x.invariant.shows)
 
-pub offset_bounds-path-k : goal.offset_bounds-path-k
-offset_bounds-path-k t c = omega (arith, c.loop-x.invariant, c.requires)
-
-pub bounds-path-k : goal.bounds-path-k
-bounds-path-k t c = omega (arith, c.loop-x.invariant, c.requires)
-
-pub overflow_add-k : goal.overflow_add-k
-overflow_add-k t c = omega (arith, c.loop-x.invariant, c.requires)
-
-pub open-requires-clause-shown : goal.open-requires-clause-shown
-open-requires-clause-shown t c = record { tree = c.loop-x.invariant.t; shows = c.loop-x.invariant.shows }
-
 -- the two parts of the piece reached
 split : (t : ℕ) (c : After-by_size-t t) →
     Halves c.args.tree.now c.args.depths.now c.args.path.now c.args.from c.args.p c.loop-x.depths c.loop-x.path c.loop-x.x c.loop-x.k c.by_size-t.result
@@ -36,9 +23,6 @@ split t c =
 pub by_size-t-requires : goal.by_size-t-requires
 by_size-t-requires t c = let d = opened c.loop-x.invariant.shows c.loop-x-test.true in rw c.«open».ensures (omega (arith, d), omega (arith, d))
 
-pub overflow_add-y : goal.overflow_add-y
-overflow_add-y t c = omega (arith, corners (split t (goal.at.overflow_add-y t c).After-by_size-t).shows_small)
-
 pub levels-requires : goal.levels-requires
 levels-requires t c =
     let H = split t (goal.at.levels-requires t c).After-by_size-t in
@@ -47,12 +31,6 @@ levels-requires t c =
 
 pub ear-requires-clause-shown : goal.ear-requires-clause-shown
 ear-requires-clause-shown t c = let H = split t (goal.at.ear-requires-clause-shown t c).After-by_size-t in record { tree = H.small; shows = H.shows_small }
-
-pub ear-requires-clause-room : goal.ear-requires-clause-room
-ear-requires-clause-room t c = c.loop-x.invariant.room
-
-pub ear-requires-clause-sides : goal.ear-requires-clause-sides
-ear-requires-clause-sides t c = c.loop-x.invariant.leaves
 
 pub loop-x-smaller : goal.loop-x-smaller
 loop-x-smaller t c = let H = split t (goal.at.loop-x-smaller t c).After-by_size-t in omega (arith, H)
@@ -66,25 +44,13 @@ loop-x-preserved t c =
       | else-y w ↦ let m = w.ear.ensures in rw (w.depths-is, w.path-is) (record { grows = m.grows; deep = m.deep H.small H.shows_small; kept = λ j q. refl; room = m.room; path_room = simp length-set D.path_room })
     ])
 
-pub ascend-requires-clause-room : goal.ascend-requires-clause-room
-ascend-requires-clause-room t c = let D = c.loop-x.invariant in (omega (arith, D, c.requires.room.0), D.room)
-
 pub ascend-requires-clause-way : goal.ascend-requires-clause-way
 ascend-requires-clause-way t c =
     -- the piece at the end of the way down is a side
     let D = c.loop-x.invariant in
     (_, _, record { e = _; t = D.t; passed = D.passed; deep = side_deep D.shows c.loop-x-test.false D.leaves })
 
-pub returns-clause-room : goal.returns-clause-room
-returns-clause-room t c = (c.ascend.ensures.room, c.loop-x.invariant.path_room)
-
-pub returns-clause-grows : goal.returns-clause-grows
-returns-clause-grows t c = grows_on c.loop-x.invariant.grows c.ascend.ensures.grows
-
 pub returns-clause-deep : goal.returns-clause-deep
 returns-clause-deep t c =
     let D = c.loop-x.invariant in
     λ x s. rw (one_piece s D.whole) (c.ascend.ensures.deep _ _ (record { e = _; t = D.t; passed = D.passed; deep = side_deep D.shows c.loop-x-test.false D.leaves }))
-
-pub returns-clause-kept : goal.returns-clause-kept
-returns-clause-kept t c = c.loop-x.invariant.kept

@@ -1,11 +1,9 @@
 -- A triangle is joined from its two sides; a side has its values.
-use mathlib.Core.Path.{◌∙◌, ap}
+use mathlib.Core.Path.{◌∙◌}
 use native.Mathlib.Omega.{arith}
 use Prim.Native.Nat.{◌+◌, ◌<◌}
-use lib.ListN.{length}
 use Rattle.tree.proofs.Pieces.{Parts, corners, opened, one_piece}
 use Rattle.levels.specs.Kept.{PartsHeld}
-use Rattle.levels.proofs.Storing.{with_length, grows_self}
 use Rattle.levels.proofs.Joining.{stored_grows, stored_deep, side_deep, ear_held}
 use Rattle.levels.proofs.ear.Goals.{Start}
 use Rattle.levels.proofs.ear.Goals as goal
@@ -21,15 +19,18 @@ pub overflow_add-p : goal.overflow_add-p
 overflow_add-p c = omega (arith, corners c.requires.shown.shows)
 
 pub join_at-requires : goal.join_at-requires
-join_at-requires c = (_, _, held (goal.at.join_at-requires c).Start c.if-p.true)
+join_at-requires c = rw c.from.ensures (_, _, held (goal.at.join_at-requires c).Start c.if-p.true)
 
-pub returns-then-p : goal.returns-then-p
-returns-then-p c =
+pub returns-then-p-clause-grows : goal.returns-then-p-clause-grows
+returns-then-p-clause-grows c =
+    let H = held (goal.at.returns-then-p-clause-grows c).Start c.if-p.true in
+    stored_grows H c.requires.room _ ((rw c.from.ensures at c.join_at.ensures) _ _ H)
+
+pub returns-then-p-clause-deep : goal.returns-then-p-clause-deep
+returns-then-p-clause-deep c =
     let h = c.if-p.true in
-    let H = held (goal.at.returns-then-p c).Start h in
-    let room = c.requires.room in
-    let is = c.join_at.ensures _ _ H in
-    record { room = ap length is ∙ (with_length c.args.depths.now _ _ ∙ room); grows = stored_grows H room _ is; deep = λ t s. rw (one_piece s c.requires.shown.shows ∙ (parts (goal.at.returns-then-p c).Start h).is) (stored_deep H room _ is) }
+    let H = held (goal.at.returns-then-p-clause-deep c).Start h in
+    λ t s. rw (one_piece s c.requires.shown.shows ∙ (parts (goal.at.returns-then-p-clause-deep c).Start h).is) (stored_deep H c.requires.room _ ((rw c.from.ensures at c.join_at.ensures) _ _ H))
 
-pub returns-else-p : goal.returns-else-p
-returns-else-p c = record { room = c.requires.room; grows = grows_self; deep = λ t s. side_deep s c.if-p.false c.requires.sides }
+pub returns-else-p-clause-deep : goal.returns-else-p-clause-deep
+returns-else-p-clause-deep c = λ t s. side_deep s c.if-p.false c.requires.sides

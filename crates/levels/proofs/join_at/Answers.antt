@@ -8,17 +8,8 @@ use Rattle.levels.proofs.join_at.Goals as goal
 pub right_edge-r-requires : goal.right_edge-r-requires
 right_edge-r-requires c = held_places c.requires.2
 
-pub overflow_sub-e : goal.overflow_sub-e
-overflow_sub-e c = omega (arith, held_places c.requires.2)
-
-pub values-ac-requires : goal.values-ac-requires
-values-ac-requires c = omega (arith, held_places c.requires.2)
-
 pub values-cb-requires : goal.values-cb-requires
 values-cb-requires c = omega (arith, c.right_edge-r.ensures, held_places c.requires.2)
-
-pub overflow_sub-e-2 : goal.overflow_sub-e-2
-overflow_sub-e-2 c = omega (arith, held_places c.requires.2)
 
 pub beyond_left-dc-requires : goal.beyond_left-dc-requires
 beyond_left-dc-requires c =

@@ -1,30 +1,39 @@
--- The first sheet read, and the second joined to it.
-use mathlib.Core.Path.{◌∙◌}
-use mathlib.Core.List.{List}
-use Prim.Native.Nat.{ℕ}
+-- Both sheets read, the halves joined, and written.
+use mathlib.Core.Path.{◌≡◌, ap, ◌∙◌}
+use Rattle.std.proofs.lemmas.Result.{err_from_is_err_and}
 use Rattle.polygon.specs.Polygon.{Polygon}
-use Rattle.codec.specs.Answer.{Answer, written}
+use Rattle.codec.specs.Answer.{written}
 use Rattle.sheet.specs.Sheet.{Reading, read_sheet, outcome}
-use Rattle.sheet.proofs.Hand.{read_is}
+use Rattle.sheet.specs.Held.{reading_of}
 use Rattle.edit.specs.Calls.{on_held}
 use Rattle.seam.specs.Join.{join_rule, joined_sheets}
-use Rattle.seam.proofs.Taken.{half_of}
+use Rattle.seam.proofs.join.Goals.{After-glue}
 use Rattle.seam.proofs.join.Goals as goal
 
--- what is answered, by what is read of the first sheet
-abbrev answer : List ℕ → ℕ → List ℕ → Reading → Answer
-answer t i out q = written (outcome (on_held q (λ (p : Polygon). on_held (read_sheet t) (join_rule i p)))) out
+-- what joining gives, of the two sheets
+after : (c : After-glue) → reading_of c.glue.result ≡ on_held (read_sheet c.args.first.now) (λ (p : Polygon). on_held (read_sheet c.args.second.now) (join_rule c.args.side p))
+unfolding on_held
+after c = rw (← c.in_ok-one.ensures, ← c.in_ok-other.ensures) c.glue.ensures
 
-pub join_to-requires : goal.join_to-requires
-join_to-requires c = half_of c.read_half.ensures.flat c.in-Held.is
-
-pub returns-in-Refused : goal.returns-in-Refused
+pub returns-in_err-one : goal.returns-in_err-one
 unfolding joined_sheets on_held outcome written
-returns-in-Refused c =
-    read_is (answer c.args.second.now c.args.side c.args.out.now) c.read_half.ensures.part c.in-Refused.is
+returns-in_err-one c =
+    let p = err_from_is_err_and c.from_residual.result c.from_residual.ensures.1 in
+    rw (p.1, p.2, ← c.in_err-one.ensures)
 
-pub returns-in-Held : goal.returns-in-Held
-unfolding joined_sheets on_held
-returns-in-Held c =
-    c.join_to.ensures
-    ∙ read_is (answer c.args.second.now c.args.side c.args.out.now) c.read_half.ensures.part c.in-Held.is
+pub returns-in_err-other : goal.returns-in_err-other
+unfolding joined_sheets on_held outcome written
+returns-in_err-other c =
+    let p = err_from_is_err_and c.from_residual-in_err-other.result c.from_residual-in_err-other.ensures.1 in
+    rw (p.1, p.2, ← c.in_ok-one.ensures, ← c.in_err-other.ensures)
+
+pub returns-in_err-joined : goal.returns-in_err-joined
+unfolding joined_sheets outcome written
+returns-in_err-joined c =
+    let p = err_from_is_err_and c.from_residual-in_err-joined.result c.from_residual-in_err-joined.ensures.1 in
+    rw (p.1, p.2) (ap (λ (q : Reading). written (outcome q) c.args.out.now) (rw c.in_err-joined.was at (after (goal.at.returns-in_err-joined c).After-glue)))
+
+pub returns : goal.returns
+unfolding joined_sheets outcome
+returns c =
+    c.write_sheet.ensures ∙ ap (λ (q : Reading). written (outcome q) c.args.out.now) (rw c.in_ok-joined.was at (after (goal.at.returns c).After-glue))

@@ -1,6 +1,5 @@
 use mathlib.Core.Path.{refl, ◌∙◌}
 use native.Mathlib.Omega.{arith}
-use lib.Seq.{take_all}
 use Rattle.sheet.specs.Sheet.{pair_bytes}
 use Rattle.sheet_writer.proofs.Writing.{edges_next}
 use Rattle.sheet_writer.proofs.put_edges.Goals as goal
@@ -9,12 +8,6 @@ pub loop-i-init : goal.loop-i-init
 unfolding pair_bytes
 loop-i-init c = (omega arith, refl, refl)
 
-pub put16-requires : goal.put16-requires
-put16-requires c = omega (arith, c.low.ensures, c.key_in-k.ensures)
-
-pub put16-requires-in-loop-i : goal.put16-requires-in-loop-i
-put16-requires-in-loop-i c = omega (arith, c.put16.auto.s, c.high.ensures)
-
 pub loop-i-preserved : goal.loop-i-preserved
 loop-i-preserved c = (
   omega arith,
@@ -22,6 +15,3 @@ loop-i-preserved c = (
   c.put16-in-loop-i.ensures ∙ rw (c.put16.ensures, c.low.ensures, c.high.ensures.0, c.key_in-k.ensures.0, c.loop-i.invariant.2)
       (edges_next c.args.bends.now c.args.out.now c.args.at c.loop-i.i (omega arith)),
 )
-
-pub returns : goal.returns
-returns c = c.loop-i.invariant.2 ∙ rw (take_all c.loop-i.i c.args.bends.now (omega arith))

@@ -1,11 +1,13 @@
 -- The length is known before the first byte is written.
+use mathlib.Core.Path.{sym, ◌∙◌}
 use native.Mathlib.Omega.{arith}
-use Rattle.sheet_writer.proofs.Writing.{too_short, told_whole}
+use Rattle.sheet.specs.Sheet.{normal_sheet}
+use Rattle.codec.proofs.Answers.{written_short, written_fits}
 use Rattle.sheet_writer.proofs.write_sheet.Goals as goal
 
 pub returns-then-out-size : goal.returns-then-out-size
-returns-then-out-size c = too_short c.requires c.args.out.now (omega (arith, c.if-out-size.true, c.normal_size-size.ensures))
+returns-then-out-size c = sym (written_short (normal_sheet c.args.part.now) c.args.out.now (omega (arith, c.if-out-size.true)))
 
 pub returns : goal.returns
 returns c =
-    told_whole c.requires c.args.out.now _ _ c.normal_size-size.ensures (omega (arith, c.if-out-size.false)) c.put_sheet.ensures
+    (λ i. record { number = 0; size = c.sheet_size-size.ensures i; bytes = c.put_sheet.ensures i }) ∙ sym (written_fits (normal_sheet c.args.part.now) c.args.out.now (omega (arith, c.if-out-size.false)))

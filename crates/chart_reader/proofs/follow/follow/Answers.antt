@@ -1,8 +1,7 @@
 -- The tests in their order, by the laws of Following.antt.
-use mathlib.Core.Path.{ap, sym, ◌∙◌}
+use mathlib.Core.Path.{sym}
 use Rattle.chart.specs.Decode.{chart_in}
-use Rattle.nearest.specs.Nearest.{found_of}
-use Rattle.chart_reader.proofs.Following.{by_15, by_9, followed_by, nearest_is, answer_is}
+use Rattle.chart_reader.proofs.Following.{by_15, by_9, followed_by, answer_is}
 use Rattle.chart_reader.proofs.follow.follow.Goals as goal
 
 pub returns-then-not-bars_keep : goal.returns-then-not-bars_keep
@@ -11,16 +10,8 @@ returns-then-not-bars_keep c = sym (followed_by _ _ (by_15 c.requires.chart.0 (c
 pub returns-then-not-asked : goal.returns-then-not-asked
 returns-then-not-asked c = sym (followed_by _ _ (by_9 c.requires.chart.0 (c.bars_keep.ensures.yes c.if-not-bars_keep.false).0 (c.asked.ensures.no c.if-not-asked.true)))
 
-pub returns-in-None : goal.returns-in-None
-returns-in-None c =
+pub returns : goal.returns
+returns c =
     let C = chart_in c.args.chart.now in
     let (rule, order) = c.bars_keep.ensures.yes c.if-not-bars_keep.false in
-    let answer = answer_is c.args.chart.now _ c.requires.chart.1.count c.requires.chart.0 rule (c.asked.ensures.yes c.if-not-asked.false) (c.nearest_corner.ensures C.bar c.args.n order) in
-    ap (λ r. nearest_is (found_of r)) (sym c.in-None.is) ∙ answer
-
-pub returns-in-Bar : goal.returns-in-Bar
-returns-in-Bar c =
-    let C = chart_in c.args.chart.now in
-    let (rule, order) = c.bars_keep.ensures.yes c.if-not-bars_keep.false in
-    let answer = answer_is c.args.chart.now _ c.requires.chart.1.count c.requires.chart.0 rule (c.asked.ensures.yes c.if-not-asked.false) (c.nearest_corner.ensures C.bar c.args.n order) in
-    ap (λ r. nearest_is (found_of r)) (sym c.in-Bar.is) ∙ answer
+    answer_is c.args.chart.now _ c.requires.chart.1.count c.requires.chart.0 rule (c.asked.ensures.yes c.if-not-asked.false) (c.nearest_corner.ensures C.bar c.args.n order)

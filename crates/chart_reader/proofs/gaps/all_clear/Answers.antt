@@ -1,21 +1,23 @@
-use mathlib.Core.Bool.{true≢false, false≢true}
-use mathlib.Core.Path.{sym, subst}
-use native.Mathlib.Omega.{arith}
-use Rattle.chart.specs.Decode.{chart_in}
+use Rattle.std.proofs.Common.{ℕ, rules}
+use Rattle.std.proofs.lemmas.Iterator.{YieldsList-from_slice, cases_from_all}
+use Rattle.std.proofs.lemmas.Iterator.Adapters.{serves_from_places}
+use Rattle.lists.proofs.Chains.{all_yes, all_no}
+use Rattle.chart.specs.Decode.{chart_in, stroke_at}
+use Rattle.nearest.specs.Order.{firsts, lasts}
 use Rattle.chart_reader.specs.Gaps.{Clear}
-use Rattle.chart_reader.proofs.Stroked.{strokes_all, strokes_at, bars_room, place_room, stroke_in}
+use Rattle.chart_reader.proofs.Stroked.{bars_room, met_room, met_in, places_strokes, strokes_places}
 use Rattle.chart_reader.proofs.gaps.all_clear.Goals as goal
 
-pub stroke_at-s-requires : goal.stroke_at-s-requires
-stroke_at-s-requires c = place_room _ _ _ c.requires.0 c.loop-i.i c.loop-i-test.true
-
-pub clear-requires : goal.clear-requires
-clear-requires c = (stroke_in _ _ _ c.requires.0 c.loop-i.i c.loop-i-test.true c.stroke_at-s.ensures c.requires.1, bars_room _ _ _ c.requires.0, c.requires.2)
-
-pub returns-then-not-clear : goal.returns-then-not-clear
-returns-then-not-clear c =
-    let a = c.args in
-    let s = a.chart.now in record { yes = λ h. absurd (false≢true h); no = λ h all. c.clear.ensures.no c.if-not-clear.true (subst (Clear (chart_in s) a.from.now a.to.now) (sym c.stroke_at-s.ensures) (strokes_at s a.n a.at.now c.requires.0 all c.loop-i.i c.loop-i-test.true)) }
+pub all-requires : goal.all-requires
+all-requires c =
+    let (P, N, O) = c.requires in
+    let room = bars_room _ _ _ P in
+    record { can = tt; finite = tt; callable = serves_from_places (YieldsList-from_slice c.args.at.now c.iter.ensures.rest) (λ x q k. search rules) (λ x k h e. let here = met_room _ _ _ P x.now k h e in let within = met_in _ _ _ P x.now k h e N in search (rules, within)) }
 
 pub returns : goal.returns
-returns c = record { yes = λ h. strokes_all _ _ _ c.requires.0 (λ k i. c.loop-i.invariant.1 k (omega arith)); no = λ h. absurd (true≢false h) }
+returns c =
+    let P = c.requires.0 in
+    let C = chart_in c.args.chart.now in
+    let free = λ (p : ℕ). Clear C (firsts c.args.gaps.now) (lasts c.args.gaps.now) (stroke_at c.args.chart.now p) in
+    let cases = cases_from_all _ _ _ free (λ x. ¬ free x) c.all.ensures.ran (YieldsList-from_slice c.args.at.now c.iter.ensures.rest) (λ x q k. search rules) (λ x q k. search rules) in
+    record { yes = λ h. places_strokes _ _ _ P (all_yes _ cases h); no = λ h a. all_no _ cases h (strokes_places _ _ _ P a) }

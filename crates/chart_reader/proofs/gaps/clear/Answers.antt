@@ -1,20 +1,18 @@
 -- By whether the stroke is upright.
-use mathlib.Core.Bool.{true≢false, false≢true}
-use mathlib.Core.Path.{ap, sym, ◌∙◌}
-use borrow.Author.Tests.{not-false}
+use Rattle.std.proofs.Common.{ap, sym, ◌∙◌}
 use Rattle.chart.specs.Decode.{chart_in}
 use Rattle.nearest.specs.Nearest.{found_of}
+use Rattle.nearest.specs.Order.{firsts, lasts}
+use Rattle.chart_reader.proofs.Stroked.{none_is, some_is}
 use Rattle.chart_reader.proofs.Passing.{upright_clear, upright_met}
 use Rattle.chart_reader.proofs.gaps.clear.Goals as goal
 
-pub returns-in-None : goal.returns-in-None
-returns-in-None c =
+pub returns : goal.returns
+returns c =
     let a = c.args in
-    let told = sym c.in_column.ensures ∙ ap found_of c.in-None.is in
-    record { yes = λ h. upright_clear (chart_in a.chart.now) a.s (not-false _ c.if-not-s.false) c.stroke_ends-e.ensures a.from.now a.to.now told; no = λ h. absurd (true≢false h) }
-
-pub returns-in-Bar : goal.returns-in-Bar
-returns-in-Bar c =
-    let a = c.args in
-    let told = sym c.in_column.ensures ∙ ap found_of c.in-Bar.is in
-    record { yes = λ h. absurd (false≢true h); no = λ h. upright_met (chart_in a.chart.now) a.s (not-false _ c.if-not-s.false) c.stroke_ends-e.ensures a.from.now a.to.now _ told }
+    let (j, up) = some_is c.if-is_none.ensures in
+    let told = sym c.in_column.ensures in
+    record {
+      yes = λ h. upright_clear (chart_in a.chart.now) a.s up c.stroke_ends-e.ensures (firsts a.gaps.now) (lasts a.gaps.now) (told ∙ ap found_of (none_is (rw h at c.is_none-2.ensures)));
+      no = λ h. let (x, is) = some_is (rw h at c.is_none-2.ensures) in upright_met (chart_in a.chart.now) a.s up c.stroke_ends-e.ensures (firsts a.gaps.now) (lasts a.gaps.now) x (told ∙ ap found_of is);
+    }

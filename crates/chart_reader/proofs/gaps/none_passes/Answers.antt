@@ -1,36 +1,45 @@
 -- The gaps are put, and each upright is held against them.
-use mathlib.Core.Bool.{true≢false}
-use native.Mathlib.Omega.{arith}
-use mathlib.Core.Path.{◌≡◌, ◌∙◌, sym}
-use Prim.Native.Nat.{◌+◌}
-use lib.ListN.{length}
+use Rattle.std.proofs.Common.{◌≡◌, ℕ, ◌+◌, ◌%◌, ◌<◌, length, get_or, true≢false, sym, arith}
 use Rattle.chart.specs.Decode.{chart_in}
-use Rattle.chart_reader.proofs.Passing.{gaps_ordered, ends_within, no_gaps, clear_rule, rule_clear}
+use Rattle.nearest.specs.Order.{firsts, lasts}
+use Rattle.nearest.proofs.Seeking.{firsts_length, lasts_length}
+use Rattle.chart_reader.proofs.Passing.{gaps_ordered, ends_within, ends_room, no_gaps, clear_rule, rule_clear}
+use Rattle.chart_reader.proofs.gaps.none_passes.Goals.{After-put_gaps}
 use Rattle.chart_reader.proofs.gaps.none_passes.Goals as goal
+
+-- the last cells of the bars lie in columns that have one behind them
+within : (c : After-put_gaps) → (i : ℕ) → i < length (lasts c.args.spans.now) → get_or (lasts c.args.spans.now) i 0 % 65536 < 65535
+within c = ends_within (chart_in c.args.chart.now) c.args.n (firsts c.args.spans.now) (lasts c.args.spans.now) _ c.requires.bars c.requires.chart.1 c.requires.chart.0.count (omega (arith, c.type_inv.chart 2, c.type_inv.chart (2 + 1)))
+
+-- where the gaps start
+froms : (c : After-put_gaps) → (i : ℕ) → i < length (lasts c.args.spans.now) → get_or (firsts c.put_gaps.new.gaps) i 0 ≡ get_or (lasts c.args.spans.now) i 0 + 1
+froms c i h = rw c.put_gaps.ensures.starts (c.put_empty.ensures i (omega (arith, lasts_length c.args.spans.now))).0
+
+long : (c : After-put_gaps) → length (firsts c.put_gaps.new.gaps) ≡ length (lasts c.args.spans.now)
+long c = omega (arith, firsts_length c.put_gaps.new.gaps, c.put_gaps.auto.gaps, c.put_empty.auto.gaps, c.requires.size, c.requires.bars.order.size, c.requires.bars.count)
+
+pub put_empty-requires : goal.put_empty-requires
+put_empty-requires c = record {
+  size = omega (arith, c.requires.size, firsts_length c.args.spans.now, c.requires.bars.count);
+  room = λ i h. ends_room (chart_in c.args.chart.now) c.args.n (firsts c.args.spans.now) (lasts c.args.spans.now) _ c.requires.bars c.requires.chart.1 c.requires.chart.0.count
+      (omega (arith, c.type_inv.chart 0, c.type_inv.chart 1)) (omega (arith, c.type_inv.chart 2, c.type_inv.chart (2 + 1))) i (omega (arith, lasts_length c.args.spans.now));
+}
 
 pub returns-then-not-put_gaps : goal.returns-then-not-put_gaps
 returns-then-not-put_gaps c = record { yes = λ h. no_gaps c.args.chart.now c.args.n c.args.at.now c.requires.chart.0 (c.put_gaps.ensures.any c.if-not-put_gaps.true); no = λ h. absurd (true≢false h) }
 
-pub copy_plus-requires-2 : goal.copy_plus-requires-2
-copy_plus-requires-2 c =
-    let size = c.requires.tables.1.order.size ∙ c.requires.tables.1.count in
-    let within = ends_within (chart_in c.args.chart.now) c.args.n c.args.starts.now c.args.ends.now c.requires.tables.0 c.requires.tables.1 c.requires.chart.1 c.requires.chart.0.count (omega (arith, c.type_inv.chart 2, c.type_inv.chart (2 + 1))) in
-    record { sizes = omega (arith, c.requires.sizes, size); room = λ i h. omega (arith, c.type_inv.ends i, within i h) }
-
 pub all_clear-requires : goal.all_clear-requires
 all_clear-requires c =
-    let size = c.requires.tables.1.order.size ∙ c.requires.tables.1.count in
-    let within = ends_within (chart_in c.args.chart.now) c.args.n c.args.starts.now c.args.ends.now c.requires.tables.0 c.requires.tables.1 c.requires.chart.1 c.requires.chart.0.count (omega (arith, c.type_inv.chart 2, c.type_inv.chart (2 + 1))) in
-    let a = c.args in
-    let O = c.requires.tables.1 in
-    let from = c.copy_plus-2.new.out in
-    let long : length from ≡ length a.ends.now = omega (arith, c.copy_plus-2.auto.out, c.requires.sizes, size) in
-    (c.requires.chart.0, c.requires.chart.2.0, gaps_ordered (chart_in a.chart.now) _ _ a.starts.now a.ends.now from _ c.put_gaps.ensures.gaps long c.copy_plus-2.ensures (within) (sym O.order.size) O.whole)
+    let here = (goal.at.all_clear-requires c).After-put_gaps in
+    let O = c.requires.bars in
+    (c.requires.chart.0, c.requires.chart.2.0, gaps_ordered (chart_in c.args.chart.now) _ _ (firsts c.args.spans.now) (lasts c.args.spans.now) (firsts c.put_gaps.new.gaps) _ c.put_gaps.ensures.gaps (long here) (froms here) (within here) (sym O.order.size) O.whole)
 
 pub returns : goal.returns
 returns c =
-    let size = c.requires.tables.1.order.size ∙ c.requires.tables.1.count in
-    let within = ends_within (chart_in c.args.chart.now) c.args.n c.args.starts.now c.args.ends.now c.requires.tables.0 c.requires.tables.1 c.requires.chart.1 c.requires.chart.0.count (omega (arith, c.type_inv.chart 2, c.type_inv.chart (2 + 1))) in
+    let here = (goal.at.returns c).After-put_gaps in
     let a = c.args in
-    let from = c.copy_plus-2.new.out in
-    let long : length from ≡ length a.ends.now = omega (arith, c.copy_plus-2.auto.out, c.requires.sizes, size) in record { yes = λ h. clear_rule a.chart.now a.n a.at.now c.requires.chart.0 a.starts.now a.ends.now from _ c.put_gaps.ensures.gaps long c.copy_plus-2.ensures (within) (c.all_clear.ensures.yes h); no = λ h R. c.all_clear.ensures.no h (rule_clear a.chart.now a.n a.at.now c.requires.chart.0 a.starts.now a.ends.now from _ c.put_gaps.ensures.gaps long c.copy_plus-2.ensures (within) R) }
+    let near = within here in
+    record {
+      yes = λ h. clear_rule a.chart.now a.n a.at.now c.requires.chart.0 (firsts a.spans.now) (lasts a.spans.now) (firsts c.put_gaps.new.gaps) _ c.put_gaps.ensures.gaps (long here) (froms here) near (c.all_clear.ensures.yes h);
+      no = λ h R. c.all_clear.ensures.no h (rule_clear a.chart.now a.n a.at.now c.requires.chart.0 (firsts a.spans.now) (lasts a.spans.now) (firsts c.put_gaps.new.gaps) _ c.put_gaps.ensures.gaps (long here) (froms here) near R);
+    }

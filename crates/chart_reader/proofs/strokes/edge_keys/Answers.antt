@@ -3,18 +3,20 @@ use native.Mathlib.Omega.{arith}
 use lib.ListN.{length}
 use Rattle.chart_reader.proofs.Stroked.{place_room}
 use Rattle.chart_reader.proofs.Keyed.{not_named, keyed_next, all_named, all_keyed}
+use Rattle.chart_reader.proofs.strokes.edge_keys.Goals.{then-s-via-then-s, then-s-via-else-s+then-s-n}
 use Rattle.chart_reader.proofs.strokes.edge_keys.Goals as goal
 
 pub stroke_at-s-requires : goal.stroke_at-s-requires
 stroke_at-s-requires c = place_room _ _ _ c.requires.0 c.loop-i.i c.loop-i-test.true
 
 pub returns-then-s : goal.returns-then-s
-returns-then-s c =
-    record { yes = λ h. absurd (false≢true h); no = λ h. not_named _ _ _ _ c.loop-i.keys c.loop-i.i c.loop-i.invariant c.requires.0 c.loop-i-test.true c.stroke_at-s.result c.stroke_at-s.ensures (λ q. omega arith) }
-
-pub returns-then-s-n : goal.returns-then-s-n
-returns-then-s-n c =
-    record { yes = λ h. absurd (false≢true h); no = λ h. not_named _ _ _ _ c.loop-i.keys c.loop-i.i c.loop-i.invariant c.requires.0 c.loop-i-test.true c.stroke_at-s.result c.stroke_at-s.ensures (λ q. omega arith) }
+returns-then-s c = record {
+  yes = λ h. absurd (false≢true h);
+  no = λ h. not_named _ _ _ _ c.loop-i.keys c.loop-i.i c.loop-i.invariant c.requires.0 c.loop-i-test.true c.stroke_at-s.result c.stroke_at-s.ensures (λ q. elim c.then-s.branch [
+    | then-s-via-then-s w ↦ omega (arith, w.if-s.true)
+    | then-s-via-else-s+then-s-n w ↦ omega (arith, w.if-s-n.true)
+  ]);
+}
 
 pub loop-i-preserved : goal.loop-i-preserved
 loop-i-preserved c =

@@ -1,11 +1,7 @@
 -- The loop's invariant is `KeysRead`.
-use Prim.Native.Nat.{◌-◌}
 use lib.ListN.{length}
 use Rattle.chart_reader.proofs.Keyed.{KeysRead}
 use Rattle.chart_reader.proofs.strokes.edge_keys.Given as goal
 
 abbrev pub invariant-loop-i : goal.invariant-loop-i
 invariant-loop-i l = KeysRead l.chart l.n l.at (length l.initial.keys) l.keys l.i
-
-abbrev pub decreases-loop-i : goal.decreases-loop-i
-decreases-loop-i l = length l.at - l.i

@@ -11,6 +11,6 @@ use Rattle.chart_text.proofs.program.describe_input.Goals as goal
 
 pub returns : goal.returns
 returns c =
-    let said : (input : List ℕ) → Begins c.args.lent.now c.args.size input → described (take c.least.result c.args.lent.now) ≡ described input =
-    λ input b. ap (λ (k : ℕ). described (take k c.args.lent.now)) c.least.ensures ∙ begins_text c.args.lent.now input c.args.size (omega arith) b in
+    let said : (input : List ℕ) → Begins c.args.lent.now c.args.size input → described (take c.min.result c.args.lent.now) ≡ described input =
+    λ input b. ap (λ (k : ℕ). described (take k c.args.lent.now)) c.min.ensures ∙ begins_text c.args.lent.now input c.args.size (omega arith) b in
     record { text = λ input b. rw (said input b) at c.describe_first.ensures.text; within = c.describe_first.ensures.within }

@@ -1,11 +1,10 @@
 -- The keys, then sorting as many as there are strokes.
-use mathlib.Core.Path.{◌≡◌, ap, sym, ◌∙◌}
+use mathlib.Core.Path.{◌≡◌}
 use borrow.Author.Rules.{rules}
 use Prim.Native.Nat.{◌<◌}
 use native.Mathlib.Omega.{arith}
 use lib.ListN.{length, take}
-use lib.Seq.{length-take-le, take_at, get_or-take}
-use Rattle.keys.specs.Sort.{sort_keys}
+use lib.Seq.{length-take-le, get_or-take}
 use Rattle.lists.proofs.Places.{all_at}
 use Rattle.chart_text.proofs.strokes.order.Goals.{After-stroke_keys}
 use Rattle.chart_text.proofs.strokes.order.Goals as goal
@@ -15,19 +14,9 @@ keys_size : (c : After-stroke_keys)
 keys_size c =
     length-take-le (length c.args.at.now) c.stroke_keys.new.keys (omega (arith, c.stroke_keys.auto.keys, c.requires.room))
 
-pub slice_bounds-sort-end-2 : goal.slice_bounds-sort-end-2
-slice_bounds-sort-end-2 c = sym (keys_size (goal.at.slice_bounds-sort-end-2 c).After-stroke_keys)
-
-pub sort-requires-clause-sizes : goal.sort-requires-clause-sizes
-sort-requires-clause-sizes c = omega (arith, keys_size (goal.at.sort-requires-clause-sizes c).After-stroke_keys, c.requires.room)
-
 pub sort-requires-clause-within : goal.sort-requires-clause-within
 sort-requires-clause-within c =
     let m = length c.args.at.now in
     let size = keys_size (goal.at.sort-requires-clause-within c).After-stroke_keys in
     let keys = c.stroke_keys.new.keys in
     all_at 0 (take m keys) (λ j h. let k : j < m = omega (arith, size) in rw (get_or-take m keys j 0 k) (search rules))
-
-pub returns : goal.returns
-returns c =
-    take_at c.sort.new.keys _ (length c.args.at.now) (c.sort.auto.keys ∙ keys_size (goal.at.returns c).After-stroke_keys) ∙ c.sort.ensures ∙ ap sort_keys c.stroke_keys.ensures

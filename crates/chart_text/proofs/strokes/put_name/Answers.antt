@@ -1,5 +1,4 @@
 -- By the cells that the stroke runs between; its columns have at most five digits.
-use borrow.Author.Tests.{not-true, not-false}
 use native.Mathlib.Omega.{arith}
 use Rattle.log_line.proofs.Putting.{put_then}
 use Rattle.chart.specs.Decode.{chart_in}
@@ -8,12 +7,12 @@ use Rattle.chart_text.proofs.Lines.{field_end}
 use Rattle.chart_text.proofs.Words.{level_put, line_put}
 use Rattle.chart_text.proofs.strokes.put_name.Goals as goal
 
-pub returns-then-not-s : goal.returns-then-not-s
-returns-then-not-s c =
+pub returns-in-None : goal.returns-in-None
+returns-in-None c =
     let C = chart_in c.args.chart.now in
-    record { text = level_put C c.args.s c.stroke_ends-e.ensures (not-true _ c.if-not-s.true) (put_then c.put_field-a.ensures.text c.put_field.ensures.text); within = omega (arith, field_end level_word 4 c.stroke_ends-e.result.first.column (omega (arith, c.stroke_ends-e.ensures.first_small)) c.put_field-a.ensures.text, field_end to_word 4 c.stroke_ends-e.result.last.column (omega (arith, c.stroke_ends-e.ensures.last_small)) c.put_field.ensures.text) }
+    record { text = level_put C c.args.s c.stroke_ends.ensures c.in-None.is (put_then c.put_field-a.ensures.text c.put_field.ensures.text); within = omega (arith, field_end level_word 4 c.stroke_ends.result.first.column (omega (arith, c.stroke_ends.ensures.first_small)) c.put_field-a.ensures.text, field_end to_word 4 c.stroke_ends.result.last.column (omega (arith, c.stroke_ends.ensures.last_small)) c.put_field.ensures.text) }
 
-pub returns : goal.returns
-returns c =
+pub returns-in-Some : goal.returns-in-Some
+returns-in-Some c =
     let C = chart_in c.args.chart.now in
-    record { text = line_put C c.args.s c.stroke_ends-e.ensures (not-false _ c.if-not-s.false) c.put_field-2.ensures.text; within = omega (arith, field_end line_word 4 c.stroke_ends-e.result.first.column (omega (arith, c.stroke_ends-e.ensures.first_small)) c.put_field-2.ensures.text) }
+    record { text = line_put C c.args.s c.stroke_ends.ensures c.in-Some.is c.put_field-in-Some.ensures.text; within = omega (arith, field_end line_word 4 c.stroke_ends.result.first.column (omega (arith, c.stroke_ends.ensures.first_small)) c.put_field-in-Some.ensures.text) }

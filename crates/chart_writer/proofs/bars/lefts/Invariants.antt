@@ -1,13 +1,12 @@
--- The loop's invariant: the columns from j on are stored.
+-- The loop's invariant: the columns from j on are stored, the rows and the last columns stay.
 use mathlib.Core.Path.{◌≡◌}
-use Prim.Native.Nat.{◌≤◌}
-use lib.ListN.{length}
+use Rattle.chart_writer.specs.Tables.{rows_of, lefts_of, rights_of}
 use Rattle.chart_writer.proofs.Extents.{Lefts}
 use Rattle.chart_writer.proofs.Placing.{ColumnsPlaced}
 use Rattle.chart_writer.proofs.bars.lefts.Given as goal
 
 abbrev pub invariant-loop-j : goal.invariant-loop-j
-invariant-loop-j l = (l.j ≤ length l.columns) × (length l.left ≡ 1024) × (length l.stands ≡ 2045) × Lefts l.tree l.columns l.left l.j × ColumnsPlaced l.columns l.stands l.j
-
-abbrev pub decreases-loop-j : goal.decreases-loop-j
-decreases-loop-j l = l.j
+invariant-loop-j l =
+    Lefts l.tree l.columns (lefts_of l.initial.bars) (lefts_of l.bars) l.j
+    × (rights_of l.bars ≡ rights_of l.initial.bars) × (rows_of l.bars ≡ rows_of l.initial.bars)
+    × ColumnsPlaced l.columns l.stands l.j

@@ -1,28 +1,18 @@
-use mathlib.Core.Path.{◌≡◌, refl, ◌∙◌}
-use native.Mathlib.Omega.{arith}
+use Rattle.std.proofs.Common.{◌∙◌}
+use Rattle.std.proofs.Math.ListN.{get_or-map}
+use Rattle.chart.specs.declared.Bar.{Bar}
+use Rattle.chart_writer.specs.Tables.{rows_of, lefts_of, rights_of}
+use Rattle.chart_writer.proofs.Fields.{blank}
 use Rattle.chart_writer.proofs.Runs.{bar_stored, bars_none}
 use Rattle.chart_writer.proofs.bytes.put_bars.Goals as goal
 
 pub loop-x-init : goal.loop-x-init
-loop-x-init c = (omega arith, refl, bars_none c.args.rows.now c.args.left.now c.args.right.now c.args.out.now)
-
-pub put16-requires : goal.put16-requires
-put16-requires c = (omega arith, omega (arith, c.type_inv.rows c.loop-x.x))
-
-pub put16-requires-in-loop-x : goal.put16-requires-in-loop-x
-put16-requires-in-loop-x c = (omega (arith, c.put16.auto.s), omega (arith, c.type_inv.left c.loop-x.x))
-
-pub put16-requires-in-loop-x-2 : goal.put16-requires-in-loop-x-2
-put16-requires-in-loop-x-2 c =
-    (omega (arith, c.put16.auto.s, c.put16-in-loop-x.auto.s), omega (arith, c.type_inv.right c.loop-x.x))
+loop-x-init c = let bars = c.args.bars.now in bars_none (rows_of bars) (lefts_of bars) (rights_of bars) c.args.out.now
 
 pub loop-x-preserved : goal.loop-x-preserved
-loop-x-preserved c = (
-  omega arith,
-  c.put16-in-loop-x-2.auto.s ∙ (c.put16-in-loop-x.auto.s ∙ (c.put16.auto.s ∙ c.loop-x.invariant.1)),
-  c.put16-in-loop-x-2.ensures ∙ rw (c.put16-in-loop-x.ensures, c.put16.ensures, c.loop-x.invariant.2)
-      (bar_stored c.args.rows.now c.args.left.now c.args.right.now c.args.out.now c.loop-x.x),
-)
-
-pub returns : goal.returns
-returns c = let e : c.loop-x.x ≡ c.args.n = omega arith in rw (← e) c.loop-x.invariant.2
+loop-x-preserved c =
+    let bars = c.args.bars.now in
+    let x = c.loop-x.x in
+    c.put_bar.ensures ∙ rw c.loop-x.invariant
+    (rw (get_or-map (λ (b : Bar). b.row) bars x blank, get_or-map (λ (b : Bar). b.left) bars x blank, get_or-map (λ (b : Bar). b.right) bars x blank) at
+    (bar_stored (rows_of bars) (lefts_of bars) (rights_of bars) c.args.out.now x))

@@ -1,86 +1,94 @@
 -- The cut's bend taken out, the others parted, and each half renumbered.
 use mathlib.Core.Path.{◌≡◌, ap, sym, ◌∙◌}
-use mathlib.Core.List.{List}
-use Prim.Native.Nat.{ℕ, ◌-◌, ◌≤◌}
+use Prim.Native.Nat.{ℕ, ◌-◌}
 use native.Mathlib.Omega.{arith}
 use lib.ListN.{length, take}
 use Rattle.lists.proofs.Lists.{all_mem}
 use Rattle.polygon.specs.Polygon.{◌—◌, Diagonal}
-use Rattle.sheet.proofs.Hand.{bends_count}
-use Rattle.edit.proofs.InHand.{Without, taken_out}
+use Rattle.edit.specs.Tables.{Whole}
+use Rattle.edit.proofs.InHand.{in_whole, Without, taken_out}
+use Rattle.sheet.specs.Hand.{part_of}
+use Rattle.cut.specs.Cut.{inner_part, rest_part}
 use Rattle.cut.specs.Tables.{rest_bends}
-use Rattle.cut.proofs.Holding.{inner_movable, rest_movable, inner_holds, rest_holds}
-use Rattle.cut.proofs.halves.halve.Goals.{After-remove-left, After-split-i, Start}
+use Rattle.cut.proofs.Holding.{Holds, inner_movable, rest_movable, inner_holds, rest_holds}
+use Rattle.cut.proofs.halves.halve.Goals.{After-bends-bends, After-remove-left, After-split-i, After-head_on, After-head_on-2}
 use Rattle.cut.proofs.halves.halve.Goals as goal
 
-diagonal : (s : Start) → Diagonal s.args.h.n (s.args.a — s.args.b)
-diagonal s = all_mem s.requires.part.0.valid.triangulated.diagonals s.requires.part.1
+hand : (c : After-bends-bends) → Whole c.args.part.now c.head-h.result c.bends-bends.result.now
+hand c = in_whole c.head-h.ensures.valid c.head-h.ensures.corners c.head-h.ensures.angles c.bends-bends.ensures.part c.bends-bends.ensures.all
+
+diagonal : (c : After-bends-bends) → Diagonal c.args.part.now.n (c.args.a — c.args.b)
+diagonal c = all_mem c.head-h.ensures.valid.triangulated.diagonals c.requires
 
 -- the bends without the cut's
-abbrev others : After-remove-left → List ℕ
-others c = take c.remove-left.result c.remove-left.new.out
-
-out : (c : After-remove-left) → Without c.args.h c.args.bends.now (c.args.a — c.args.b) (others c)
-out c = taken_out c.requires.part.0 (c.args.a — c.args.b) c.requires.part.1 c.key.ensures c.remove-left.ensures.0
-
-few : (c : After-remove-left) → length (others c) ≤ 1021
-few c = omega (arith, (out c).size, c.requires.part.0.valid.most)
-
-count : (c : After-remove-left) → c.remove-left.result ≡ length (others c)
-count c = c.remove-left.ensures.1 ∙ ap length (sym c.remove-left.ensures.0)
+out : (c : After-remove-left) → Whole c.args.part.now c.head-h.result c.bends-bends.result.now
+    → Without c.head-h.result c.bends-bends.result.now (c.args.a — c.args.b) (take c.remove-left.result c.remove-left.new.out)
+out c H = taken_out H (c.args.a — c.args.b) (rw H.same at c.requires) c.key.ensures c.remove-left.ensures.0
 
 -- of these the rest's, where there are as many others as were counted
 rest : (c : After-split-i) → c.remove-left.result ≡ length (take c.remove-left.result c.remove-left.new.out)
     → take (c.remove-left.result - c.split-i.result) c.split-i.new.outside ≡ rest_bends (c.args.a — c.args.b) (take c.remove-left.result c.remove-left.new.out)
 rest c counted = ap (λ (k : ℕ). take (k - c.split-i.result) c.split-i.new.outside) counted ∙ c.split-i.ensures.second.0
 
-pub slice_bounds-remove-end : goal.slice_bounds-remove-end
-slice_bounds-remove-end c = sym (bends_count c.requires.part.0)
+count : (c : After-remove-left) → c.remove-left.result ≡ length (take c.remove-left.result c.remove-left.new.out)
+count c = c.remove-left.ensures.1 ∙ ap length (sym c.remove-left.ensures.0)
+
+-- the two halves
+one : (c : After-head_on) → Whole c.args.part.now c.head-h.result c.bends-bends.result.now → Without c.head-h.result c.bends-bends.result.now (c.args.a — c.args.b) (take c.remove-left.result c.remove-left.new.out)
+    → Holds (inner_part (c.args.a — c.args.b) c.args.part.now) (part_of c.head_on.result c.renumber.new.out)
+one c H W = rw c.head_on.ensures (inner_holds H W _ (rw c.split-i.ensures.first.0 at c.renumber.ensures))
+
+other : (c : After-head_on-2) → Whole c.args.part.now c.head-h.result c.bends-bends.result.now → Without c.head-h.result c.bends-bends.result.now (c.args.a — c.args.b) (take c.remove-left.result c.remove-left.new.out)
+    → take (c.remove-left.result - c.split-i.result) c.split-i.new.outside ≡ rest_bends (c.args.a — c.args.b) (take c.remove-left.result c.remove-left.new.out)
+    → Holds (rest_part (c.args.a — c.args.b) c.args.part.now) (part_of c.head_on-2.result c.renumber-2.new.out)
+other c H W R = rw c.head_on-2.ensures (rest_holds H W _ (rw R at c.renumber-2.ensures))
 
 pub key-requires : goal.key-requires
-key-requires c = omega (arith, (diagonal (goal.at.key-requires c).Start).forth, (diagonal (goal.at.key-requires c).Start).corner, c.requires.part.0.valid.most)
+key-requires c = let d = diagonal (goal.at.key-requires c).After-bends-bends in omega (arith, d.forth, d.corner, c.head-h.ensures.valid.most)
 
-pub remove-left-requires : goal.remove-left-requires
-remove-left-requires c = omega (arith, bends_count c.requires.part.0, c.requires.part.0.valid.most)
+pub overflow_sub-b : goal.overflow_sub-b
+overflow_sub-b c = let d = diagonal (goal.at.overflow_sub-b c).After-bends-bends in omega (arith, d.forth)
 
-pub slice_bounds-others-end : goal.slice_bounds-others-end
-slice_bounds-others-end c = omega (arith, count (goal.at.slice_bounds-others-end c).After-remove-left, few (goal.at.slice_bounds-others-end c).After-remove-left, c.remove-left.auto.out)
+pub overflow_sub-b-2 : goal.overflow_sub-b-2
+overflow_sub-b-2 c = let d = diagonal (goal.at.overflow_sub-b-2 c).After-bends-bends in omega (arith, d.forth)
 
-pub slice_bounds-split-end : goal.slice_bounds-split-end
-slice_bounds-split-end c = count (goal.at.slice_bounds-split-end c).After-remove-left
+pub overflow_sub-b-3 : goal.overflow_sub-b-3
+overflow_sub-b-3 c = let d = diagonal (goal.at.overflow_sub-b-3 c).After-bends-bends in omega (arith, d.forth)
 
-pub split-i-requires : goal.split-i-requires
-split-i-requires c = omega (arith, few (goal.at.split-i-requires c).After-remove-left)
-
-pub slice_bounds-on-end : goal.slice_bounds-on-end
-slice_bounds-on-end c = omega (arith, c.split-i.ensures.second.1, few (goal.at.slice_bounds-on-end c).After-remove-left, c.split-i.auto.inside)
-
-pub slice_bounds-renumber-end : goal.slice_bounds-renumber-end
-slice_bounds-renumber-end c = c.split-i.ensures.first.1 ∙ ap length (sym c.split-i.ensures.first.0)
+pub overflow_sub-h : goal.overflow_sub-h
+overflow_sub-h c = let d = diagonal (goal.at.overflow_sub-h c).After-bends-bends in omega (arith, d.forth, d.corner, c.head-h.ensures.corners)
 
 pub renumber-requires : goal.renumber-requires
 renumber-requires c =
-    (omega (arith, c.split-i.ensures.second.1, c.split-i.ensures.first.1, ap length c.split-i.ensures.first.0, few (goal.at.renumber-requires c).After-remove-left, c.requires.sizes.0), rw c.split-i.ensures.first.0 (inner_movable c.requires.part.0 (out (goal.at.renumber-requires c).After-remove-left)))
-
-pub slice_bounds-off-count : goal.slice_bounds-off-count
-slice_bounds-off-count c = omega (arith, c.split-i.ensures.second.1, count (goal.at.slice_bounds-off-count c).After-remove-left)
-
-pub slice_bounds-off-end : goal.slice_bounds-off-end
-slice_bounds-off-end c = omega (arith, count (goal.at.slice_bounds-off-end c).After-remove-left, few (goal.at.slice_bounds-off-end c).After-remove-left, c.split-i.auto.outside)
-
-pub slice_bounds-renumber-length : goal.slice_bounds-renumber-length
-slice_bounds-renumber-length c = omega (arith, c.split-i.ensures.second.1, count (goal.at.slice_bounds-renumber-length c).After-remove-left, ap length (rest (goal.at.slice_bounds-renumber-length c).After-split-i (count (goal.at.slice_bounds-renumber-length c).After-remove-left)))
-
-pub overflow_sub-b : goal.overflow_sub-b
-overflow_sub-b c = omega (arith, (diagonal (goal.at.overflow_sub-b c).Start).forth)
-
-pub overflow_sub-b-2 : goal.overflow_sub-b-2
-overflow_sub-b-2 c = omega (arith, (diagonal (goal.at.overflow_sub-b-2 c).Start).forth)
+    let H = hand (goal.at.renumber-requires c).After-bends-bends in
+    let W = out (goal.at.renumber-requires c).After-remove-left H in
+    rw c.split-i.ensures.first.0 (omega (arith, c.split-i.ensures.second.1, c.split-i.ensures.first.1, W.size, H.valid.most), inner_movable H W)
 
 pub renumber-requires-2 : goal.renumber-requires-2
 renumber-requires-2 c =
-    (omega (arith, c.split-i.ensures.second.1, ap length (rest (goal.at.renumber-requires-2 c).After-split-i (count (goal.at.renumber-requires-2 c).After-remove-left)), few (goal.at.renumber-requires-2 c).After-remove-left, c.requires.sizes.1), rw (rest (goal.at.renumber-requires-2 c).After-split-i (count (goal.at.renumber-requires-2 c).After-remove-left)) (rest_movable c.requires.part.0 (out (goal.at.renumber-requires-2 c).After-remove-left)))
+    let H = hand (goal.at.renumber-requires-2 c).After-bends-bends in
+    let W = out (goal.at.renumber-requires-2 c).After-remove-left H in
+    rw (rest (goal.at.renumber-requires-2 c).After-split-i (count (goal.at.renumber-requires-2 c).After-remove-left))
+    (omega (arith, c.split-i.ensures.second.1, W.size, H.valid.most), rest_movable H W)
 
-pub returns : goal.returns
-returns c =
-    record { inner = inner_holds c.requires.part.0 (out (goal.at.returns c).After-remove-left) (rw c.split-i.ensures.first.0 at c.renumber.ensures) (omega (arith, c.renumber.auto.out, c.requires.sizes.0)); rest = rest_holds c.requires.part.0 (out (goal.at.returns c).After-remove-left) (rw (rest (goal.at.returns c).After-split-i (count (goal.at.returns c).After-remove-left)) at c.renumber-2.ensures) (omega (arith, c.renumber-2.auto.out, c.requires.sizes.1)) }
+pub new-inner-requires : goal.new-inner-requires
+new-inner-requires c =
+    let H = hand (goal.at.new-inner-requires c).After-bends-bends in
+    (one (goal.at.new-inner-requires c).After-head_on H (out (goal.at.new-inner-requires c).After-remove-left H)).valid
+
+pub new-rest-requires : goal.new-rest-requires
+new-rest-requires c =
+    let H = hand (goal.at.new-rest-requires c).After-bends-bends in
+    let R = rest (goal.at.new-rest-requires c).After-split-i (count (goal.at.new-rest-requires c).After-remove-left) in
+    (other (goal.at.new-rest-requires c).After-head_on-2 H (out (goal.at.new-rest-requires c).After-remove-left H) R).valid
+
+pub returns-clause-inner : goal.returns-clause-inner
+returns-clause-inner c =
+    let H = hand (goal.at.returns-clause-inner c).After-bends-bends in
+    c.new-inner.ensures ∙ (one (goal.at.returns-clause-inner c).After-head_on H (out (goal.at.returns-clause-inner c).After-remove-left H)).same
+
+pub returns-clause-rest : goal.returns-clause-rest
+returns-clause-rest c =
+    let H = hand (goal.at.returns-clause-rest c).After-bends-bends in
+    let R = rest (goal.at.returns-clause-rest c).After-split-i (count (goal.at.returns-clause-rest c).After-remove-left) in
+    c.new-rest.ensures ∙ (other (goal.at.returns-clause-rest c).After-head_on-2 H (out (goal.at.returns-clause-rest c).After-remove-left H) R).same

@@ -1,4 +1,4 @@
-use Rattle.cut.proofs.Splitting.{splitting_begin, split_inner, split_rest, split_end}
+use Rattle.cut.proofs.Splitting.{splitting_begin, split_inner, split_rest}
 use Rattle.cut.proofs.halves.split.Goals.{then-beneath, else-beneath}
 use Rattle.cut.proofs.halves.split.Goals as goal
 
@@ -11,8 +11,3 @@ loop-j-preserved c =
       | then-beneath w ↦ rw (w.inside-is, w.outside-is, w.i-is) (split_inner c.loop-j.invariant c.requires c.loop-j-test.true (rw c.key_in.ensures.0 at (c.beneath.ensures.yes w.if-beneath.true)))
       | else-beneath w ↦ rw (w.inside-is, w.outside-is, w.i-is) (split_rest c.loop-j.invariant c.requires c.loop-j-test.true (λ b. c.beneath.ensures.no w.if-beneath.false (rw c.key_in.ensures.0 b)))
     ]
-
-pub returns : goal.returns
-returns c =
-    let whole = split_end c.loop-j.invariant c.requires c.loop-j-test.false in
-    record { first = whole.0; second = whole.1 }

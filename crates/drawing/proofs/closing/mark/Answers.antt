@@ -1,23 +1,15 @@
-use mathlib.Core.Path.{refl}
 use native.Mathlib.Omega.{arith}
-use lib.ListN.{length-set}
-use lib.Seq.{take_all}
 use Rattle.lists.proofs.Places.{at_all}
 use Rattle.drawing.proofs.Marks.{marked_none, marked_next}
 use Rattle.drawing.proofs.closing.mark.Goals as goal
 
-pub loop-x-init : goal.loop-x-init
-loop-x-init c = (omega arith, refl, marked_none c.args.marks.now c.requires.zeros)
+pub loop-row-init : goal.loop-row-init
+loop-row-init c = marked_none c.args.marks.now c.requires.zeros
 
-pub bounds-marks-rows : goal.bounds-marks-rows
-bounds-marks-rows c = omega (arith, at_all 0 c.requires.inside c.loop-x.x (omega arith))
+pub bounds-marks-from : goal.bounds-marks-from
+bounds-marks-from c = omega (arith, c.from.ensures, at_all 0 c.requires.inside c.loop-row.row-index c.loop-row-test.true)
 
-pub loop-x-preserved : goal.loop-x-preserved
-loop-x-preserved c = (
-  omega arith,
-  simp length-set c.loop-x.invariant.1,
-  marked_next c.args.rows.now c.loop-x.marks c.loop-x.x (omega arith) (omega (arith, at_all 0 c.requires.inside c.loop-x.x (omega arith))) c.loop-x.invariant.2,
-)
-
-pub returns : goal.returns
-returns c = rw (take_all c.loop-x.x c.args.rows.now (omega arith)) at c.loop-x.invariant.2
+pub loop-row-preserved : goal.loop-row-preserved
+loop-row-preserved c =
+    rw c.from.ensures
+    (marked_next c.args.rows.now c.loop-row.marks c.loop-row.row-index c.loop-row-test.true (omega (arith, at_all 0 c.requires.inside c.loop-row.row-index c.loop-row-test.true)) c.loop-row.invariant)

@@ -1,8 +1,9 @@
 -- Rims.antt has the rims of a piece, Following.antt the loop along a rim or a stem.
-use mathlib.Core.Path.{◌≡◌, sym, ◌∙◌, ap}
-use Prim.Native.Nat.{ℕ, ◌<◌, ◌≤◌}
+use mathlib.Core.Path.{◌≡◌, ◌∙◌, ap}
+use borrow.Author.Rules.{rules}
+use Prim.Native.Nat.{ℕ, ◌+◌, ◌<◌, ◌≤◌}
 use native.Mathlib.Omega.{arith}
-use lib.ListN.{set, length-set}
+use lib.ListN.{set}
 use Rattle.polygon.specs.Tree.{Tree}
 use Rattle.umbrella.specs.Values.{ud}
 use Rattle.umbrella.proofs.Wide.{nine}
@@ -11,10 +12,9 @@ use Rattle.levels.specs.declared.Six.{Six}
 use Rattle.levels.specs.Kept.{Tabled}
 use Rattle.levels.proofs.Storing.{deep_root}
 use Rattle.levels.proofs.Knowing.{tabled_parts}
-use Rattle.drawing.specs.Walk.{differ}
-use Rattle.drawing.proofs.Following.{along_begins, along_ends, walked_turned, walked_kept, Onward, onward_is}
+use Rattle.drawing.proofs.Following.{along_ends, walked_turned, walked_kept, differ_is, Onward, onward_is}
 use Rattle.drawing.proofs.Rims.{hung_empty, RimPair, rim_pair}
-use Rattle.drawing.proofs.walk.+draw_beside_draw_piece_draw_stem.Goals.{draw_piece-After-values-ud, draw_piece-After-rims_of-r, draw_stem-After-open-t, draw_stem-After-beside_line-line}
+use Rattle.drawing.proofs.walk.+draw_beside_draw_piece_draw_stem.Goals.{draw_piece-After-values-ud, draw_piece-After-rims_of-r, draw_stem-After-open-t, draw_stem-After-from}
 use Rattle.drawing.proofs.walk.+draw_beside_draw_piece_draw_stem.Goals as goal
 
 -- the levels of a piece as they are read
@@ -23,15 +23,12 @@ tall t c = ap (λ (x : Six). x.ud) (c.values-ud.ensures ∙ deep_root c.requires
 
 -- the two rims
 pair : (t : ℕ) (c : draw_piece-After-rims_of-r t) (x : Tree) →
-    Tabled c.args.tree.now c.args.depths.now c.args.p.e c.args.p.u c.args.p.v x
-    → RimPair c.args.tree.now c.args.depths.now c.args.p c.args.w x c.args.at c.args.columns.now c.args.rows.now (set c.args.rows.now c.open-t.result.left.v c.far_line-far.result.base)
+    Tabled c.args.tables.now.tree c.args.tables.now.depths c.args.p.e c.args.p.u c.args.p.v x
+    → RimPair c.args.tables.now.tree c.args.tables.now.depths c.args.p c.args.w x c.args.at c.args.columns.now c.args.rows.now (set c.args.rows.now c.from.result c.far_line-far.result.base)
     c.values-ud.result.ud c.far_line-far.result c.near_line-near.result c.rims_of-r.result
 pair t c x k =
     let levels = ap (λ (y : Six). y.ud) (c.values-ud.ensures ∙ deep_root k.deep) in
-    rim_pair k c.if-p.false c.requires.room c.requires.hung levels c.open-t.result c.rims_of-r.result _ _ c.open-t.ensures c.rims_of-r.ensures c.far_line-far.ensures c.near_line-near.ensures
-
-pub draw_piece-overflow_add-p : goal.draw_piece-overflow_add-p
-draw_piece-overflow_add-p t c = omega (arith, corners c.requires.known.1.shows)
+    rw c.from.ensures (rim_pair k c.if-p.false c.requires.room c.requires.hung levels c.open-t.result c.rims_of-r.result _ _ c.open-t.ensures c.rims_of-r.ensures c.far_line-far.ensures c.near_line-near.ensures)
 
 pub draw_piece-returns-then-p : goal.draw_piece-returns-then-p
 draw_piece-returns-then-p t c = λ x k. hung_empty c.args.at c.args.columns.now c.args.rows.now c.requires.hung k c.if-p.true
@@ -40,18 +37,6 @@ pub draw_piece-far_line-far-requires : goal.draw_piece-far_line-far-requires
 draw_piece-far_line-far-requires t c =
     let K = c.requires.known in
     (omega (arith, c.requires.room.far_small), omega (arith, tall t (goal.at.draw_piece-far_line-far-requires t c).After-values-ud, nine K.0 (omega (arith, ends K.1.shows, corners K.1.shows))))
-
-pub draw_piece-overflow_sub-first : goal.draw_piece-overflow_sub-first
-draw_piece-overflow_sub-first t c =
-    let K = tabled_parts c.requires.known.1 c.if-p.false in
-    let high : 1 ≤ ud c.requires.known.0 = rw K.parts.is K.tall in
-    omega (arith, tall t (goal.at.draw_piece-overflow_sub-first t c).After-values-ud)
-
-pub draw_piece-overflow_sub-second : goal.draw_piece-overflow_sub-second
-draw_piece-overflow_sub-second t c =
-    let K = tabled_parts c.requires.known.1 c.if-p.false in
-    let high : 1 ≤ ud c.requires.known.0 = rw K.parts.is K.tall in
-    omega (arith, tall t (goal.at.draw_piece-overflow_sub-second t c).After-values-ud)
 
 pub draw_piece-draw_stem-k-requires : goal.draw_piece-draw_stem-k-requires
 draw_piece-draw_stem-k-requires t c =
@@ -69,8 +54,14 @@ draw_piece-returns t c =
     let P = pair t (goal.at.draw_piece-returns t c).After-rims_of-r x k in
     P.walked _ _ _ _ _ _ (c.draw_stem-k.ensures P.first P.known_first) (c.draw_stem.ensures P.second P.known_second)
 
-pub draw_stem-loop-x-init : goal.draw_stem-loop-x-init
-draw_stem-loop-x-init t c = along_begins c.requires.known.1 c.requires.walked c.requires.room
+pub draw_piece-overflow_add-p : goal.draw_piece-overflow_add-p
+draw_piece-overflow_add-p t c = omega (arith, corners c.requires.known.1.shows)
+
+pub draw_piece-overflow_sub-first : goal.draw_piece-overflow_sub-first
+draw_piece-overflow_sub-first t c =
+    let K = tabled_parts c.requires.known.1 c.if-p.false in
+    let high : 1 ≤ ud c.requires.known.0 = rw K.parts.is K.tall in
+    omega (arith, tall t (goal.at.draw_piece-overflow_sub-first t c).After-values-ud)
 
 pub draw_stem-overflow_add-x : goal.draw_stem-overflow_add-x
 draw_stem-overflow_add-x t c = omega (arith, corners c.loop-x.invariant.known.shows)
@@ -85,46 +76,46 @@ draw_stem-values-a-requires t c = omega (arith, sides t (goal.at.draw_stem-value
 pub draw_stem-values-b-requires : goal.draw_stem-values-b-requires
 draw_stem-values-b-requires t c = omega (arith, sides t (goal.at.draw_stem-values-b-requires t c).After-open-t)
 
+pub draw_stem-bounds-columns-k-2 : goal.draw_stem-bounds-columns-k-2
+draw_stem-bounds-columns-k-2 t c = let A = c.loop-x.invariant in omega (arith, A.fits, c.requires.room.fits, corners A.known.shows)
+
 -- on from the triangle
-ahead : (t : ℕ) (c : draw_stem-After-beside_line-line t) →
-    Onward c.args.tree.now c.args.depths.now c.args.p c.args.w c.args.at c.args.columns.now c.args.rows.now c.loop-x.columns c.loop-x.rows c.loop-x.x c.loop-x.k
-    c.open-t.result.left.v c.beside_line-line.result c.go_on-n.result
+ahead : (t : ℕ) (c : draw_stem-After-from t) →
+    Onward c.args.tables.now.tree c.args.tables.now.depths c.args.p c.args.w c.args.at c.args.columns.now c.args.rows.now c.loop-x.columns c.loop-x.rows c.loop-x.x c.loop-x.k
+    c.from.result c.beside_line-line.result c.go_on-n.result
 ahead t c =
-    onward_is c.loop-x.invariant c.loop-x-test.true c.requires.room c.open-t.result c.values-a.result c.values-b.result c.step_at-s.result c.from_right-right.result c.go_on-n.result c.beside_line-line.result
-    c.open-t.ensures c.values-a.ensures c.values-b.ensures c.step_at-s.ensures c.from_right-right.ensures c.go_on-n.ensures c.beside_line-line.ensures
+    rw c.from.ensures (onward_is c.loop-x.invariant c.loop-x-test.true c.requires.room c.open-t.result c.values-a.result c.values-b.result c.step_at-s.result c.from_right-right.result c.go_on-n.result c.beside_line-line.result
+    c.open-t.ensures c.values-a.ensures c.values-b.ensures c.step_at-s.ensures c.from_right-right.ensures c.go_on-n.ensures c.beside_line-line.ensures)
 
 pub draw_stem-draw_beside-k-requires : goal.draw_stem-draw_beside-k-requires
 draw_stem-draw_beside-k-requires t c =
-    let O = ahead t (goal.at.draw_stem-draw_beside-k-requires t c).After-beside_line-line in
+    let O = ahead t (goal.at.draw_stem-draw_beside-k-requires t c).After-from in
     let A = c.loop-x.invariant in
     (omega (arith, O.narrow, A.fits, A.begun, c.decreases), ((O.beside, O.known_beside), O.room))
 
 pub draw_stem-loop-x-smaller : goal.draw_stem-loop-x-smaller
-draw_stem-loop-x-smaller t c = omega (arith, (ahead t (goal.at.draw_stem-loop-x-smaller t c).After-beside_line-line).narrow_on)
+draw_stem-loop-x-smaller t c = omega (arith, (ahead t (goal.at.draw_stem-loop-x-smaller t c).After-from).narrow_on)
 
 pub draw_stem-loop-x-preserved : goal.draw_stem-loop-x-preserved
-draw_stem-loop-x-preserved t c = let O = ahead t (goal.at.draw_stem-loop-x-preserved t c).After-beside_line-line in O.on _ _ _ (c.draw_beside-k.ensures O.beside O.known_beside)
+draw_stem-loop-x-preserved t c = let O = ahead t (goal.at.draw_stem-loop-x-preserved t c).After-from in O.on _ _ _ (c.draw_beside-k.ensures O.beside O.known_beside)
 
-pub draw_stem-bounds-columns-k-2 : goal.draw_stem-bounds-columns-k-2
-draw_stem-bounds-columns-k-2 t c = let A = c.loop-x.invariant in omega (arith, A.fits, c.requires.room.fits, corners A.known.shows)
-
-pub draw_stem-turn-requires : goal.draw_stem-turn-requires
-draw_stem-turn-requires t c =
+pub draw_stem-slice_bounds-reverse-end : goal.draw_stem-slice_bounds-reverse-end
+draw_stem-slice_bounds-reverse-end t c =
     let A = c.loop-x.invariant in
-    (omega (arith, A.begun), simp length-set (omega (arith, A.columns_size, A.fits, c.requires.room.fits, corners A.known.shows)))
+    let room : c.loop-x.k + 1 ≤ 2048 = omega (arith, A.fits, c.requires.room.fits, corners A.known.shows) in
+    search rules
 
-pub draw_stem-returns-then-differ : goal.draw_stem-returns-then-differ
-draw_stem-returns-then-differ t c =
+pub draw_stem-returns-then-turn : goal.draw_stem-returns-then-turn
+draw_stem-returns-then-turn t c =
     λ x k.
     let A = c.loop-x.invariant in
     let room = c.requires.room in
-    let other = ap (λ b. differ b c.args.w.turned) (sym c.from_right-right.ensures) ∙ (sym c.differ.ensures ∙ c.if-differ.true) in
+    let other = differ_is _ _ ∙ (rw c.from_right-right.ensures at c.if-turn.true) in
     rw (one_piece k.shows A.whole.shows)
-    (walked_turned (along_ends A c.loop-x-test.false) other (omega (arith, A.fits, room.fits, room.columns_size, corners A.known.shows)) c.turn.ensures)
+    (walked_turned (along_ends A c.loop-x-test.false) other (omega (arith, A.fits, room.fits, room.columns_size, corners A.known.shows)) c.reverse.ensures.after)
 
-pub draw_stem-returns-else-differ : goal.draw_stem-returns-else-differ
-draw_stem-returns-else-differ t c =
+pub draw_stem-returns-else-turn : goal.draw_stem-returns-else-turn
+draw_stem-returns-else-turn t c =
     λ x k.
     let A = c.loop-x.invariant in
-    rw (one_piece k.shows A.whole.shows)
-    (walked_kept (along_ends A c.loop-x-test.false) (ap (λ b. differ b c.args.w.turned) (sym c.from_right-right.ensures) ∙ (sym c.differ.ensures ∙ c.if-differ.false)))
+    rw (one_piece k.shows A.whole.shows) (walked_kept (along_ends A c.loop-x-test.false) (differ_is _ _ ∙ (rw c.from_right-right.ensures at c.if-turn.false)))

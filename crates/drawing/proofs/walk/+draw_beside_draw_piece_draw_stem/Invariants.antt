@@ -13,7 +13,7 @@ abbrev pub decreases-draw_stem : goal.decreases-draw_stem
 decreases-draw_stem l = 3 * (l.p.v - l.p.u)
 
 abbrev pub invariant-draw_stem-loop-x : goal.invariant-draw_stem-loop-x
-invariant-draw_stem-loop-x l = Along l.tree l.depths l.initial.x l.w l.at l.initial.columns l.initial.rows l.columns l.rows l.role l.x l.k
+invariant-draw_stem-loop-x l = Along l.tables.tree l.tables.depths l.initial.x l.w l.at l.initial.columns l.initial.rows l.columns l.rows l.role l.x l.k
 
 abbrev pub decreases-draw_stem-loop-x : goal.decreases-draw_stem-loop-x
 decreases-draw_stem-loop-x l = l.x.v - l.x.u

@@ -1,44 +1,34 @@
 -- Renumbered, and the new diagonal put in at 0.
-use mathlib.Core.Path.{◌≡◌, sym}
-use Prim.Native.Nat.{◌-◌}
+use mathlib.Core.Path.{ap, sym, ◌∙◌}
 use native.Mathlib.Omega.{arith}
-use lib.ListN.{length, take}
-use lib.Seq.{length-take-le}
-use Rattle.sheet.specs.Held.{refuses}
-use Rattle.sheet.proofs.Hand.{bends_count}
+use Rattle.sheet.specs.Sheet.{held}
+use Rattle.edit.specs.Tables.{Whole}
+use Rattle.edit.proofs.InHand.{in_whole, bends_count}
 use Rattle.edit.proofs.Adding.{add_outside, add_full, can_rise, added}
-use Rattle.edit.proofs.held.add_to.Goals.{After-renumber}
+use Rattle.edit.proofs.held.add_to.Goals.{After-bends-bends}
 use Rattle.edit.proofs.held.add_to.Goals as goal
 
--- the table of the renumbered bends
-moved_count : (c : After-renumber) → length (take (c.args.h.n - 3) c.renumber.new.out) ≡ c.args.h.n - 3
-moved_count c = length-take-le _ c.renumber.new.out (omega (arith, c.renumber.auto.out, c.requires.valid.most))
+hand : (c : After-bends-bends) → Whole c.args.part.now c.head-h.result c.bends-bends.result.now
+hand c = in_whole c.head-h.ensures.valid c.head-h.ensures.corners c.head-h.ensures.angles c.bends-bends.ensures.part c.bends-bends.ensures.all
 
-pub returns-then-side-n : goal.returns-then-side-n
-returns-then-side-n c = refuses (add_outside c.requires c.args.side (omega arith))
+pub returns-then-side-h : goal.returns-then-side-h
+returns-then-side-h c = sym (add_outside c.args.part.now c.args.side (omega (arith, c.head-h.ensures.corners)))
 
-pub returns-then-n-eq-CORNERS : goal.returns-then-n-eq-CORNERS
-returns-then-n-eq-CORNERS c = refuses (add_full c.requires c.args.side (omega arith) c.if-n-eq-CORNERS.true)
-
-pub slice_bounds-renumber-end-2 : goal.slice_bounds-renumber-end-2
-slice_bounds-renumber-end-2 c = sym (bends_count c.requires)
+pub returns-then-h-eq-CORNERS : goal.returns-then-h-eq-CORNERS
+returns-then-h-eq-CORNERS c = sym (add_full c.args.part.now c.args.side (omega (arith, c.head-h.ensures.corners)) (sym c.head-h.ensures.corners ∙ c.if-h-eq-CORNERS.true))
 
 pub renumber-requires : goal.renumber-requires
 renumber-requires c =
-    (omega (arith, bends_count c.requires, c.requires.valid.most), can_rise c.requires c.args.side (omega arith) c.if-n-eq-CORNERS.false)
+    let H = hand (goal.at.renumber-requires c).After-bends-bends in
+    (omega (arith, bends_count H, H.valid.most), can_rise H c.args.side (omega arith) c.if-h-eq-CORNERS.false)
 
-pub slice_bounds-merge-end-2 : goal.slice_bounds-merge-end-2
-slice_bounds-merge-end-2 c = sym (moved_count (goal.at.slice_bounds-merge-end-2 c).After-renumber)
-
-pub merge-requires : goal.merge-requires
-merge-requires c = omega (
-  arith,
-  moved_count (goal.at.merge-requires c).After-renumber,
-  c.requires.room,
-  c.requires.valid.most,
-)
+pub new-requires : goal.new-requires
+new-requires c =
+    let H = hand (goal.at.new-requires c).After-bends-bends in
+    (added H c.args.side (omega arith) c.if-h-eq-CORNERS.false c.renumber.new.out c.renumber.ensures c.entering_bend.ensures c.merge.new.out c.merge.ensures).valid
 
 pub returns : goal.returns
 returns c =
-    added c.requires c.args.side (omega arith) c.if-n-eq-CORNERS.false c.renumber.new.out c.renumber.ensures
-    c.entering_bend.ensures c.merge.new.out c.merge.ensures (omega (arith, c.merge.auto.out, c.requires.room))
+    let H = hand (goal.at.returns c).After-bends-bends in
+    ap held c.new.ensures
+    ∙ sym (added H c.args.side (omega arith) c.if-h-eq-CORNERS.false c.renumber.new.out c.renumber.ensures c.entering_bend.ensures c.merge.new.out c.merge.ensures).same

@@ -1,16 +1,13 @@
 -- The lower corner goes first.
+use mathlib.Core.Path.{sym}
 use native.Mathlib.Omega.{arith}
-use Rattle.sheet.specs.Held.{part_of, refuses}
-use Rattle.edit.proofs.Reading.{flip_either}
+use Rattle.edit.specs.Rules.{flip, rule}
+use Rattle.edit.proofs.Reading.{flip_either, in_order}
 use Rattle.edit.proofs.Turning.{turn_outside}
 use Rattle.edit.proofs.held.flip_in.Goals as goal
 
 pub returns-then-a-n : goal.returns-then-a-n
-returns-then-a-n c = refuses (turn_outside c.requires.0 c.args.a c.args.b (λ t. omega arith))
+returns-then-a-n c = sym (turn_outside c.args.part.now c.args.a c.args.b (λ t. omega (arith, c.then-a-n.either, c.head-n.ensures.corners)))
 
-pub returns-then-b-n : goal.returns-then-b-n
-returns-then-b-n c = refuses (turn_outside c.requires.0 c.args.a c.args.b (λ t. omega arith))
-
-pub returns-else-a-b : goal.returns-else-a-b
-returns-else-a-b c =
-    rw (flip_either c.args.a c.args.b (part_of c.args.h c.args.bends.now)) c.turn-else-a-b.ensures
+pub returns : goal.returns
+returns c = rw (c.min.ensures, c.max.ensures, in_order (λ a b. rule (flip a b) c.args.part.now) (λ a b. flip_either a b _) c.args.a c.args.b) at c.turn.ensures

@@ -1,59 +1,44 @@
 -- The two corners that are marked in both tables, by the laws of Turning.antt.
-use mathlib.Core.Path.{refl, ◌∙◌}
-use Prim.Native.Nat.{◌+◌}
-use native.Mathlib.Omega.{arith}
+use mathlib.Core.Path.{◌≡◌}
+use Prim.Native.Nat.{ℕ, ◌+◌}
+use mathlib.Core.List.{[], ◌∷◌}
+use Rattle.std.proofs.Common.{Some, false, replicate, get_or, arith}
+use Rattle.std.proofs.lemmas.List.{get_or-replicate, get_or_past, length-replicate}
+use Rattle.polygon.specs.Polygon.{◌—◌}
 use Rattle.keys.specs.Keys.{edges_of}
+use Rattle.edit.specs.Rules.{common}
 use Rattle.edit.specs.Tables.{Common}
-use Rattle.lists.proofs.Places.{blank}
 use Rattle.edit.proofs.Turning.{first_found, second_found}
+use Rattle.edit.proofs.held.turned_key.Goals.{After-first_common, After-first_common-2}
 use Rattle.edit.proofs.held.turned_key.Goals as goal
 
-pub mark-requires : goal.mark-requires
-mark-requires c = record { sizes = (c.requires.0, c.requires.1, c.requires.2, refl, c.requires.4); fresh = blank 1025 }
+unmarked : (n x : ℕ) → get_or (replicate n false) x false ≡ false
+unmarked n x = grind (arith, get_or-replicate, get_or_past, length-replicate)
 
-pub mark-requires-2 : goal.mark-requires-2
-mark-requires-2 c = record { sizes = (c.requires.0, c.requires.1, c.requires.3, refl, c.requires.4); fresh = blank 1025 }
+first : (c : After-first_common) → (x y : ℕ) → common c.args.n (edges_of c.args.keys.now) (c.args.a — c.args.b) ≡ x ∷ (y ∷ []) → c.first_common.result ≡ Some x
+first c x y e = first_found c.args.n c.args.a c.args.b (edges_of c.args.keys.now) c.mark.new.near c.mark-2.new.near c.mark.ensures c.mark-2.ensures x y e _ c.first_common.ensures
 
-pub first_common-x-requires : goal.first_common-x-requires
-first_common-x-requires c = omega (arith, c.mark.auto.near, c.mark-2.auto.near, c.requires.1)
+second : (c : After-first_common-2) → (x y : ℕ) → common c.args.n (edges_of c.args.keys.now) (c.args.a — c.args.b) ≡ x ∷ (y ∷ []) → c.first_common.result ≡ Some x → c.first_common-2.result ≡ Some y
+second c x y e s =
+    let same : c.in_ok-x.x ≡ x = cc (s, c.in_ok-x.was) in
+    let C : Common c.mark.new.near c.mark-2.new.near (x + 1) c.args.n c.first_common-2.result = rw same at c.first_common-2.ensures in
+    second_found c.args.n c.args.a c.args.b (edges_of c.args.keys.now) c.mark.new.near c.mark-2.new.near c.mark.ensures c.mark-2.ensures x y e _ C
 
-pub returns-then-x-n : goal.returns-then-x-n
-returns-then-x-n c = (
-  λ x y e. absurd (omega (
-    arith,
-    c.if-x-n.true,
-    first_found c.args.n c.args.a c.args.b (edges_of c.args.keys.now) c.mark.new.near
-        c.mark-2.new.near c.mark.ensures c.mark-2.ensures x y e _ c.first_common-x.ensures,
-  )),
-  omega arith,
-)
+pub mark-requires-clause-fresh : goal.mark-requires-clause-fresh
+mark-requires-clause-fresh c = λ x. unmarked 1024 x
 
-pub overflow_add-x : goal.overflow_add-x
-overflow_add-x c = omega (arith, c.requires.1, c.first_common-x.ensures, c.if-x-n.false)
+pub mark-requires-2-clause-fresh : goal.mark-requires-2-clause-fresh
+mark-requires-2-clause-fresh c = λ x. unmarked 1024 x
 
-pub first_common-y-requires : goal.first_common-y-requires
-first_common-y-requires c =
-    omega (arith, c.mark.auto.near, c.mark-2.auto.near, c.requires.1, c.first_common-x.ensures, c.if-x-n.false)
+pub returns-in_err-x-clause-pair : goal.returns-in_err-x-clause-pair
+returns-in_err-x-clause-pair c = λ x y e. cc (first (goal.at.returns-in_err-x-clause-pair c).After-first_common x y e, c.in_err-x.was)
 
-pub returns-then-y-n : goal.returns-then-y-n
-returns-then-y-n c = (
-  λ x y e.
-      let F = first_found c.args.n c.args.a c.args.b (edges_of c.args.keys.now) c.mark.new.near c.mark-2.new.near c.mark.ensures c.mark-2.ensures x y e _ c.first_common-x.ensures in
-      let C : Common c.mark.new.near c.mark-2.new.near (x + 1) c.args.n c.first_common-y.result = rw F.0 at c.first_common-y.ensures in
-      absurd (omega (arith, c.if-y-n.true, second_found c.args.n c.args.a c.args.b (edges_of c.args.keys.now) c.mark.new.near c.mark-2.new.near c.mark.ensures c.mark-2.ensures x y e _ C)),
-  omega arith,
-)
+pub returns-in_err-y-clause-pair : goal.returns-in_err-y-clause-pair
+returns-in_err-y-clause-pair c = λ x y e.
+    let s = first (goal.at.returns-in_err-y-clause-pair c).After-first_common x y e in
+    cc (second (goal.at.returns-in_err-y-clause-pair c).After-first_common-2 x y e s, c.in_err-y.was)
 
-pub key-requires : goal.key-requires
-key-requires c =
-    omega (arith, c.requires.1, c.first_common-x.ensures, c.first_common-y.ensures, c.if-x-n.false, c.if-y-n.false)
-
-pub returns : goal.returns
-returns c = (
-  λ x y e.
-      let F = first_found c.args.n c.args.a c.args.b (edges_of c.args.keys.now) c.mark.new.near c.mark-2.new.near c.mark.ensures c.mark-2.ensures x y e _ c.first_common-x.ensures in
-      let C : Common c.mark.new.near c.mark-2.new.near (x + 1) c.args.n c.first_common-y.result = rw F.0 at c.first_common-y.ensures in
-      c.key.ensures ∙ rw
-      (F.0, (second_found c.args.n c.args.a c.args.b (edges_of c.args.keys.now) c.mark.new.near c.mark-2.new.near c.mark.ensures c.mark-2.ensures x y e _ C).0),
-  omega (arith, c.key.ensures, c.requires.1, c.first_common-x.ensures, c.first_common-y.ensures, c.if-x-n.false, c.if-y-n.false),
-)
+pub returns-clause-pair : goal.returns-clause-pair
+returns-clause-pair c = λ x y e.
+    let s = first (goal.at.returns-clause-pair c).After-first_common x y e in
+    cc (s, c.in_ok-x.was, second (goal.at.returns-clause-pair c).After-first_common-2 x y e s, c.in_ok-y.was, c.key.ensures)

@@ -1,23 +1,25 @@
-use mathlib.Core.Path.{sym, ◌∙◌}
-use mathlib.Core.Bool.{true≢false, false≢true}
-use borrow.Author.Count.{below_more}
-use native.Mathlib.Omega.{arith}
-use Rattle.edit.proofs.Marking.{away_all, all_away}
+-- What the closure says of each key.
+use borrow.Author.Tests.{tests}
+use Rattle.std.proofs.Common.{ℕ, ◌<◌, length, rules, MatchBool}
+use Rattle.std.specs.List.{AllWithin, HoldsAt}
+use Rattle.std.proofs.lemmas.Iterator.{cases_from_all, YieldsList-from_slice}
+use Rattle.lists.proofs.Lists.{all_map}
+use Rattle.lists.proofs.Chains.{all_yes, all_no}
+use Rattle.keys.specs.Keys.{edge_of}
+use Rattle.edit.specs.Rules.{Away}
+use Rattle.edit.proofs.Marking.{keys_away}
+use Rattle.edit.proofs.near.is_ear.Goals.{After-all}
 use Rattle.edit.proofs.near.is_ear.Goals as goal
 
-pub loop-j-init : goal.loop-j-init
-loop-j-init c = (omega arith, λ i h. absurd (omega arith))
+abbrev OfKey : ℕ → ℕ → Type 0
+OfKey k x = Away k (edge_of x)
 
-pub returns-then-low-k : goal.returns-then-low-k
-returns-then-low-k c =
-    record { yes = λ h. absurd (false≢true h); no = λ h a. (all_away c.args.k c.args.keys.now a c.loop-j.j c.loop-j-test.true).0 (sym c.low.ensures ∙ c.if-low-k.true) }
+said : (c : After-all) → MatchBool c.all.result (AllWithin (OfKey c.args.k) c.args.keys.now 0 (length c.args.keys.now)) ((j : ℕ) × (j < length c.args.keys.now) × HoldsAt (λ x. ¬ OfKey c.args.k x) c.args.keys.now j)
+said c =
+    cases_from_all _ _ _ (OfKey c.args.k) (λ x. ¬ OfKey c.args.k x) c.all.ensures.ran (YieldsList-from_slice c.args.keys.now cc) (λ x q k. search (rules, tests)) (λ x q k. search (rules, tests))
 
-pub returns-then-high-k : goal.returns-then-high-k
-returns-then-high-k c =
-    record { yes = λ h. absurd (false≢true h); no = λ h a. (all_away c.args.k c.args.keys.now a c.loop-j.j c.loop-j-test.true).1 (sym c.high.ensures.0 ∙ c.if-high-k.true) }
+pub returns-clause-yes : goal.returns-clause-yes
+returns-clause-yes c = λ e. all_map edge_of (all_yes c.all.result (said c) e)
 
-pub loop-j-preserved : goal.loop-j-preserved
-loop-j-preserved c = (omega arith, below_more _ _ c.loop-j.invariant.1 ((λ e. c.if-low-k.false (c.low.ensures ∙ e)), (λ e. c.if-high-k.false (c.high.ensures.0 ∙ e))))
-
-pub returns : goal.returns
-returns c = record { yes = λ h. away_all c.args.k c.args.keys.now (λ i l. c.loop-j.invariant.1 i (omega arith)); no = λ h. absurd (true≢false h) }
+pub returns-clause-no : goal.returns-clause-no
+returns-clause-no c = λ e a. all_no {Q = OfKey c.args.k} c.all.result (said c) e (keys_away _ a)

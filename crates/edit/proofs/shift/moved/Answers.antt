@@ -14,12 +14,6 @@ up c = rw c.in-Up.is at c.requires
 down : (c : In-Down) → Movable (Down c.in-Down.at c.in-Down.by) c.args.x
 down c = rw c.in-Down.is at c.requires
 
-pub overflow_add-result : goal.overflow_add-result
-overflow_add-result c = omega (arith, (up (goal.at.overflow_add-result c).In-Up).1 c.if-x-at.true)
-
-pub overflow_sub-result : goal.overflow_sub-result
-overflow_sub-result c = (down (goal.at.overflow_sub-result c).In-Down).1 c.if-x-at-2.true
-
 pub returns-then-x-at : goal.returns-then-x-at
 returns-then-x-at c = rw c.in-Up.is (sym (choose_yes (dec_lt _ _) c.args.x c.if-x-at.true), (up (goal.at.returns-then-x-at c).In-Up).1 c.if-x-at.true)
 

@@ -1,11 +1,7 @@
-use mathlib.Core.Path.{refl, ◌∙◌}
-use native.Mathlib.Omega.{arith}
+use mathlib.Core.Path.{◌∙◌}
 use Rattle.edit.specs.Rules.{both}
-use Rattle.edit.proofs.Shifting.{mapping_next, mapping_end, movable_at}
+use Rattle.edit.proofs.Shifting.{mapping_next, movable_at}
 use Rattle.edit.proofs.shift.renumber.Goals as goal
-
-pub loop-j-init : goal.loop-j-init
-loop-j-init c = record { upto = omega arith; kept = refl; done = refl }
 
 pub moved-a-requires : goal.moved-a-requires
 moved-a-requires c =
@@ -14,12 +10,6 @@ moved-a-requires c =
 pub moved-b-requires : goal.moved-b-requires
 moved-b-requires c =
     rw (c.high.ensures.0, c.key_in-k.ensures.0) (movable_at c.args.shift c.args.bends.now c.requires.1 c.loop-j.j c.loop-j-test.true).1
-
-pub bend-requires : goal.bend-requires
-bend-requires c = omega (arith, c.key.ensures, c.moved-b.ensures.1, c.moved-a.ensures.1, c.code_in.ensures.1)
-
-pub bounds-out-j : goal.bounds-out-j
-bounds-out-j c = omega (arith, c.loop-j.invariant.kept)
 
 pub loop-j-preserved : goal.loop-j-preserved
 unfolding both
@@ -36,6 +26,3 @@ loop-j-preserved c =
       c.key_in-k.ensures.0,
       c.code_in.ensures.0,
     ))
-
-pub returns : goal.returns
-returns c = mapping_end c.loop-j.invariant c.loop-j-test.false

@@ -1,11 +1,7 @@
 -- The loop's invariant is `Mapping`.
-use Prim.Native.Nat.{◌-◌}
 use lib.ListN.{length}
 use Rattle.edit.proofs.Shifting.{Mapping}
 use Rattle.edit.proofs.shift.renumber.Given as goal
 
 abbrev pub invariant-loop-j : goal.invariant-loop-j
 invariant-loop-j l = Mapping l.shift l.bends (length l.initial.out) l.out l.j
-
-abbrev pub decreases-loop-j : goal.decreases-loop-j
-decreases-loop-j l = length l.bends - l.j

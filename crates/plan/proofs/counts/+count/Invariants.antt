@@ -7,7 +7,7 @@ abbrev pub decreases-count : goal.decreases-count
 decreases-count l = l.p.v - l.p.u
 
 abbrev pub invariant-loop-x : goal.invariant-loop-x
-invariant-loop-x l = Counting l.tree l.depths l.initial.x l.x l.umbrellas l.stems
+invariant-loop-x l = Counting l.tables.tree l.tables.depths l.initial.x l.x l.umbrellas l.stems
 
 abbrev pub decreases-loop-x : goal.decreases-loop-x
 decreases-loop-x l = l.x.piece.v - l.x.piece.u

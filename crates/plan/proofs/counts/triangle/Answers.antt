@@ -1,25 +1,21 @@
 -- By the laws of Counting.antt, from the values read.
-use mathlib.Core.Path.{sym, ◌∙◌, ap}
+use mathlib.Core.Path.{◌≡◌, ◌∙◌, ap}
 use native.Mathlib.Omega.{arith}
+use Rattle.umbrella.specs.declared.roles.Role.TheVariants.{Hung}
 use Rattle.levels.specs.declared.Six.{Six}
 use Rattle.levels.proofs.Knowing.{TabledParts, tabled_parts}
 use Rattle.plan.proofs.Counting.{fork_low, fork_both}
-use Rattle.plan.proofs.counts.triangle.Goals.{Start}
+use Rattle.plan.proofs.counts.triangle.Goals.{Start, in-Hung, in_default}
 use Rattle.plan.proofs.counts.triangle.Goals as goal
 
 -- what the tables hold of the piece
-known : (c : Start) → let p = c.args.x.piece in TabledParts c.args.tree.now c.args.depths.now p.e p.u p.v c.requires.known.0
+known : (c : Start) → let p = c.args.x.piece in TabledParts c.args.tables.now.tree c.args.tables.now.depths p.e p.u p.v c.requires.known.0
 known c = tabled_parts c.requires.known.1 c.requires.apart
 
-pub values-own-requires : goal.values-own-requires
-values-own-requires c = omega (arith, (known (goal.at.values-own-requires c).Start).parts)
-
-pub returns-then-is_hung : goal.returns-then-is_hung
-returns-then-is_hung c =
-    λ t K. fork_low c.args.x c.values-own.ensures (tabled_parts K c.requires.apart) c.if-own-eq1.true (sym c.is_hung.ensures ∙ c.if-is_hung.true) c.one_level.ensures
-
-pub values-l-requires : goal.values-l-requires
-values-l-requires c = rw c.open-t.ensures (omega (arith, (known (goal.at.values-l-requires c).Start).parts))
+pub returns-then-matches : goal.returns-then-matches
+returns-then-matches c =
+    let hung : c.args.x.role ≡ Hung = elim c.match-matches.branch [ in-Hung w ↦ w.in-Hung.is | in_default w ↦ cc ] in
+    λ t K. fork_low c.args.x c.values-own.ensures (tabled_parts K c.requires.apart) c.if-own-eq1.true hung c.one_level.ensures
 
 pub values-r-requires : goal.values-r-requires
 values-r-requires c = rw c.open-t.ensures (omega (arith, (known (goal.at.values-r-requires c).Start).parts))

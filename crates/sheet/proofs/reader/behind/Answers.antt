@@ -3,9 +3,6 @@ use native.Mathlib.Omega.{arith}
 use Rattle.sheet.proofs.Fields.{fields}
 use Rattle.sheet.proofs.reader.behind.Goals as goal
 
-pub overflow_cast-result : goal.overflow_cast-result
-overflow_cast-result c = omega (arith, fields c.args.map c.requires.0)
-
 pub overflow_sub-result : goal.overflow_sub-result
 overflow_sub-result c = omega (arith, fields c.args.map c.requires.0)
 

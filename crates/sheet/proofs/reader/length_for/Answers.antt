@@ -6,9 +6,6 @@ use Rattle.sheet.specs.Sheet.{bit3, field}
 use Rattle.sheet.proofs.Fields.{length_is, angles_at_lem}
 use Rattle.sheet.proofs.reader.length_for.Goals as goal
 
-pub overflow_sub-result : goal.overflow_sub-result
-overflow_sub-result c = let bit : bit3 c.args.map ≡ 1 = omega (arith, c.if-map-ge8.true, c.requires.0) in omega (arith, c.behind-fields.ensures, bit)
-
 pub returns-then-map-ge8 : goal.returns-then-map-ge8
 returns-then-map-ge8 c =
     let m = c.args.map in

@@ -1,12 +1,12 @@
 -- Each refusal by its law of Asks.antt.
-use mathlib.Core.Path.{◌≡◌, refl}
+use mathlib.Core.Path.{◌≡◌}
 use mathlib.Core.List.{List}
 use Prim.Native.Nat.{ℕ}
 use native.Mathlib.Omega.{arith}
 use lib.ListN.{get_or}
 use Rattle.sheet.specs.Sheet.{bit1, more}
 use Rattle.sheet.proofs.Asks.{refused_1a, refused_1b, refused_1c, refused_2a, refused_3a, refused_3b}
-use Rattle.sheet.proofs.Frame.{Tested, disagrees, inexact, framed, bit3_is}
+use Rattle.sheet.proofs.Frame.{Tested, disagrees, inexact}
 use Rattle.sheet.proofs.reader.read_head.Goals.{Else-n-gt-CORNERS, Else-not-agrees}
 use Rattle.sheet.proofs.reader.read_head.Goals as goal
 
@@ -42,14 +42,6 @@ returns-then-n-gt-CORNERS c = refused_3b c.args.sheet.now (omega arith) (omega a
 pub returns-then-not-agrees : goal.returns-then-not-agrees
 returns-then-not-agrees c = disagrees (tested (goal.at.returns-then-not-agrees c).Else-n-gt-CORNERS) (c.agrees.ensures.no c.if-not-agrees.true)
 
-pub length_for-requires : goal.length_for-requires
-length_for-requires c = let T = tested (goal.at.length_for-requires c).Else-n-gt-CORNERS in (T.small, T.low, T.least, T.most, agrees (goal.at.length_for-requires c).Else-not-agrees)
-
 pub returns-then-size-length_for : goal.returns-then-size-length_for
 returns-then-size-length_for c =
     inexact (tested (goal.at.returns-then-size-length_for c).Else-n-gt-CORNERS) (agrees (goal.at.returns-then-size-length_for c).Else-not-agrees) c.length_for.result c.length_for.ensures c.if-size-length_for.true
-
-pub returns : goal.returns
-returns c =
-    let T = tested (goal.at.returns c).Else-n-gt-CORNERS in
-    framed T (agrees (goal.at.returns c).Else-not-agrees) c.length_for.result c.length_for.ensures c.if-size-length_for.false _ (bit3_is _ _ T.small refl)

@@ -4,7 +4,5 @@ use Rattle.keys.specs.Keys.{edges_of}
 use Rattle.tree.proofs.Listing.{edges_listed}
 use Rattle.tree.proofs.edges.list_edges.Goals as goal
 
-pub returns : goal.returns
-returns c =
-    let m = c.place_outline.ensures in
-    record { edges = ap edges_of m.merged ∙ edges_listed c.args.n c.args.keys.now c.requires.part.0 c.requires.part.1; rest = m.rest }
+pub returns-clause-edges : goal.returns-clause-edges
+returns-clause-edges c = ap edges_of c.place_outline.ensures.merged ∙ edges_listed c.args.n c.args.keys.now c.requires.part.0 c.requires.part.1

@@ -1,7 +1,6 @@
-use mathlib.Core.Path.{◌≡◌, refl}
+use mathlib.Core.Path.{◌≡◌}
 use Prim.Native.Nat.{◌+◌, ◌*◌, ◌-◌, ◌<◌}
 use native.Mathlib.Omega.{arith}
-use lib.ListN.{length, length-set}
 use Rattle.tree.specs.Outline.{place_of}
 use Rattle.tree.proofs.Outline.{before, inside, stood_next}
 use Rattle.tree.proofs.edges.place_diagonals.Goals.{After-low}
@@ -12,17 +11,8 @@ places : (c : After-low) → (before c.args.keys.now c.loop-j.j < c.args.n) × (
 places c =
     inside c.args.keys.now c.requires.part.0 c.requires.part.1 c.loop-j.j c.loop-j-test.true
 
-pub loop-j-init : goal.loop-j-init
-loop-j-init c = (omega arith, refl, record { there = λ j h. absurd (omega arith); free = λ k f. c.requires.fresh k })
-
 pub outline_before-requires : goal.outline_before-requires
 outline_before-requires c = omega (arith, places (goal.at.outline_before-requires c).After-low, c.low.ensures)
-
-pub overflow_add-listed : goal.overflow_add-listed
-overflow_add-listed c = omega (arith, places (goal.at.overflow_add-listed c).After-low, c.low.ensures, c.outline_before.ensures)
-
-pub offset_bounds-listed-j : goal.offset_bounds-listed-j
-offset_bounds-listed-j c = omega (arith, places (goal.at.offset_bounds-listed-j c).After-low, c.low.ensures, c.outline_before.ensures)
 
 pub bounds-listed-j : goal.bounds-listed-j
 bounds-listed-j c = omega (arith, places (goal.at.bounds-listed-j c).After-low, c.low.ensures, c.outline_before.ensures)
@@ -31,14 +21,5 @@ pub loop-j-preserved : goal.loop-j-preserved
 loop-j-preserved c =
     let keys = c.args.keys.now in
     let j = c.loop-j.j in
-    let e : j + c.outline_before.result ≡ place_of keys j = omega (arith, c.low.ensures, c.outline_before.ensures) in (
-      omega arith,
-      simp length-set c.loop-j.invariant.1,
-      rw e (stood_next keys c.requires.part.0 c.requires.part.1 c.loop-j.invariant.2 c.loop-j-test.true (omega (arith, places (goal.at.loop-j-preserved c).After-low, c.loop-j.invariant.1, c.requires.room))),
-    )
-
-pub returns : goal.returns
-returns c =
-    let keys = c.args.keys.now in
-    let e : c.loop-j.j ≡ length keys = omega arith in
-    rw (← e) c.loop-j.invariant.2
+    let e : j + c.outline_before.result ≡ place_of keys j = omega (arith, c.low.ensures, c.outline_before.ensures) in
+    rw e (stood_next keys c.requires.part.0 c.requires.part.1 c.loop-j.invariant c.loop-j-test.true (omega (arith, places (goal.at.loop-j-preserved c).After-low, c.loop-j.auto.listed, c.requires.room)))
