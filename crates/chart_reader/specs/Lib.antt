@@ -7,3 +7,5 @@ pub mod Follow
 -- What serves these, the contracts and the code.
 pub mod Held
 pub mod Gaps
+pub mod Once
+pub mod Strokes

@@ -2,16 +2,17 @@
 // so the gaps are held in the order of the bars, and the same question is asked of them.
 ghost use Rattle.std.specs.Prelude.{◌≡◌, true, false, List, ℕ, ◌+◌, ◌<◌, length, get_or};
 ghost use Rattle.lists.specs.Lists.{All};
-ghost use Rattle.chart.specs.Decode.{chart_in, stroke_at, stroke_of};
+ghost use Rattle.chart.specs.Decode.{stroke_at, stroke_of};
 ghost use Rattle.nearest.specs.declared.Cell.{Cell};
 ghost use Rattle.nearest.specs.BarRule.{BarRule};
-ghost use Rattle.nearest.specs.Held.{Bars};
 ghost use Rattle.nearest.specs.Order.{firsts, lasts, InOrderSpans, OrderedBars};
 ghost use Rattle.chart_reader.specs.Rules.{Named, StrokeRule, GapRule};
-ghost use Rattle.chart_reader.specs.Held.{StrokesFound, StrokeIn};
+ghost use Rattle.chart_reader.specs.Strokes.{chart_of};
+ghost use Rattle.chart_reader.specs.Held.{StrokeIn};
 ghost use Rattle.chart_reader.specs.Gaps.{InGap, Gapped, Clear, GapPut, GapsIn};
 
 use crate::Ends;
+use crate::frame::Strokes;
 use crate::strokes::stroke_ends;
 use chart::{Stroke, stroke_at};
 use keys::CORNERS;
@@ -35,17 +36,17 @@ fn put_empty(spans: &[Span], gaps: &mut [Span])
 }
 
 // Puts the gap of a stroke behind its left bar, if it is level and its gap has a cell, and says whether it has.
-fn put_gap(chart: &[u8], s: Stroke, n: usize, spans: &[Span], gaps: &mut [Span]) -> bool
-    requires stroke { StrokeIn n s × Bars chart.now n × Gapped (chart_in chart.now) (stroke_of s) }
-    requires bars { (length gaps.old ≡ n) × OrderedBars (chart_in chart.now).bar n spans.now }
-    ensures none { result ≡ false → (gaps.new ≡ gaps.old) × ((d : Cell) → InGap (chart_in chart.now) (stroke_of s) d → ⊥) }
+fn put_gap(strokes: &Strokes, s: Stroke, spans: &[Span], gaps: &mut [Span]) -> bool
+    requires stroke { StrokeIn strokes.now.n s × Gapped (chart_of strokes.now) (stroke_of s) }
+    requires bars { (length gaps.old ≡ strokes.now.n) × OrderedBars (chart_of strokes.now).bar strokes.now.n spans.now }
+    ensures none { result ≡ false → (gaps.new ≡ gaps.old) × ((d : Cell) → InGap (chart_of strokes.now) (stroke_of s) d → ⊥) }
     ensures some { result ≡ true → (firsts gaps.new ≡ firsts gaps.old)
-        × GapPut (chart_in chart.now) (stroke_of s) (lasts spans.now) (lasts gaps.old) (lasts gaps.new) }
+        × GapPut (chart_of strokes.now) (stroke_of s) (lasts spans.now) (lasts gaps.old) (lasts gaps.new) }
 {
     if s.column.is_some() {
         return false;
     }
-    let Ends { first: p, last: q } = stroke_ends(chart, s, n);
+    let Ends { first: p, last: q } = stroke_ends(strokes.chart, s, strokes.n);
     if q.column <= p.column + 1 {
         return false;
     }
@@ -55,20 +56,20 @@ fn put_gap(chart: &[u8], s: Stroke, n: usize, spans: &[Span], gaps: &mut [Span])
 }
 
 // Puts the gaps of the level strokes, and says whether one has a cell.
-fn put_gaps(chart: &[u8], at: &[usize], n: usize, spans: &[Span], gaps: &mut [Span]) -> bool
-    requires strokes { StrokesFound chart.now n at.now × BarRule (chart_in chart.now) × StrokeRule (chart_in chart.now) }
-    requires bars { OrderedBars (chart_in chart.now).bar n spans.now }
-    requires none { (length gaps.old ≡ n) × ((i : ℕ) → i < n → get_or (lasts gaps.old) i 0 ≡ get_or (lasts spans.now) i 0) }
-    ensures gaps { GapsIn (chart_in chart.now) (λ (k : ℕ). stroke_at chart.now (get_or at.now k 0))
-        (length at.now) (firsts spans.now) (lasts spans.now) (lasts gaps.new) }
+fn put_gaps(strokes: &Strokes, spans: &[Span], gaps: &mut [Span]) -> bool
+    requires strokes { BarRule (chart_of strokes.now) × StrokeRule (chart_of strokes.now) }
+    requires bars { OrderedBars (chart_of strokes.now).bar strokes.now.n spans.now }
+    requires none { (length gaps.old ≡ strokes.now.n) × ((i : ℕ) → i < strokes.now.n → get_or (lasts gaps.old) i 0 ≡ get_or (lasts spans.now) i 0) }
+    ensures gaps { GapsIn (chart_of strokes.now) (λ (k : ℕ). stroke_at strokes.now.chart.now (get_or strokes.now.at.now k 0))
+        (length strokes.now.at.now) (firsts spans.now) (lasts spans.now) (lasts gaps.new) }
     ensures starts { firsts gaps.new ≡ firsts gaps.old }
-    ensures any { result ≡ false → (k : ℕ) → k < length at.now → (d : Cell)
-        → InGap (chart_in chart.now) (stroke_at chart.now (get_or at.now k 0)) d → ⊥ }
+    ensures any { result ≡ false → (k : ℕ) → k < length strokes.now.at.now → (d : Cell)
+        → InGap (chart_of strokes.now) (stroke_at strokes.now.chart.now (get_or strokes.now.at.now k 0)) d → ⊥ }
 {
     // no plainer by any(), which would leave out the gaps behind the first
     let mut any = false;
-    for &place in at {
-        if put_gap(chart, stroke_at(chart, place), n, spans, gaps) {
+    for &place in strokes.at {
+        if put_gap(strokes, stroke_at(strokes.chart, place), spans, gaps) {
             any = true;
         }
     }
@@ -76,52 +77,51 @@ fn put_gaps(chart: &[u8], at: &[usize], n: usize, spans: &[Span], gaps: &mut [Sp
 }
 
 // Whether a stroke is no upright, or passes through none of the gaps.
-fn clear(chart: &[u8], s: Stroke, n: usize, gaps: &[Span]) -> bool
-    requires { StrokeIn n s × Bars chart.now n × InOrderSpans gaps.now }
-    ensures yes { result ≡ true → Clear (chart_in chart.now) (firsts gaps.now) (lasts gaps.now) (stroke_of s) }
-    ensures no { result ≡ false → Clear (chart_in chart.now) (firsts gaps.now) (lasts gaps.now) (stroke_of s) → ⊥ }
+fn clear(strokes: &Strokes, s: Stroke, gaps: &[Span]) -> bool
+    requires { StrokeIn strokes.now.n s × InOrderSpans gaps.now }
+    ensures yes { result ≡ true → Clear (chart_of strokes.now) (firsts gaps.now) (lasts gaps.now) (stroke_of s) }
+    ensures no { result ≡ false → Clear (chart_of strokes.now) (firsts gaps.now) (lasts gaps.now) (stroke_of s) → ⊥ }
 {
     if s.column.is_none() {
         return true;
     }
-    let e = stroke_ends(chart, s, n);
+    let e = stroke_ends(strokes.chart, s, strokes.n);
     in_column(gaps, e.first, e.last).is_none()
 }
 
 // Whether each stroke is.
-fn all_clear(chart: &[u8], at: &[usize], n: usize, gaps: &[Span]) -> bool
-    requires { StrokesFound chart.now n at.now × All (Named (chart_in chart.now)) (chart_in chart.now).strokes × InOrderSpans gaps.now }
-    ensures yes { result ≡ true → All (Clear (chart_in chart.now) (firsts gaps.now) (lasts gaps.now))
-        (chart_in chart.now).strokes }
-    ensures no { result ≡ false → All (Clear (chart_in chart.now) (firsts gaps.now) (lasts gaps.now))
-        (chart_in chart.now).strokes → ⊥ }
+fn all_clear(strokes: &Strokes, gaps: &[Span]) -> bool
+    requires { All (Named (chart_of strokes.now)) (chart_of strokes.now).strokes × InOrderSpans gaps.now }
+    ensures yes { result ≡ true → All (Clear (chart_of strokes.now) (firsts gaps.now) (lasts gaps.now))
+        (chart_of strokes.now).strokes }
+    ensures no { result ≡ false → All (Clear (chart_of strokes.now) (firsts gaps.now) (lasts gaps.now))
+        (chart_of strokes.now).strokes → ⊥ }
 {
-    at.iter()
-        .all(|&place| clear(chart, stroke_at(chart, place), n, gaps))
+    strokes.at.iter().all(|&place| clear(strokes, stroke_at(strokes.chart, place), gaps))
 }
 
 // Whether no upright passes through the gap of a level stroke, for a chart that keeps the rules of bars and strokes; with a table for the gaps.
-fn none_passes(chart: &[u8], at: &[usize], n: usize, spans: &[Span], gaps: &mut [Span]) -> bool
-    requires chart { StrokesFound chart.now n at.now × BarRule (chart_in chart.now) × StrokeRule (chart_in chart.now) }
-    requires bars { OrderedBars (chart_in chart.now).bar n spans.now }
-    requires size { length gaps.old ≡ n }
-    ensures yes { result ≡ true → GapRule (chart_in chart.now) }
-    ensures no { result ≡ false → GapRule (chart_in chart.now) → ⊥ }
+fn none_passes(strokes: &Strokes, spans: &[Span], gaps: &mut [Span]) -> bool
+    requires chart { BarRule (chart_of strokes.now) × StrokeRule (chart_of strokes.now) }
+    requires bars { OrderedBars (chart_of strokes.now).bar strokes.now.n spans.now }
+    requires size { length gaps.old ≡ strokes.now.n }
+    ensures yes { result ≡ true → GapRule (chart_of strokes.now) }
+    ensures no { result ≡ false → GapRule (chart_of strokes.now) → ⊥ }
 {
     put_empty(spans, gaps);
-    if !put_gaps(chart, at, n, spans, gaps) {
+    if !put_gaps(strokes, spans, gaps) {
         return true;
     }
-    all_clear(chart, at, n, gaps)
+    all_clear(strokes, gaps)
 }
 
 // The same with a table of its own.
-pub fn gaps_keep(chart: &[u8], at: &[usize], n: usize, spans: &[Span]) -> bool
-    requires chart { StrokesFound chart.now n at.now × BarRule (chart_in chart.now) × StrokeRule (chart_in chart.now) }
-    requires bars { OrderedBars (chart_in chart.now).bar n spans.now }
-    ensures yes { result ≡ true → GapRule (chart_in chart.now) }
-    ensures no { result ≡ false → GapRule (chart_in chart.now) → ⊥ }
+pub fn gaps_keep(strokes: &Strokes, spans: &[Span]) -> bool
+    requires chart { BarRule (chart_of strokes.now) × StrokeRule (chart_of strokes.now) }
+    requires bars { OrderedBars (chart_of strokes.now).bar strokes.now.n spans.now }
+    ensures yes { result ≡ true → GapRule (chart_of strokes.now) }
+    ensures no { result ≡ false → GapRule (chart_of strokes.now) → ⊥ }
 {
     let mut gaps = [BLANK; CORNERS];
-    none_passes(chart, at, n, spans, &mut gaps[..n])
+    none_passes(strokes, spans, &mut gaps[..strokes.n])
 }

@@ -2,16 +2,15 @@
 // frame.rt finds the strokes in the bytes; the crate nearest tests the bars, puts them in order and asks for the bar nearest a cell;
 // strokes.rt, gaps.rt and part.rt test the other rules; follow.rt asks the same question for others.
 // The definitions that the contracts cite are in specs/: Reader.antt has the tests in their order, Rules.antt the rules,
-// crate chart's Decode.antt the bytes, Follow.antt the nearest bar, Held.antt and Gaps.antt how the code holds a chart.
+// crate chart's Decode.antt the bytes, Follow.antt the nearest bar, Held.antt, Strokes.antt and Gaps.antt how the code holds a chart.
 #![tactic(auto)]
 
 ghost use Rattle.std.specs.Prelude.{◌≡◌, length};
 ghost use Rattle.codec.specs.Answer.{answered, written};
 ghost use Rattle.sheet.specs.Held.{reading_of};
 ghost use Rattle.chart_reader.specs.Reader.{read_chart, chart_read};
-ghost use Rattle.chart_reader.specs.Held.{StrokesFound};
 
-use crate::frame::frame;
+use crate::frame::{Strokes, strokes_in};
 use crate::gaps::gaps_keep;
 use crate::part::part;
 use crate::strokes::strokes_keep;
@@ -36,25 +35,19 @@ pub struct Ends {
 }
 
 // Reads a chart whose strokes were found, with tables for the bars in order and for the edges.
-fn read_found(
-    chart: &[u8],
-    at: &[usize],
-    n: usize,
-    spans: &mut [Span],
-    edges: &mut [u32],
-) -> Result<Part, Refusal>
-    requires found { StrokesFound chart.now n at.now }
-    requires bars { length spans.old ≡ n }
-    requires edges { length edges.old ≡ length at.now }
-    ensures { reading_of result ≡ read_chart chart.now }
+fn read_found(strokes: &Strokes, spans: &mut [Span], edges: &mut [u32]) -> Result<Part, Refusal>
+    requires bars { length spans.old ≡ strokes.now.n }
+    requires edges { length edges.old ≡ length strokes.now.at.now }
+    ensures { reading_of result ≡ read_chart strokes.now.chart.now }
 {
-    if !bars_keep(chart, n, spans) {
+    let n = strokes.n;
+    if !bars_keep(strokes.chart, n, spans) {
         return Err(Refusal::Bars);
     }
-    if !strokes_keep(chart, at, n, spans, edges) {
+    if !strokes_keep(strokes, spans, edges) {
         return Err(Refusal::Strokes);
     }
-    if !gaps_keep(chart, at, n, spans) {
+    if !gaps_keep(strokes, spans) {
         return Err(Refusal::Gaps);
     }
     let mut keys = [0u32; EDGES];
@@ -69,11 +62,14 @@ pub fn read_part(chart: &[u8]) -> Result<Part, Refusal>
     ensures { reading_of result ≡ read_chart chart.now }
 {
     let mut at = [0usize; EDGES];
-    let n = frame(chart, &mut at).ok_or(Refusal::ChartForm)?;
-    let m = 2 * n - 3;
+    let strokes = strokes_in(chart, &mut at).ok_or(Refusal::ChartForm)?;
     let mut spans = [BLANK; CORNERS];
     let mut edges = [0u32; EDGES];
-    read_found(chart, &at[..m], n, &mut spans[..n], &mut edges[..m])
+    read_found(
+        &strokes,
+        &mut spans[..strokes.n],
+        &mut edges[..strokes.at.len()],
+    )
 }
 
 // Read a chart: the normal sheet of the part that it shows.

@@ -8,14 +8,14 @@ ghost use Rattle.sheet.specs.Sheet.{held};
 ghost use Rattle.chart.specs.Decode.{chart_in, bar_of};
 ghost use Rattle.log_line.specs.Put.{Put};
 ghost use Rattle.log_line.specs.Line.{line};
-ghost use Rattle.nearest.specs.Held.{Bars};
 ghost use Rattle.chart_reader.specs.Formed.{Formed};
+ghost use Rattle.chart_reader.specs.Strokes.{chart_of};
 ghost use Rattle.chart_reader.specs.Rules.{Named};
 ghost use Rattle.chart_text.specs.Text.{chart_facts, corner_line, corner_lines, described_as, described};
 
 use crate::strokes::put_strokes;
 use chart::{Bar, corner_bar};
-use chart_reader::frame::frame;
+use chart_reader::frame::{Strokes, strokes_in};
 use chart_reader::read_part;
 use codec::get16;
 use draw::line::counts_line;
@@ -54,16 +54,15 @@ fn put_corner(out: &mut [u8], at: usize, corner: usize, bar: Bar) -> usize
     put_word(out, d, b"\n")
 }
 
-// Writes the lines of the n corners of a chart.
-fn put_corners(out: &mut [u8], at: usize, chart: &[u8], n: usize) -> usize
-    requires room { (at + 45 * n + 128 ≤ length out.old) × (n ≤ 1024) }
-    requires bars { Bars chart.now n }
-    ensures text { Put (corner_lines (chart_in chart.now)) out.old at out.new result }
-    ensures within { result ≤ at + 45 * n }
+// Writes the lines of the corners of a chart.
+fn put_corners(out: &mut [u8], at: usize, strokes: &Strokes) -> usize
+    requires { at + 45 * strokes.now.n + 128 ≤ length out.old }
+    ensures text { Put (corner_lines (chart_of strokes.now)) out.old at out.new result }
+    ensures within { result ≤ at + 45 * strokes.now.n }
 {
     let mut end = at;
-    for x in 0..n {
-        end = put_corner(out, end, x, corner_bar(chart, x));
+    for x in 0..strokes.n {
+        end = put_corner(out, end, x, corner_bar(strokes.chart, x));
     }
     end
 }
@@ -78,11 +77,10 @@ fn describe_part(chart: &[u8], part: &Part, out: &mut [u8]) -> usize
 {
     let mut at = [0usize; EDGES];
     // a chart that was read has its form
-    let n = frame(chart, &mut at).unwrap();
-    let m = 2 * n - 3;
-    let corners = put_head(chart, part, out);
-    let strokes = put_corners(out, corners, chart, n);
-    put_strokes(out, strokes, chart, &at[..m], n)
+    let strokes = strokes_in(chart, &mut at).unwrap();
+    let head = put_head(chart, part, out);
+    let corners = put_corners(out, head, &strokes);
+    put_strokes(out, corners, &strokes)
 }
 
 // Writes what is said of a chart, and says how long it is.

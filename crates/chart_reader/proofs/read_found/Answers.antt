@@ -12,7 +12,6 @@ use Rattle.nearest.specs.BarRule.{BarRule}
 use Rattle.chart_reader.specs.Rules.{StrokeRule, edges_in}
 use Rattle.chart_reader.specs.Held.{StrokesFound}
 use Rattle.sheet.specs.Sheet.{held}
-use Rattle.chart_reader.proofs.Stroked.{bars_room, strokes_room}
 use Rattle.chart_reader.proofs.Verdict.{by_15, by_16, by_17, read_by}
 use Rattle.chart_reader.proofs.Found.{Edged, edges_found, no_part, part_valid, part_read}
 use Rattle.chart_reader.proofs.read_found.Goals.{Else-not-strokes_keep}
@@ -28,28 +27,24 @@ edged s n at keys found bars S long = record {
 }
 
 -- what was found, when strokes and bars keep their rules
-found : (c : Else-not-strokes_keep) → Edged c.args.chart.now c.args.n c.args.at.now c.strokes_keep.new.keys
-found c = edged _ _ _ _ c.requires.found (c.bars_keep.ensures.yes c.if-not-bars_keep.false).0 (c.strokes_keep.ensures.yes c.if-not-strokes_keep.false) (c.strokes_keep.auto.keys ∙ c.requires.edges)
-
-pub bars_keep-requires : goal.bars_keep-requires
-bars_keep-requires c = record { bars = (bars_room _ _ _ c.requires.found, omega (arith, c.requires.found.count, c.requires.found.formed.most)); size = c.requires.bars }
+found : (c : Else-not-strokes_keep) → Edged c.args.strokes.now.chart.now c.args.strokes.now.n c.args.strokes.now.at.now c.strokes_keep.new.keys
+found c = edged _ _ _ _ c.args.strokes.now.found (c.bars_keep.ensures.yes c.if-not-bars_keep.false).0 (c.strokes_keep.ensures.yes c.if-not-strokes_keep.false) (c.strokes_keep.auto.keys ∙ c.requires.edges)
 
 pub returns-then-not-bars_keep : goal.returns-then-not-bars_keep
-returns-then-not-bars_keep c = sym (read_by c.args.chart.now (by_15 c.requires.found.formed (c.bars_keep.ensures.no c.if-not-bars_keep.true)))
+returns-then-not-bars_keep c = sym (read_by c.args.strokes.now.chart.now (by_15 c.args.strokes.now.found.formed (c.bars_keep.ensures.no c.if-not-bars_keep.true)))
 
 pub returns-then-not-strokes_keep : goal.returns-then-not-strokes_keep
-returns-then-not-strokes_keep c = sym (read_by c.args.chart.now (by_16 c.requires.found.formed (c.bars_keep.ensures.yes c.if-not-bars_keep.false).0 (c.strokes_keep.ensures.no c.if-not-strokes_keep.true)))
+returns-then-not-strokes_keep c = sym (read_by c.args.strokes.now.chart.now (by_16 c.args.strokes.now.found.formed (c.bars_keep.ensures.yes c.if-not-bars_keep.false).0 (c.strokes_keep.ensures.no c.if-not-strokes_keep.true)))
 
 pub returns-then-not-gaps_keep : goal.returns-then-not-gaps_keep
 returns-then-not-gaps_keep c =
     let E = found (goal.at.returns-then-not-gaps_keep c).Else-not-strokes_keep in
-    sym (read_by c.args.chart.now (by_17 E.placed.formed E.bars E.strokes (c.gaps_keep.ensures.no c.if-not-gaps_keep.true)))
+    sym (read_by c.args.strokes.now.chart.now (by_17 E.placed.formed E.bars E.strokes (c.gaps_keep.ensures.no c.if-not-gaps_keep.true)))
 
 pub part-requires : goal.part-requires
 part-requires c =
     let E = found (goal.at.part-requires c).Else-not-strokes_keep in
-    let F = c.requires.found in
-    (edges_found E, omega (arith, F.count, F.formed.most), omega (arith, c.strokes_keep.auto.keys, c.requires.edges, strokes_room _ _ _ F, F.count, F.formed.most))
+    (edges_found E, c.args.strokes.now.sizes.1, omega (arith, c.strokes_keep.auto.keys, c.requires.edges, c.args.strokes.now.sizes))
 
 pub returns-then-not-part : goal.returns-then-not-part
 returns-then-not-part c =

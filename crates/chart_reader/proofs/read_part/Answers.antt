@@ -6,8 +6,8 @@ use Rattle.chart_reader.proofs.Stroked.{refused_as}
 use Rattle.chart_reader.proofs.Verdict.{by_14, read_by}
 use Rattle.chart_reader.proofs.read_part.Goals as goal
 
-pub returns-in_err-n : goal.returns-in_err-n
-returns-in_err-n c =
-    let none = MatchOption-at_none _ _ c.in_err-n.ensures.ok_part c.frame.ensures in
+pub returns-in_err-strokes : goal.returns-in_err-strokes
+returns-in_err-strokes c =
+    let none = MatchOption-at_none _ _ c.in_err-strokes.ensures.ok_part c.strokes_in.ensures in
     let p = err_from_is_err_and c.from_residual.result c.from_residual.ensures.1 in
-    rw (p.1, p.2, refused_as _ c.in_err-n.ensures.value) (sym (read_by c.args.chart.now (by_14 none)))
+    rw (p.1, p.2, refused_as _ c.in_err-strokes.ensures.value) (sym (read_by c.args.chart.now (by_14 none)))

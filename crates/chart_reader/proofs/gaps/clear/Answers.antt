@@ -13,6 +13,6 @@ returns c =
     let (j, up) = some_is c.if-is_none.ensures in
     let told = sym c.in_column.ensures in
     record {
-      yes = λ h. upright_clear (chart_in a.chart.now) a.s up c.stroke_ends-e.ensures (firsts a.gaps.now) (lasts a.gaps.now) (told ∙ ap found_of (none_is (rw h at c.is_none-2.ensures)));
-      no = λ h. let (x, is) = some_is (rw h at c.is_none-2.ensures) in upright_met (chart_in a.chart.now) a.s up c.stroke_ends-e.ensures (firsts a.gaps.now) (lasts a.gaps.now) x (told ∙ ap found_of is);
+      yes = λ h. upright_clear (chart_in a.strokes.now.chart.now) a.s up c.stroke_ends-e.ensures (firsts a.gaps.now) (lasts a.gaps.now) (told ∙ ap found_of (none_is (rw h at c.is_none-2.ensures)));
+      no = λ h. let (x, is) = some_is (rw h at c.is_none-2.ensures) in upright_met (chart_in a.strokes.now.chart.now) a.s up c.stroke_ends-e.ensures (firsts a.gaps.now) (lasts a.gaps.now) x (told ∙ ap found_of is);
     }

@@ -9,7 +9,7 @@ use Rattle.chart_reader.proofs.gaps.none_passes.Goals as goal
 
 -- the last cells of the bars lie in columns that have one behind them
 within : (c : After-put_gaps) → (i : ℕ) → i < length (lasts c.args.spans.now) → get_or (lasts c.args.spans.now) i 0 % 65536 < 65535
-within c = ends_within (chart_in c.args.chart.now) c.args.n (firsts c.args.spans.now) (lasts c.args.spans.now) _ c.requires.bars c.requires.chart.1 c.requires.chart.0.count (omega (arith, c.type_inv.chart 2, c.type_inv.chart (2 + 1)))
+within c = ends_within (chart_in c.args.strokes.now.chart.now) c.args.strokes.now.n (firsts c.args.spans.now) (lasts c.args.spans.now) _ c.requires.bars c.requires.chart.0 c.args.strokes.now.found.count c.args.strokes.now.small.1
 
 -- where the gaps start
 froms : (c : After-put_gaps) → (i : ℕ) → i < length (lasts c.args.spans.now) → get_or (firsts c.put_gaps.new.gaps) i 0 ≡ get_or (lasts c.args.spans.now) i 0 + 1
@@ -21,18 +21,18 @@ long c = omega (arith, firsts_length c.put_gaps.new.gaps, c.put_gaps.auto.gaps, 
 pub put_empty-requires : goal.put_empty-requires
 put_empty-requires c = record {
   size = omega (arith, c.requires.size, firsts_length c.args.spans.now, c.requires.bars.count);
-  room = λ i h. ends_room (chart_in c.args.chart.now) c.args.n (firsts c.args.spans.now) (lasts c.args.spans.now) _ c.requires.bars c.requires.chart.1 c.requires.chart.0.count
-      (omega (arith, c.type_inv.chart 0, c.type_inv.chart 1)) (omega (arith, c.type_inv.chart 2, c.type_inv.chart (2 + 1))) i (omega (arith, lasts_length c.args.spans.now));
+  room = λ i h. ends_room (chart_in c.args.strokes.now.chart.now) c.args.strokes.now.n (firsts c.args.spans.now) (lasts c.args.spans.now) _ c.requires.bars c.requires.chart.0 c.args.strokes.now.found.count
+      c.args.strokes.now.small.0 c.args.strokes.now.small.1 i (omega (arith, lasts_length c.args.spans.now));
 }
 
 pub returns-then-not-put_gaps : goal.returns-then-not-put_gaps
-returns-then-not-put_gaps c = record { yes = λ h. no_gaps c.args.chart.now c.args.n c.args.at.now c.requires.chart.0 (c.put_gaps.ensures.any c.if-not-put_gaps.true); no = λ h. absurd (true≢false h) }
+returns-then-not-put_gaps c = record { yes = λ h. no_gaps c.args.strokes.now.chart.now c.args.strokes.now.n c.args.strokes.now.at.now c.args.strokes.now.found (c.put_gaps.ensures.any c.if-not-put_gaps.true); no = λ h. absurd (true≢false h) }
 
 pub all_clear-requires : goal.all_clear-requires
 all_clear-requires c =
     let here = (goal.at.all_clear-requires c).After-put_gaps in
     let O = c.requires.bars in
-    (c.requires.chart.0, c.requires.chart.2.0, gaps_ordered (chart_in c.args.chart.now) _ _ (firsts c.args.spans.now) (lasts c.args.spans.now) (firsts c.put_gaps.new.gaps) _ c.put_gaps.ensures.gaps (long here) (froms here) (within here) (sym O.order.size) O.whole)
+    (c.requires.chart.1.0, gaps_ordered (chart_in c.args.strokes.now.chart.now) _ _ (firsts c.args.spans.now) (lasts c.args.spans.now) (firsts c.put_gaps.new.gaps) _ c.put_gaps.ensures.gaps (long here) (froms here) (within here) (sym O.order.size) O.whole)
 
 pub returns : goal.returns
 returns c =
@@ -40,6 +40,6 @@ returns c =
     let a = c.args in
     let near = within here in
     record {
-      yes = λ h. clear_rule a.chart.now a.n a.at.now c.requires.chart.0 (firsts a.spans.now) (lasts a.spans.now) (firsts c.put_gaps.new.gaps) _ c.put_gaps.ensures.gaps (long here) (froms here) near (c.all_clear.ensures.yes h);
-      no = λ h R. c.all_clear.ensures.no h (rule_clear a.chart.now a.n a.at.now c.requires.chart.0 (firsts a.spans.now) (lasts a.spans.now) (firsts c.put_gaps.new.gaps) _ c.put_gaps.ensures.gaps (long here) (froms here) near R);
+      yes = λ h. clear_rule a.strokes.now.chart.now a.strokes.now.n a.strokes.now.at.now c.args.strokes.now.found (firsts a.spans.now) (lasts a.spans.now) (firsts c.put_gaps.new.gaps) _ c.put_gaps.ensures.gaps (long here) (froms here) near (c.all_clear.ensures.yes h);
+      no = λ h R. c.all_clear.ensures.no h (rule_clear a.strokes.now.chart.now a.strokes.now.n a.strokes.now.at.now c.args.strokes.now.found (firsts a.spans.now) (lasts a.spans.now) (firsts c.put_gaps.new.gaps) _ c.put_gaps.ensures.gaps (long here) (froms here) near R);
     }

@@ -10,4 +10,4 @@ use Rattle.chart_reader.specs.Gaps.{InGap, GapsIn}
 use Rattle.chart_reader.proofs.gaps.put_gaps.Given as goal
 
 abbrev pub invariant-loop-place : goal.invariant-loop-place
-invariant-loop-place l = (firsts l.gaps ≡ firsts l.initial.gaps) × GapsIn (chart_in l.chart) (λ k. stroke_at l.chart (get_or l.at k 0)) l.place-index (firsts l.spans) (lasts l.spans) (lasts l.gaps) × (l.any ≡ false → (k : ℕ) → k < l.place-index → (d : Cell) → InGap (chart_in l.chart) (stroke_at l.chart (get_or l.at k 0)) d → ⊥)
+invariant-loop-place l = (firsts l.gaps ≡ firsts l.initial.gaps) × GapsIn (chart_in l.strokes.chart.now) (λ k. stroke_at l.strokes.chart.now (get_or l.strokes.at.now k 0)) l.place-index (firsts l.spans) (lasts l.spans) (lasts l.gaps) × (l.any ≡ false → (k : ℕ) → k < l.place-index → (d : Cell) → InGap (chart_in l.strokes.chart.now) (stroke_at l.strokes.chart.now (get_or l.strokes.at.now k 0)) d → ⊥)

@@ -9,9 +9,9 @@ use Rattle.chart_reader.proofs.strokes.fits.Goals as goal
 
 pub returns : goal.returns
 returns c =
-    let chart = chart_in c.args.chart.now in
-    let told = sym (c.nearest_corner.ensures chart.bar c.args.n c.requires.bars) in
+    let chart = chart_in c.args.strokes.now.chart.now in
+    let told = sym (c.nearest_corner.ensures chart.bar c.args.strokes.now.n c.requires.bars) in
     record {
-      yes = λ h. (c.joins.ensures.yes c.if-not-joins.false, subst (Free chart) c.stroke_ends-e.ensures.same (none_free chart c.args.n c.requires.stroke.1.count _ (told ∙ ap found_of (none_is (rw h at c.is_none.ensures)))));
-      no = λ h F. let (x, is) = some_is (rw h at c.is_none.ensures) in some_stands chart c.args.n c.requires.stroke.1.count _ x (told ∙ ap found_of is) (subst (Free chart) (sym c.stroke_ends-e.ensures.same) F.1);
+      yes = λ h. (c.joins.ensures.yes c.if-not-joins.false, subst (Free chart) c.stroke_ends-e.ensures.same (none_free chart c.args.strokes.now.n c.args.strokes.now.bars.count _ (told ∙ ap found_of (none_is (rw h at c.is_none.ensures)))));
+      no = λ h F. let (x, is) = some_is (rw h at c.is_none.ensures) in some_stands chart c.args.strokes.now.n c.args.strokes.now.bars.count _ x (told ∙ ap found_of is) (subst (Free chart) (sym c.stroke_ends-e.ensures.same) F.1);
     }

@@ -5,4 +5,4 @@ use Rattle.chart_text.proofs.Lines.{lines_to}
 use Rattle.chart_text.proofs.strokes.put_lines.Given as goal
 
 abbrev pub invariant-loop-key : goal.invariant-loop-key
-invariant-loop-key l = (l.end ≤ l.from + 44 * l.key-index) × Put (lines_to l.chart l.at l.keys l.key-index) l.initial.out l.from l.out l.end
+invariant-loop-key l = (l.end ≤ l.from + 44 * l.key-index) × Put (lines_to l.strokes.chart.now l.strokes.at.now l.keys l.key-index) l.initial.out l.from l.out l.end

@@ -4,4 +4,4 @@ use Rattle.chart_text.proofs.Sorting.{keys_to}
 use Rattle.chart_text.proofs.strokes.stroke_keys.Given as goal
 
 abbrev pub invariant-loop-i : goal.invariant-loop-i
-invariant-loop-i l = take l.i l.keys ≡ keys_to l.chart l.at l.i
+invariant-loop-i l = take l.i l.keys ≡ keys_to l.strokes.chart.now l.strokes.at.now l.i
