@@ -1,5 +1,5 @@
 // The bar of each corner, and the column of each edge.
-ghost use Rattle.std.specs.Prelude.{◌≡◌, map, ℕ, ◌<◌, ◌≤◌, length, get_or};
+ghost use Rattle.std.specs.Prelude.{◌≡◌, map, ℕ, ◌<◌, ◌≤◌, length, get_or, drop};
 ghost use Rattle.tree.specs.Table.{edge_at};
 ghost use Rattle.chart.specs.Chart.{first, last};
 ghost use Rattle.chart_writer.specs.Tables.{Uprights, FirstHold, Columns, NoColumns, Spans, rows_of, lefts_of, rights_of};
@@ -13,6 +13,7 @@ pub fn begin_bars(rows: &[u16], w: u16, bars: &mut [Bar])
     ensures rows { (x : ℕ) → x < length rows.now → get_or (rows_of bars.new) x 0 ≡ get_or rows.now x 0 }
     ensures lefts { FirstHold (length rows.now) w (lefts_of bars.new) }
     ensures rights { FirstHold (length rows.now) 0 (rights_of bars.new) }
+    ensures rest { drop (length rows.now) bars.new ≡ drop (length rows.now) bars.old }
 {
     for (x, &row) in rows.iter().enumerate() {
         bars[x] = Bar {

@@ -1,4 +1,5 @@
 use Rattle.std.proofs.Common.{refl, ◌<◌, length, get_or, arith}
+use Rattle.std.proofs.lemmas.List.{drop-set-lt}
 use Rattle.chart.specs.declared.Bar.{Bar}
 use Rattle.chart_writer.proofs.Fields.{bar_set}
 use Rattle.chart_writer.proofs.bars.begin_bars.Goals as goal
@@ -13,4 +14,5 @@ loop-x-preserved c =
       λ y h. bar_set (λ (r : Bar). r.row) bars x b y (get_or rows y 0) inside (λ e. rw e) (λ e. c.loop-x.invariant.0 y (omega (arith, e))),
       λ y h. bar_set (λ (r : Bar). r.left) bars x b y c.args.w inside (λ e. refl) (λ e. c.loop-x.invariant.1 y (omega (arith, e))),
       λ y h. bar_set (λ (r : Bar). r.right) bars x b y 0 inside (λ e. refl) (λ e. c.loop-x.invariant.2 y (omega (arith, e))),
+      rw (drop-set-lt (length rows) bars x b (omega (arith, c.loop-x-test.true))) c.loop-x.invariant.3,
     )
