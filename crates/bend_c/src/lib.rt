@@ -127,7 +127,7 @@ pub extern "C" fn bend_cut(
 }
 
 // The answer of a list of edits in one number.
-#[tactic(auto, unfolding(edit_list::specs::Desk::placed))]
+#[tactic(auto, using(edit_list::proofs::Packed::packed_first, edit_list::proofs::Packed::packed_buffer, edit_list::proofs::Packed::packed_no_run))]
 fn pack_run(answer: Result<Left, Refusal>) -> u64
     requires { Tellable answer }
     ensures { (front back outs : List ℕ) → result ≡ packed_run (ran_of answer front back outs) }

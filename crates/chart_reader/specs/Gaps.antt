@@ -4,8 +4,13 @@ use Rattle.polygon.specs.Polygon.{Edge}
 use Rattle.chart.specs.Chart.{Stroke, upright, level, Chart}
 use Rattle.nearest.specs.declared.Cell.{Cell}
 use Rattle.nearest.specs.Cells.{HasCell, Inside, CommonCell}
-use Rattle.nearest.specs.Order.{address, span_at, Cut}
+use Rattle.nearest.specs.declared.Span.{Span}
+use Rattle.nearest.specs.Order.{address, span_at, Cut, Ordered, firsts, lasts}
 use Rattle.chart_reader.specs.Rules.{ends}
+
+-- the bars of n corners, held in order by the spans' addresses; the corners beside them are some list, not that of the spans
+abbrev pub BarSpans : Chart → ℕ → List Span → Type 0
+BarSpans c n t = (corners : List ℕ) × Ordered c.bar n (firsts t) (lasts t) corners
 
 module _ (c : Chart) where
   -- the cell lies in the stroke's gap

@@ -5,11 +5,11 @@ ghost use Rattle.lists.specs.Lists.{All};
 ghost use Rattle.chart.specs.Decode.{stroke_at, stroke_of};
 ghost use Rattle.nearest.specs.declared.Cell.{Cell};
 ghost use Rattle.nearest.specs.BarRule.{BarRule};
-ghost use Rattle.nearest.specs.Order.{firsts, lasts, InOrderSpans, OrderedBars};
+ghost use Rattle.nearest.specs.Order.{firsts, lasts, InOrderSpans};
 ghost use Rattle.chart_reader.specs.Rules.{Named, StrokeRule, GapRule};
 ghost use Rattle.chart_reader.specs.Strokes.{chart_of};
 ghost use Rattle.chart_reader.specs.Held.{StrokeIn};
-ghost use Rattle.chart_reader.specs.Gaps.{InGap, Gapped, Clear, GapPut, GapsIn};
+ghost use Rattle.chart_reader.specs.Gaps.{InGap, Gapped, Clear, GapPut, GapsIn, BarSpans};
 
 use crate::Ends;
 use crate::frame::Strokes;
@@ -38,7 +38,7 @@ fn put_empty(spans: &[Span], gaps: &mut [Span])
 // Puts the gap of a stroke behind its left bar, if it is level and its gap has a cell, and says whether it has.
 fn put_gap(strokes: &Strokes, s: Stroke, spans: &[Span], gaps: &mut [Span]) -> bool
     requires stroke { StrokeIn strokes.now.n s × Gapped (chart_of strokes.now) (stroke_of s) }
-    requires bars { (length gaps.old ≡ strokes.now.n) × OrderedBars (chart_of strokes.now).bar strokes.now.n spans.now }
+    requires bars { (length gaps.old ≡ strokes.now.n) × BarSpans (chart_of strokes.now) strokes.now.n spans.now }
     ensures none { result ≡ false → (gaps.new ≡ gaps.old) × ((d : Cell) → InGap (chart_of strokes.now) (stroke_of s) d → ⊥) }
     ensures some { result ≡ true → (firsts gaps.new ≡ firsts gaps.old)
         × GapPut (chart_of strokes.now) (stroke_of s) (lasts spans.now) (lasts gaps.old) (lasts gaps.new) }
@@ -58,7 +58,7 @@ fn put_gap(strokes: &Strokes, s: Stroke, spans: &[Span], gaps: &mut [Span]) -> b
 // Puts the gaps of the level strokes, and says whether one has a cell.
 fn put_gaps(strokes: &Strokes, spans: &[Span], gaps: &mut [Span]) -> bool
     requires strokes { BarRule (chart_of strokes.now) × StrokeRule (chart_of strokes.now) }
-    requires bars { OrderedBars (chart_of strokes.now).bar strokes.now.n spans.now }
+    requires bars { BarSpans (chart_of strokes.now) strokes.now.n spans.now }
     requires none { (length gaps.old ≡ strokes.now.n) × ((i : ℕ) → i < strokes.now.n → get_or (lasts gaps.old) i 0 ≡ get_or (lasts spans.now) i 0) }
     ensures gaps { GapsIn (chart_of strokes.now) (λ (k : ℕ). stroke_at strokes.now.chart.now (get_or strokes.now.at.now k 0))
         (length strokes.now.at.now) (firsts spans.now) (lasts spans.now) (lasts gaps.new) }
@@ -103,7 +103,7 @@ fn all_clear(strokes: &Strokes, gaps: &[Span]) -> bool
 // Whether no upright passes through the gap of a level stroke, for a chart that keeps the rules of bars and strokes; with a table for the gaps.
 fn none_passes(strokes: &Strokes, spans: &[Span], gaps: &mut [Span]) -> bool
     requires chart { BarRule (chart_of strokes.now) × StrokeRule (chart_of strokes.now) }
-    requires bars { OrderedBars (chart_of strokes.now).bar strokes.now.n spans.now }
+    requires bars { BarSpans (chart_of strokes.now) strokes.now.n spans.now }
     requires size { length gaps.old ≡ strokes.now.n }
     ensures yes { result ≡ true → GapRule (chart_of strokes.now) }
     ensures no { result ≡ false → GapRule (chart_of strokes.now) → ⊥ }
@@ -118,7 +118,7 @@ fn none_passes(strokes: &Strokes, spans: &[Span], gaps: &mut [Span]) -> bool
 // The same with a table of its own.
 pub fn gaps_keep(strokes: &Strokes, spans: &[Span]) -> bool
     requires chart { BarRule (chart_of strokes.now) × StrokeRule (chart_of strokes.now) }
-    requires bars { OrderedBars (chart_of strokes.now).bar strokes.now.n spans.now }
+    requires bars { BarSpans (chart_of strokes.now) strokes.now.n spans.now }
     ensures yes { result ≡ true → GapRule (chart_of strokes.now) }
     ensures no { result ≡ false → GapRule (chart_of strokes.now) → ⊥ }
 {

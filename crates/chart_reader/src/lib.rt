@@ -5,7 +5,7 @@
 // crate chart's Decode.antt the bytes, Follow.antt the nearest bar, Held.antt, Strokes.antt and Gaps.antt how the code holds a chart.
 #![tactic(auto)]
 
-ghost use Rattle.std.specs.Prelude.{◌≡◌, length};
+ghost use Rattle.std.specs.Prelude.{◌≡◌, ◌≤◌, length};
 ghost use Rattle.codec.specs.Answer.{answered, written};
 ghost use Rattle.sheet.specs.Held.{reading_of};
 ghost use Rattle.chart_reader.specs.Reader.{read_chart, chart_read};
@@ -15,7 +15,7 @@ use crate::gaps::gaps_keep;
 use crate::part::part;
 use crate::strokes::strokes_keep;
 use codec::Refusal;
-use keys::{CORNERS, EDGES};
+use keys::{CORNERS, DIAGONALS, EDGES};
 use nearest::bars::bars_keep;
 use nearest::{BLANK, Cell, Span};
 use sheet::part::Part;
@@ -34,10 +34,16 @@ pub struct Ends {
     pub last: Cell,
 }
 
-// Reads a chart whose strokes were found, with tables for the bars in order and for the edges.
-fn read_found(strokes: &Strokes, spans: &mut [Span], edges: &mut [u32]) -> Result<Part, Refusal>
+// Reads a chart whose strokes were found, with tables for the bars in order and for the edges. The bends of the part go into the last table lent.
+fn read_found<'t>(
+    strokes: &Strokes,
+    spans: &mut [Span],
+    edges: &mut [u32],
+    bends: &'t mut [u32],
+) -> Result<Part<'t>, Refusal>
     requires bars { length spans.old ≡ strokes.now.n }
     requires edges { length edges.old ≡ length strokes.now.at.now }
+    requires room { 1021 ≤ length bends.old }
     ensures { reading_of result ≡ read_chart strokes.now.chart.now }
 {
     let n = strokes.n;
@@ -54,11 +60,12 @@ fn read_found(strokes: &Strokes, spans: &mut [Span], edges: &mut [u32]) -> Resul
     if !part(edges, n, &mut keys) {
         return Err(Refusal::NoPart);
     }
-    Ok(Part::flat(n, &keys[..n - 3]))
+    Ok(Part::flat(n, &keys[..n - 3], bends))
 }
 
-// Reads a chart: the part that it shows, which has no angles, or a refusal.
-pub fn read_part(chart: &[u8]) -> Result<Part, Refusal>
+// Reads a chart: the part that it shows, which has no angles, its bends in the table lent, or a refusal.
+pub fn read_part<'t>(chart: &[u8], bends: &'t mut [u32]) -> Result<Part<'t>, Refusal>
+    requires { 1021 ≤ length bends.old }
     ensures { reading_of result ≡ read_chart chart.now }
 {
     let mut at = [0usize; EDGES];
@@ -69,6 +76,7 @@ pub fn read_part(chart: &[u8]) -> Result<Part, Refusal>
         &strokes,
         &mut spans[..strokes.n],
         &mut edges[..strokes.at.len()],
+        bends,
     )
 }
 
@@ -76,6 +84,7 @@ pub fn read_part(chart: &[u8]) -> Result<Part, Refusal>
 pub fn read_chart(chart: &[u8], out: &mut [u8]) -> Result<usize, Refusal>
     ensures { answered result out.new ≡ written (chart_read chart.now) out.old }
 {
-    let part = read_part(chart)?;
+    let mut bends = [0u32; DIAGONALS];
+    let part = read_part(chart, &mut bends)?;
     write_sheet(&part, out)
 }

@@ -69,7 +69,7 @@ module _ (s at : List ℕ) where
 -- the strokes of a chart, by their places
 module _ (s : List ℕ) (n : ℕ) (at : List ℕ) (P : StrokesFound s n at) where
   -- 2n - 3 of at most 1,024 corners
-  few_strokes : length at ≤ 2045
+  pub few_strokes : length at ≤ 2045
   few_strokes = omega (arith, strokes_room s n at P, P.count, P.formed.most)
 
   -- each of the keys in order numbers a stroke, and their lines are the text's lines of the strokes

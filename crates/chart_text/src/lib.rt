@@ -19,7 +19,7 @@ use chart_reader::frame::{Strokes, strokes_in};
 use chart_reader::read_part;
 use codec::get16;
 use draw::line::counts_line;
-use keys::EDGES;
+use keys::{DIAGONALS, EDGES};
 use log_line::{put_field, put_refused, put_word};
 use plan::plan_part;
 use sheet::part::Part;
@@ -88,7 +88,8 @@ pub fn describe(chart: &[u8], out: &mut [u8; TEXT_ROOM]) -> usize
     ensures text { Put (described chart.now) out.old 0 out.new result }
     ensures within { result ≤ 163840 }
 {
-    match read_part(chart) {
+    let mut bends = [0u32; DIAGONALS];
+    match read_part(chart, &mut bends) {
         Err(refusal) => put_refused(refusal.number() as usize, out),
         Ok(part) => describe_part(chart, &part, out),
     }

@@ -1,12 +1,10 @@
 -- Bends parted in two tables, one step of a pass over them at a time.
-use mathlib.Core.Path.{◌≡◌, refl, ap, sym, ◌∙◌}
+use mathlib.Core.Path.{◌≡◌, refl}
 use mathlib.Core.List.{List}
 use Prim.Native.Nat.{ℕ, ◌+◌, ◌-◌, ◌<◌, ◌≤◌}
 use native.Mathlib.Omega.{arith}
 use lib.ListN.{length, take, set, get_or, length-set}
-use lib.Seq.{take_all, length-take-le}
 use Rattle.lists.specs.Lists.{keep, not?}
-use Rattle.lists.proofs.Lists.{keep_split}
 use Rattle.lists.proofs.Kept.{kept_next, kept_past}
 use Rattle.polygon.specs.Polygon.{Edge}
 use Rattle.keys.specs.Keys.{edge_of, key_in}

@@ -56,9 +56,16 @@ pub fn head_on(h: Head, n: usize) -> Head
     }
 }
 
-// Cuts a part at its diagonal (a,b): the inner part, and the rest.
-pub fn halve(part: &Part, a: usize, b: usize) -> (Part, Part)
-    requires { Mem (a — b) part.now.ds }
+// Cuts a part at its diagonal (a,b): the inner part, its bends in one table lent, and the rest, in the other.
+pub fn halve<'i, 'o>(
+    part: &Part,
+    a: usize,
+    b: usize,
+    inside: &'i mut [u32],
+    outside: &'o mut [u32],
+) -> (Part<'i>, Part<'o>)
+    requires part { Mem (a — b) part.now.ds }
+    requires sizes { (1021 ≤ length inside.old) × (1021 ≤ length outside.old) }
     ensures inner { result.0 ≡ inner_part (a — b) part.now }
     ensures rest { result.1 ≡ rest_part (a — b) part.now }
 {
@@ -69,10 +76,8 @@ pub fn halve(part: &Part, a: usize, b: usize) -> (Part, Part)
     let mut on = [0u32; DIAGONALS];
     let mut off = [0u32; DIAGONALS];
     let i = split(&others[..left], a, b, &mut on, &mut off);
-    let mut inside = [0u32; DIAGONALS];
-    renumber(&on[..i], Shift::Down(0, a), &mut inside);
-    let mut outside = [0u32; DIAGONALS];
-    renumber(&off[..left - i], Shift::Down(a, b - a - 1), &mut outside);
+    renumber(&on[..i], Shift::Down(0, a), inside);
+    renumber(&off[..left - i], Shift::Down(a, b - a - 1), outside);
     let inner = Part::new(head_on(h, b - a + 1), inside);
     let rest = Part::new(head_on(h, h.n - (b - a - 1)), outside);
     (inner, rest)

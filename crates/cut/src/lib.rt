@@ -4,14 +4,14 @@
 #![tactic(auto)]
 
 ghost use Rattle.std.specs.Prelude.{◌≡◌, ◌<◌, ◌≤◌};
-ghost use Rattle.polygon.specs.Polygon.{◌—◌};
+ghost use Rattle.polygon.specs.Polygon.{◌—◌, Valid};
 ghost use Rattle.polygon.specs.Order.{lower_first};
 ghost use Rattle.codec.specs.TwoOutputs.{answered_both, written_both};
 ghost use Rattle.cut.specs.Cut.{cuttable, halved, cut_sheet};
 
 use crate::halves::{halve, write_both};
 use codec::Refusal;
-use keys::key;
+use keys::{DIAGONALS, key};
 use sheet::part::Part;
 use sheet::reader::read_sheet;
 
@@ -25,16 +25,18 @@ fn cut_at(
     inner: &mut [u8],
     rest: &mut [u8],
 ) -> Result<(usize, usize), Refusal>
-    requires { (a ≤ b) × (b < part.now.n) }
+    requires corners { (a ≤ b) × (b < part.now.n) }
+    requires part { Valid part.now }
     ensures { answered_both result inner.new rest.new
         ≡ written_both (halved (a — b) (cuttable a b part.now)) inner.old rest.old }
 {
-    let m = part.head().n - 3;
-    let keys = part.keys();
-    if !keys[..m].contains(&key(a, b)) {
+    let mut inside = [0u32; DIAGONALS];
+    let keys = part.keys(&mut inside);
+    if !keys.contains(&key(a, b)) {
         return Err(Refusal::LacksDiagonal);
     }
-    let (one, other) = halve(part, a, b);
+    let mut outside = [0u32; DIAGONALS];
+    let (one, other) = halve(part, a, b, &mut inside, &mut outside);
     write_both(&one, &other, inner, rest)
 }
 
@@ -67,6 +69,8 @@ pub fn cut(
     ensures { answered_both result inner.new rest.new
         ≡ written_both (cut_sheet sheet.now a b) inner.old rest.old }
 {
-    let part = read_sheet(sheet)?;
+    let mut bends = [0u32; DIAGONALS];
+    let mut keys = [0u32; DIAGONALS];
+    let part = read_sheet(sheet, &mut bends, &mut keys)?;
     cut_part(&part, a, b, inner, rest)
 }

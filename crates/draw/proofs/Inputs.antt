@@ -63,15 +63,15 @@ module _ (p : Polygon) (valid : Valid p) (out after : List ℕ) (w : Result ℕ 
       omega (arith, b, chart_bytes p valid.triangulated valid.most)
 
   -- its chart is not refused
-  part_fits : (why : Refusal) → w ≡ Err why → ⊥
+  pub part_fits : (why : Refusal) → w ≡ Err why → ⊥
   part_fits why h = omega (arith, ap (λ (x : Answer). x.size) (rw h at wrote_whole), (bytes_size (chart_of p)).0)
 
   module _ (k : ℕ) (h : w ≡ Ok k) where
     now_whole : answered (Ok k) after ≡ whole (bytes_of (chart_of p)) out
     now_whole = rw h at wrote_whole
 
-    chart_short : k ≤ length after
-    chart_short = omega (arith, kept, ap (λ (x : Answer). x.size) now_whole, chart_bytes p valid.triangulated valid.most)
+    pub chart_short : k ≤ 20465
+    chart_short = omega (arith, ap (λ (x : Answer). x.size) now_whole, chart_bytes p valid.triangulated valid.most)
 
     chart_shown : {text said : List ℕ} {m : ℕ} → 256 ≤ length text → Put (line (facts_of p)) text 0 said m → shown (record { chart = Some k; line = m }) after said ≡ output_of (held p) out text
     unfolding output_of saved_of printed_of charted
@@ -88,5 +88,5 @@ module _ (p : Polygon) (valid : Valid p) (out after : List ℕ) (w : Result ℕ 
   part_shown {text} {said} {m} f room q = rw f (go w refl)
     where
       go : (v : Result ℕ Refusal) → w ≡ v → (shown (record { chart = result_ok v; line = m }) after said ≡ output_of (held p) out text) × IfSome (result_ok v) (λ k. k ≤ length after)
-      go (Ok k) i = (chart_shown k i room q, chart_short k i)
+      go (Ok k) i = (chart_shown k i room q, omega (arith, chart_short k i, kept))
       go (Err why) i = absurd (part_fits why i)

@@ -7,6 +7,7 @@ ghost use Rattle.std.specs.Prelude.{◌≡◌, true, false, List, map, ℕ, ◌�
 ghost use Rattle.polygon.specs.Tree.{Tree};
 ghost use Rattle.codec.specs.Answer.{answered, written};
 ghost use Rattle.codec.specs.TwoOutputs.{answered_both, written_both};
+ghost use Rattle.keys.specs.Keys.{edges_of};
 ghost use Rattle.sheet.specs.Sheet.{read_sheet};
 ghost use Rattle.umbrella.specs.Best.{best};
 ghost use Rattle.levels.specs.Kept.{Filled};
@@ -25,7 +26,7 @@ use codec::Refusal;
 use drawing::closing::close;
 use drawing::walk::COLUMNS;
 use drawing::{Size, place};
-use keys::CORNERS;
+use keys::{CORNERS, DIAGONALS};
 use levels::Tables;
 use sheet::part::Part;
 use sheet::reader::read_sheet;
@@ -100,20 +101,21 @@ fn write_part(
     }
 }
 
-// Writes the chart of a part, if nothing stops it.
+// Writes the chart of a part, by the keys of its diagonals, if nothing stops it.
 fn draw_part(
     part: &Part,
+    keys: &[u32],
     limit: Option<usize>,
     room: usize,
     out: &mut [u8],
 ) -> Result<usize, Refusal>
+    requires { edges_of keys.now ≡ part.now.ds }
     ensures { answered result out.new
         ≡ written (unless_stopped (limit_of limit) room (chart_of part.now)) out.old }
 {
     let n = part.head().n;
-    let keys = part.keys();
     let mut tables = Tables::new();
-    tables.fill(&keys[..n - 3], n);
+    tables.fill(keys, n);
     write_part(n, &tables, limit, room, out).written
 }
 
@@ -129,9 +131,11 @@ fn draw_within(
         ≡ written_both (charted_both_within (limit_of limit) (read_sheet sheet.now)) out.old (map bar_of bars) }
     ensures fits { RecordsFit result room (length out.old) }
 {
-    let part = read_sheet(sheet)?;
+    let mut bends = [0u32; DIAGONALS];
+    let mut keys = [0u32; DIAGONALS];
+    let part = read_sheet(sheet, &mut bends, &mut keys)?;
     let n = part.head().n;
-    let size = draw_part(&part, limit, room, out)?;
+    let size = draw_part(&part, &keys[..n - 3], limit, room, out)?;
     Ok((size, n))
 }
 

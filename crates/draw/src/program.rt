@@ -2,11 +2,13 @@
 // No sheet is longer than LONGEST bytes, so the first bytes of a longer input, one more than that, get the refusal of the whole (`long_input` in the crate sheet).
 ghost use Rattle.std.specs.Prelude.{◌≡◌, List, ℕ, ◌≤◌, length, take};
 ghost use Rattle.codec.specs.Input.{Begins};
+ghost use Rattle.keys.specs.Keys.{edges_of};
 ghost use Rattle.sheet.specs.Sheet.{held};
 ghost use Rattle.draw.specs.Program.{output_of, output, shown, Lengths};
 
 use crate::line::counts_line;
 use crate::write_part;
+use keys::DIAGONALS;
 use levels::Tables;
 use log_line::put_refused;
 use plan::counts_of;
@@ -28,17 +30,17 @@ pub struct Shown {
     pub line: usize,
 }
 
-// What is done with a part: its tables are filled once, for the chart and for the line.
-fn show_part(part: &Part, chart: &mut [u8], text: &mut [u8]) -> Shown
-    requires { (20465 ≤ length chart.old) × (256 ≤ length text.old) }
+// What is done with a part, by the keys of its diagonals: its tables are filled once, for the chart and for the line.
+fn show_part(part: &Part, keys: &[u32], chart: &mut [u8], text: &mut [u8]) -> Shown
+    requires part { edges_of keys.now ≡ part.now.ds }
+    requires room { (20465 ≤ length chart.old) × (256 ≤ length text.old) }
     ensures done { shown result chart.new text.new
         ≡ output_of (held part.now) chart.old text.old }
     ensures within { Lengths result chart.new text.new }
 {
     let h = part.head();
-    let keys = part.keys();
     let mut tables = Tables::new();
-    tables.fill(&keys[..h.n - 3], h.n);
+    tables.fill(keys, h.n);
     let drawn = write_part(h.n, &tables, None, h.n, chart);
     let counts = counts_of(&tables);
     let line = counts_line(h, counts, drawn.size.rows, drawn.size.columns, text);
@@ -54,8 +56,13 @@ fn draw_first(sheet: &[u8], chart: &mut [u8], text: &mut [u8]) -> Shown
     ensures done { shown result chart.new text.new ≡ output sheet.now chart.old text.old }
     ensures within { Lengths result chart.new text.new }
 {
-    match read_sheet(sheet) {
-        Ok(part) => show_part(&part, chart, text),
+    let mut bends = [0u32; DIAGONALS];
+    let mut keys = [0u32; DIAGONALS];
+    match read_sheet(sheet, &mut bends, &mut keys) {
+        Ok(part) => {
+            let n = part.head().n;
+            show_part(&part, &keys[..n - 3], chart, text)
+        }
         Err(why) => Shown {
             chart: None,
             line: put_refused(usize::from(why.number()), text),

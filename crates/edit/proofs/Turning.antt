@@ -1,7 +1,6 @@
 -- A diagonal turned in the code's table: it is taken out, and the pair of its ends' two common neighbours put in.
 use mathlib.Core.Path.{◌≡◌, refl, ap, sym, ◌∙◌}
 use mathlib.Core.Logic.{◌⊎◌, inl, inr}
-use mathlib.Core.Bool.{Bool}
 use Rattle.std.proofs.Common.{Option, None, Some}
 use mathlib.Core.List.{List, [], ◌∷◌}
 use Prim.Native.Nat.{ℕ, ◌+◌, ◌-◌, ◌≤◌, ◌<◌}
@@ -34,7 +33,7 @@ use Rattle.edit.proofs.Flipped.{common_is, flipped_is, fresh}
 use Rattle.edit.proofs.InHand.{Gives, edited, result_part, keeps_angles, inserted, new_comes, Without}
 
 -- two tables of near corners, and the first and second corner marked in both
-module _ (n a b : ℕ) (ds : List Edge) (p q : List Bool) (A : Near n ds a p) (B : Near n ds b q) (x y : ℕ) (two : common n ds (a — b) ≡ x ∷ (y ∷ [])) where
+module _ (n a b : ℕ) (ds : List Edge) (p q : List ℕ) (A : Near n ds a p) (B : Near n ds b q) (x y : ℕ) (two : common n ds (a — b) ≡ x ∷ (y ∷ [])) where
   both_marked : (z : ℕ) → z < n → InBoth p q z → (z ≡ x) ⊎ (z ≡ y)
   both_marked z h (i, j) = go (rw two at ((common_reads n ds (a — b) z).1 (h, A.joined z h i, B.joined z h j)))
     where

@@ -1,5 +1,5 @@
 -- What the code's tables say of a polygon. For the contracts of src/.
-use Rattle.std.specs.Prelude.{◌≡◌, ◌⊎◌, Bool, true, false, Option, None, Some, MatchOption, List, ℕ, ◌+◌, ◌*◌, ◌-◌, ◌%◌, ◌<◌, ◌≤◌, get_or}
+use Rattle.std.specs.Prelude.{◌≡◌, ◌⊎◌, Option, None, Some, MatchOption, List, ℕ, ◌+◌, ◌*◌, ◌-◌, ◌%◌, ◌<◌, ◌≤◌, get_or}
 use Rattle.std.proofs.Math.Decide.{dec_lt}
 use Rattle.lists.specs.Lists.{All, choose}
 use Rattle.polygon.specs.Polygon.{Edge, Polygon, Valid, Joined}
@@ -40,17 +40,17 @@ abbrev pub OtherEnd : Edge → ℕ → Option ℕ → Type 0
 OtherEnd e c None = (¬ (e.0 ≡ c)) × (¬ (e.1 ≡ c))
 OtherEnd e c (Some r) = ((e.0 ≡ c) × (r ≡ e.1)) ⊎ ((e.1 ≡ c) × (r ≡ e.0))
 
--- the marked places are the corners joined to c
-pub record Near (n : ℕ) (ds : List Edge) (c : ℕ) (near : List Bool) : Type 0 where
-  pub joined : (x : ℕ) → x < n → get_or near x false ≡ true → Joined n ds x c
-  pub marked : (x : ℕ) → x < n → Joined n ds x c → get_or near x false ≡ true
+-- the places marked by 1 are the corners joined to c
+pub record Near (n : ℕ) (ds : List Edge) (c : ℕ) (near : List ℕ) : Type 0 where
+  pub joined : (x : ℕ) → x < n → get_or near x 0 ≡ 1 → Joined n ds x c
+  pub marked : (x : ℕ) → x < n → Joined n ds x c → get_or near x 0 ≡ 1
 
--- the corner x is marked in both tables
-abbrev pub InBoth : List Bool → List Bool → ℕ → Type 0
-InBoth p q x = (get_or p x false ≡ true) × (get_or q x false ≡ true)
+-- the corner x is marked by 1 in both tables
+abbrev pub InBoth : List ℕ → List ℕ → ℕ → Type 0
+InBoth p q x = (get_or p x 0 ≡ 1) × (get_or q x 0 ≡ 1)
 
 -- r is the first corner from `from` on, and below n, that is marked in both tables, if there is one
-abbrev pub Common : List Bool → List Bool → ℕ → ℕ → Option ℕ → Type 0
+abbrev pub Common : List ℕ → List ℕ → ℕ → ℕ → Option ℕ → Type 0
 Common p q from n r =
     MatchOption r
     ((x : ℕ) → from ≤ x → x < n → ¬ InBoth p q x)

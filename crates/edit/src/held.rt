@@ -1,5 +1,5 @@
 // The edits on a part in hand. What an edit gives is again a part in hand, or a refusal.
-ghost use Rattle.std.specs.Prelude.{◌≡◌, [], ◌∷◌, ℕ, ◌<◌, ◌≤◌, IfSome};
+ghost use Rattle.std.specs.Prelude.{◌≡◌, [], ◌∷◌, ℕ, ◌<◌, ◌≤◌, IfSome, length};
 ghost use Rattle.polygon.specs.Polygon.{◌—◌};
 ghost use Rattle.keys.specs.Keys.{key_of, edges_of, flat_bend};
 ghost use Rattle.sheet.specs.Held.{reading_of, SmallKeys};
@@ -35,8 +35,9 @@ fn entering_bend(n: usize, i: usize) -> u32
     bend(key(i, i + 2), FLAT)
 }
 
-// Adds a corner on a side.
-fn add_to(part: &Part, side: usize) -> Result<Part, Refusal>
+// Adds a corner on a side. The bends of the part after it go into the table lent, as with every edit.
+fn add_to<'t>(part: &Part, side: usize, after: &'t mut [u32]) -> Result<Part<'t>, Refusal>
+    requires { 1021 ≤ length after.old }
     ensures { reading_of result ≡ rule (add_ear side) part.now }
 {
     let h = part.head();
@@ -50,8 +51,7 @@ fn add_to(part: &Part, side: usize) -> Result<Part, Refusal>
     let mut moved = [0u32; DIAGONALS];
     renumber(bends, Shift::Up(side, 1), &mut moved);
     let new = [entering_bend(h.n, side)];
-    let mut after = [0u32; DIAGONALS];
-    merge(&new, &moved[..bends.len()], &mut after);
+    merge(&new, &moved[..bends.len()], after);
     let grown = Head {
         n: h.n + 1,
         angled: h.angled,
@@ -60,7 +60,8 @@ fn add_to(part: &Part, side: usize) -> Result<Part, Refusal>
 }
 
 // Takes off a corner.
-fn remove_from(part: &Part, corner: usize) -> Result<Part, Refusal>
+fn remove_from<'t>(part: &Part, corner: usize, after: &'t mut [u32]) -> Result<Part<'t>, Refusal>
+    requires { 1021 ≤ length after.old }
     ensures { reading_of result ≡ rule (remove_ear corner) part.now }
 {
     let h = part.head();
@@ -71,15 +72,14 @@ fn remove_from(part: &Part, corner: usize) -> Result<Part, Refusal>
         return Err(Refusal::Triangle);
     }
     let bends = part.bends();
-    let keys = part.keys();
-    if !is_ear(&keys[..bends.len()], corner) {
+    let keys = part.keys(after);
+    if !is_ear(keys, corner) {
         return Err(Refusal::NoEar);
     }
     let (a, b) = neighbours(h.n, corner);
     let mut rest = [0u32; DIAGONALS];
     let left = remove(bends, key(a, b), &mut rest);
-    let mut after = [0u32; DIAGONALS];
-    renumber(&rest[..left], Shift::Down(corner, 1), &mut after);
+    renumber(&rest[..left], Shift::Down(corner, 1), after);
     let shrunk = Head {
         n: h.n - 1,
         // A triangle has no angles.
@@ -94,9 +94,9 @@ fn turned_key(keys: &[u32], n: usize, a: usize, b: usize) -> Option<u32>
     ensures pair { (x y : ℕ) → common n (edges_of keys.now) (a — b) ≡ x ∷ (y ∷ []) → result ≡ Some (key_of (x — y)) }
     ensures small { IfSome result (λ k. k < 1048576) }
 {
-    let mut near = [false; CORNERS];
+    let mut near = [0u8; CORNERS];
     mark(keys, n, a, &mut near);
-    let mut far = [false; CORNERS];
+    let mut far = [0u8; CORNERS];
     mark(keys, n, b, &mut far);
     let x = first_common(&near, &far, 0, n)?;
     let y = first_common(&near, &far, x + 1, n)?;
@@ -104,14 +104,14 @@ fn turned_key(keys: &[u32], n: usize, a: usize, b: usize) -> Option<u32>
 }
 
 // Turns the diagonal (a,b), a not above b.
-fn turn(part: &Part, a: usize, b: usize) -> Result<Part, Refusal>
-    requires { (a ≤ b) × (b < part.now.n) }
+fn turn<'t>(part: &Part, a: usize, b: usize, after: &'t mut [u32]) -> Result<Part<'t>, Refusal>
+    requires corners { (a ≤ b) × (b < part.now.n) }
+    requires room { 1021 ≤ length after.old }
     ensures { reading_of result ≡ rule (flip a b) part.now }
 {
     let h = part.head();
     let bends = part.bends();
-    let table = part.keys();
-    let keys = &table[..bends.len()];
+    let keys = part.keys(after);
     let k = key(a, b);
     if !keys.contains(&k) {
         return Err(Refusal::LacksDiagonal);
@@ -121,29 +121,30 @@ fn turn(part: &Part, a: usize, b: usize) -> Result<Part, Refusal>
     let turned = [bend(other, FLAT)];
     let mut rest = [0u32; DIAGONALS];
     let left = remove(bends, k, &mut rest);
-    let mut after = [0u32; DIAGONALS];
-    merge(&turned, &rest[..left], &mut after);
+    merge(&turned, &rest[..left], after);
     Ok(Part::new(h, after))
 }
 
 // Turns the diagonal (a,b), named in either order.
-fn flip_in(part: &Part, a: usize, b: usize) -> Result<Part, Refusal>
+fn flip_in<'t>(part: &Part, a: usize, b: usize, after: &'t mut [u32]) -> Result<Part<'t>, Refusal>
+    requires { 1021 ≤ length after.old }
     ensures { reading_of result ≡ rule (flip a b) part.now }
 {
     let n = part.head().n;
     if a >= n || b >= n {
         return Err(Refusal::OutOfRange);
     }
-    turn(part, a.min(b), a.max(b))
+    turn(part, a.min(b), a.max(b), after)
 }
 
-// Does an edit.
-pub fn edit_part(part: &Part, e: Edit) -> Result<Part, Refusal>
+// Does an edit. The bends of the part after it go into the table lent.
+pub fn edit_part<'t>(part: &Part, e: Edit, after: &'t mut [u32]) -> Result<Part<'t>, Refusal>
+    requires { 1021 ≤ length after.old }
     ensures { reading_of result ≡ rule (edit_of e) part.now }
 {
     match e {
-        Edit::AddEar(side) => add_to(part, side),
-        Edit::RemoveEar(corner) => remove_from(part, corner),
-        Edit::Flip(a, b) => flip_in(part, a, b),
+        Edit::AddEar(side) => add_to(part, side, after),
+        Edit::RemoveEar(corner) => remove_from(part, corner, after),
+        Edit::Flip(a, b) => flip_in(part, a, b, after),
     }
 }

@@ -11,6 +11,7 @@ ghost use Rattle.edit.specs.Tables.{edit_of};
 
 use crate::held::{Edit, edit_part};
 use codec::Refusal;
+use keys::DIAGONALS;
 use sheet::reader::read_sheet;
 use sheet_writer::write_sheet;
 
@@ -22,8 +23,11 @@ pub mod shift;
 pub fn edit(sheet: &[u8], e: Edit, out: &mut [u8]) -> Result<usize, Refusal>
     ensures { answered result out.new ≡ written (edited (edit_of e) sheet.now) out.old }
 {
-    let part = read_sheet(sheet)?;
-    let edited = edit_part(&part, e)?;
+    let mut before = [0u32; DIAGONALS];
+    // Until the edit, the keys that the reading leaves.
+    let mut after = [0u32; DIAGONALS];
+    let part = read_sheet(sheet, &mut before, &mut after)?;
+    let edited = edit_part(&part, e, &mut after)?;
     write_sheet(&edited, out)
 }
 

@@ -44,26 +44,25 @@ fn other_end(k: u32, c: usize) -> Option<usize>
     }
 }
 
-// Marks the corners that a side or a diagonal joins to c.
-pub fn mark(keys: &[u32], n: usize, c: usize, near: &mut [bool])
+// Marks by 1 the corners that a side or a diagonal joins to c.
+pub fn mark(keys: &[u32], n: usize, c: usize, near: &mut [u8])
     requires sizes { (3 ≤ n) × (n ≤ 1024) × (c < n) × (1024 ≤ length near.old) × SmallKeys keys.now }
-    requires fresh { (x : ℕ) → get_or near.old x false ≡ false }
+    requires fresh { (x : ℕ) → get_or near.old x 0 ≡ 0 }
     ensures { Near n (edges_of keys.now) c near.new }
 {
     let (a, b) = neighbours(n, c);
-    near[a] = true;
-    near[b] = true;
+    near[a] = 1;
+    near[b] = 1;
     for &key in keys {
-        if let Some(x) = other_end(key, c) {
-            near[x] = true;
-        }
+        // An edge that does not end at c marks a neighbour again: so no place is chosen by a jump.
+        near[other_end(key, c).unwrap_or(a)] = 1;
     }
 }
 
-// The first corner from `from` on, and below n, that is marked in both tables.
-pub fn first_common(p: &[bool], q: &[bool], from: usize, n: usize) -> Option<usize>
+// The first corner from `from` on, and below n, that is marked by 1 in both tables.
+pub fn first_common(p: &[u8], q: &[u8], from: usize, n: usize) -> Option<usize>
     requires { (n ≤ length p.now) × (n ≤ length q.now) × (from ≤ n) }
     ensures { Common p.now q.now from n result }
 {
-    (from..n).find(|&x| p[x] && q[x])
+    (from..n).find(|&x| p[x] == 1 && q[x] == 1)
 }

@@ -101,7 +101,7 @@ fn of_side() -> Six
 }
 
 // The values that stand at an edge.
-fn values(depths: &[u8; VALUES], e: usize) -> Six
+pub fn values(depths: &[u8; VALUES], e: usize) -> Six
     requires { e < 2045 }
     ensures { result ≡ six_at depths.now e }
 {

@@ -6,12 +6,14 @@
 ghost use Rattle.std.specs.Prelude.{◌≡◌, ℕ};
 ghost use Rattle.polygon.specs.Tree.{Tree};
 ghost use Rattle.umbrella.specs.Best.{best, plan_of};
+ghost use Rattle.keys.specs.Keys.{edges_of};
 ghost use Rattle.levels.specs.Kept.{Filled};
 ghost use Rattle.plan.specs.Counts.{totals_of};
 ghost use Rattle.plan.specs.Answer.{planned_of, planned};
 
 use crate::counts::count;
 use codec::Refusal;
+use keys::DIAGONALS;
 use levels::Tables;
 use sheet::part::Part;
 use sheet::reader::read_sheet;
@@ -42,21 +44,32 @@ pub fn counts_of(tables: &Tables) -> Totals
     }
 }
 
+// The counts of a part, by the keys of its diagonals.
+fn counts_by(part: &Part, keys: &[u32]) -> Totals
+    requires { edges_of keys.now ≡ part.now.ds }
+    ensures { result ≡ totals_of (plan_of part.now) }
+{
+    let mut tables = Tables::new();
+    tables.fill(keys, part.head().n);
+    counts_of(&tables)
+}
+
 // The counts of a part in hand.
 pub fn plan_part(part: &Part) -> Totals
     ensures { result ≡ totals_of (plan_of part.now) }
 {
-    let n = part.head().n;
-    let keys = part.keys();
-    let mut tables = Tables::new();
-    tables.fill(&keys[..n - 3], n);
-    counts_of(&tables)
+    let m = part.head().n - 3;
+    let mut keys = [0u32; DIAGONALS];
+    counts_by(part, part.keys(&mut keys[..m]))
 }
 
 // Plan.
 pub fn plan(sheet: &[u8]) -> Result<Totals, Refusal>
     ensures { planned_of result ≡ planned sheet.now }
 {
-    let part = read_sheet(sheet)?;
-    Ok(plan_part(&part))
+    let mut bends = [0u32; DIAGONALS];
+    let mut keys = [0u32; DIAGONALS];
+    let part = read_sheet(sheet, &mut bends, &mut keys)?;
+    let n = part.head().n;
+    Ok(counts_by(&part, &keys[..n - 3]))
 }

@@ -1,6 +1,7 @@
 // The two halves of a joined part: the bends of each, and joining both in a third table.
 ghost use Rattle.std.specs.Prelude.{◌≡◌, map, ◌+◌, ◌-◌, ◌<◌, ◌≤◌, length, take};
 ghost use Rattle.polygon.specs.Polygon.{Valid};
+ghost use Rattle.keys.specs.Keys.{keys_in, flat_bend};
 ghost use Rattle.keys.specs.Sort.{sort_keys};
 ghost use Rattle.sheet.specs.Hand.{head_of};
 ghost use Rattle.sheet.specs.Held.{reading_of};
@@ -10,26 +11,35 @@ ghost use Rattle.seam.specs.Halves.{Half, Joins, raised_bend, Raisable, laid_ben
 
 use codec::Refusal;
 use edit::shift::{Shift, renumber};
-use keys::bend::{FLAT, bend};
+use keys::bend::{FLAT, bend, key_in};
 use keys::merge::merge;
 use keys::{CORNERS, DIAGONALS, key};
 use sheet::Head;
-use sheet::part::{Part, flat_bends};
+use sheet::part::Part;
 
 // What a bend grows by when both its corners go up by one: 1,025 in its key.
 const FURTHER: u32 = 4198400;
+
+// Puts the bends, each with the angle 0, at the front of `out`.
+fn flatten(bends: &[u32], out: &mut [u32])
+    requires { length bends.now ≤ length out.old }
+    ensures { take (length bends.now) out.new ≡ map flat_bend (keys_in bends.now) }
+{
+    for (j, &old) in bends.iter().enumerate() {
+        out[j] = bend(key_in(old), FLAT);
+    }
+}
 
 // The bends of a half at the start of a table. If it has no angles, each bend gets the angle 0: the other half may have some.
 pub fn half_bends(part: &Part) -> [u32; DIAGONALS]
     ensures { Half part.now (head_of part.now) (take (part.now.n - 3) result) }
 {
     let bends = part.bends();
-    let m = bends.len();
     let mut half = [0u32; DIAGONALS];
     if part.head().angled {
-        half[..m].copy_from_slice(bends);
+        half[..bends.len()].copy_from_slice(bends);
     } else {
-        flat_bends(&part.keys()[..m], &mut half);
+        flatten(bends, &mut half);
     }
     half
 }
@@ -71,8 +81,14 @@ fn sew(h: Head, first: &[u32], g: Head, second: &[u32], side: usize, out: &mut [
     merge(&moved[..first.len()], &laid[..g.n - 2], out);
 }
 
-// Joins the second part to the first along a side of the first.
-pub fn glue(first: &Part, second: &Part, side: usize) -> Result<Part, Refusal>
+// Joins the second part to the first along a side of the first. The bends of the joined part go into the table lent.
+pub fn glue<'t>(
+    first: &Part,
+    second: &Part,
+    side: usize,
+    glued: &'t mut [u32],
+) -> Result<Part<'t>, Refusal>
+    requires { 1021 ≤ length glued.old }
     ensures { reading_of result ≡ join_rule side first.now second.now }
 {
     let h = first.head();
@@ -85,14 +101,13 @@ pub fn glue(first: &Part, second: &Part, side: usize) -> Result<Part, Refusal>
     }
     let of_first = half_bends(first);
     let of_second = half_bends(second);
-    let mut glued = [0u32; DIAGONALS];
     sew(
         h,
         &of_first[..h.n - 3],
         g,
         &of_second[..g.n - 3],
         side,
-        &mut glued,
+        glued,
     );
     let joined = Head {
         n: h.n + g.n - 2,

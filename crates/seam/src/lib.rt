@@ -9,6 +9,7 @@ ghost use Rattle.seam.specs.Join.{joined_sheets};
 
 use crate::halves::glue;
 use codec::Refusal;
+use keys::DIAGONALS;
 use sheet::reader::read_sheet;
 use sheet_writer::write_sheet;
 
@@ -18,8 +19,12 @@ pub mod halves;
 pub fn join(first: &[u8], second: &[u8], side: usize, out: &mut [u8]) -> Result<usize, Refusal>
     ensures { answered result out.new ≡ written (joined_sheets first.now second.now side) out.old }
 {
-    let one = read_sheet(first)?;
-    let other = read_sheet(second)?;
-    let joined = glue(&one, &other, side)?;
+    let mut of_first = [0u32; DIAGONALS];
+    let mut of_second = [0u32; DIAGONALS];
+    // Until the parts are joined, the keys that the reading leaves.
+    let mut glued = [0u32; DIAGONALS];
+    let one = read_sheet(first, &mut of_first, &mut glued)?;
+    let other = read_sheet(second, &mut of_second, &mut glued)?;
+    let joined = glue(&one, &other, side, &mut glued)?;
     write_sheet(&joined, out)
 }

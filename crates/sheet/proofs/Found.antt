@@ -133,6 +133,10 @@ module _ {s : List ℕ} {h : Head} {bs o k : List ℕ} (F : Ordered s h bs o k) 
     pub first_count : length (take (h.n - 3) keys) ≡ h.n - 3
     first_count = ap length first_key ∙ keys_count
 
+    -- they are those of the bends
+    pub keys_said : edges_of (take (h.n - 3) keys) ≡ edges_of (keys_in (take (h.n - 3) table))
+    keys_said = ap edges_of (first_key ∙ (sym F.keys ∙ ap keys_in (sym first)))
+
     module _ (B : true ≡ ascends k) where
       ascending : Ascending (edges_of k)
       ascending = ascends_edges k (sym B)

@@ -1,9 +1,11 @@
 -- What the reading of a sheet's head has found out, put together.
 use mathlib.Core.Path.{◌≡◌, ap, sym, ◌∙◌}
-use mathlib.Core.Bool.{Bool}
+use mathlib.Core.Bool.{Bool, true, false}
 use mathlib.Core.List.{List}
 use Prim.Native.Nat.{ℕ, ◌≤◌, ◌<◌}
 use native.Mathlib.Omega.{arith}
+use borrow.Author.Tests.{leb-true, leb-false}
+use lib.Dec.{leb}
 use lib.ListN.{length, get_or}
 use Rattle.codec.specs.Numbers.{get16}
 use Rattle.sheet.specs.Sheet.{bit0, bit1, bit3, more, read_sheet, refused, sheet_length}
@@ -43,3 +45,8 @@ module _ {s : List ℕ} {n : ℕ} (T : Tested s n) where
       corners = T.count;
       with_angles = a;
     }
+
+-- bit 3 stands in a map byte from 8 on, and in no lower one
+pub bit3_is : (m : ℕ) (b : Bool) → m < 16 → b ≡ leb 8 m → bit b ≡ bit3 m
+bit3_is m true h e = let l = leb-true 8 m (sym e) in omega arith
+bit3_is m false h e = let l = leb-false 8 m (sym e) in omega arith

@@ -20,13 +20,13 @@ use Rattle.sheet.specs.Held.{reading_of, SmallKeys}
 pub read_is : {A : Type 0} {q : Reading} (r : Result Polygon Refusal) (f : Reading → A) → reading_of r ≡ q → f (reading_of r) ≡ f q
 read_is r f e = ap f e
 
--- The keys of a part lie in the table, and their edges' corners are below 1,024
-module _ {p : Polygon} (V : Valid p) (ks : List ℕ) (same : edges_of (take (p.n - 3) ks) ≡ p.ds) where
-  pub keys_count : 1021 ≤ length ks → length (take (p.n - 3) ks) ≡ p.n - 3
-  keys_count room = length-take-le (p.n - 3) ks (omega (arith, V.most))
+-- The keys of a part are as many as its diagonals, and their edges' corners are below 1,024
+module _ {p : Polygon} (V : Valid p) (ks : List ℕ) (same : edges_of ks ≡ p.ds) where
+  pub keys_count : length ks ≡ p.n - 3
+  keys_count = omega (arith, V.triangulated.full, ap length same, length-map ks edge_of)
 
-  pub keys_small : SmallKeys (take (p.n - 3) ks)
-  keys_small j i = let d = edges_at {Q = Diagonal p.n} (take (p.n - 3) ks) (rw same V.triangulated.diagonals) j i in omega (arith, d.forth, d.corner, V.most)
+  pub keys_small : SmallKeys ks
+  keys_small j i = let d = edges_at {Q = Diagonal p.n} ks (rw same V.triangulated.diagonals) j i in omega (arith, d.forth, d.corner, V.most)
 
 -- what is read of a sheet by one who does not ask for angles
 unfoldable pub bared : Reading → Reading

@@ -16,6 +16,11 @@ abbrev pub reading_of : Result Polygon Refusal → Reading
 reading_of (Ok p) = held p
 reading_of (Err r) = refused (number_of r)
 
+-- a table begins with the keys of the diagonals of the part that was read
+abbrev pub KeysSay : Result Polygon Refusal → List ℕ → Type 0
+KeysSay (Ok p) ks = edges_of (take (p.n - 3) ks) ≡ p.ds
+KeysSay (Err r) ks = Unit {0}
+
 -- the keys are of edges whose corners are below 1,024
 abbrev pub SmallKeys : List ℕ → Type 0
 SmallKeys ks = (j : ℕ) → j < length ks → get_or ks j 0 < 1048576

@@ -6,27 +6,26 @@ ghost use Rattle.sheet.specs.Held.{SmallKeys};
 ghost use Rattle.sheet.specs.Hand.{part_of, flat_part, head_of, has_angles};
 
 use crate::Head;
-use keys::DIAGONALS;
 use keys::bend::{FLAT, bend, keys_in};
 use std::marker::Model;
 
-// Its head, and the bends of its diagonals, ascending, at the start of a table.
+// Its head, and a table that begins with the bends of its diagonals, ascending. The table is lent, so that a part is passed on without a copy of it.
 #[derive(Drop)]
-pub struct Part {
+pub struct Part<'t> {
     head: Head,
-    bends: [u32; DIAGONALS],
+    bends: &'t [u32],
 }
 
-impl Model for Part {
+impl<'t> Model for Part<'t> {
     ghost use Rattle.polygon.specs.Polygon.{Polygon, Valid};
 
     ghost Value = { Polygon };
 
     ghost use Rattle.sheet.specs.Hand.{part_of};
 
-    ghost view = { λ p. part_of p.head p.bends };
+    ghost view = { λ p. part_of p.head p.bends.now };
 
-    ghost invariant = { λ p. Valid (part_of p.head p.bends) };
+    ghost invariant = { λ p. Valid (part_of p.head p.bends.now) };
 }
 
 // Puts the bends of diagonals without angles at the front of a table.
@@ -39,22 +38,22 @@ pub fn flat_bends(keys: &[u32], bends: &mut [u32])
     }
 }
 
-impl Part {
+impl<'t> Part<'t> {
     // The part of a head and its bends.
-    pub fn new(head: Head, bends: [u32; DIAGONALS]) -> Part
-        requires { Valid (part_of head bends) }
-        ensures { result ≡ part_of head bends }
+    pub fn new(head: Head, bends: &'t [u32]) -> Part<'t>
+        requires { Valid (part_of head bends.now) }
+        ensures { result ≡ part_of head bends.now }
     {
         Part { head, bends }
     }
 
-    // The part without angles of n corners whose diagonals have these keys.
-    pub fn flat(n: usize, keys: &[u32]) -> Part
-        requires { Valid (flat_part n keys.now) }
+    // The part without angles of n corners whose diagonals have these keys. Its bends lie in the table lent.
+    pub fn flat(n: usize, keys: &[u32], bends: &'t mut [u32]) -> Part<'t>
+        requires part { Valid (flat_part n keys.now) }
+        requires room { length keys.now ≤ length bends.old }
         ensures { result ≡ flat_part n keys.now }
     {
-        let mut bends = [0u32; DIAGONALS];
-        flat_bends(keys, &mut bends);
+        flat_bends(keys, bends);
         Part::new(Head { n, angled: false }, bends)
     }
 
@@ -72,15 +71,17 @@ impl Part {
         ensures part { part_of (head_of self.now) result.now ≡ self.now }
         ensures all { length result.now ≡ self.now.n - 3 }
     {
-        &self.bends[..self.head.n - 3]
+        let bends = self.bends;
+        &bends[..self.head.n - 3]
     }
 
-    // The keys of its diagonals, at the start of a table.
-    pub fn keys(&self) -> [u32; DIAGONALS]
-        ensures { edges_of (take (self.now.n - 3) result) ≡ self.now.ds }
+    // The keys of its diagonals, in the table lent.
+    pub fn keys<'k>(&self, keys: &'k mut [u32]) -> &'k [u32]
+        requires { self.now.n - 3 ≤ length keys.old }
+        ensures { edges_of result.now ≡ self.now.ds }
     {
-        let mut keys = [0; DIAGONALS];
-        keys_in(self.bends(), &mut keys[..self.head.n - 3]);
-        keys
+        let m = self.head.n - 3;
+        keys_in(self.bends(), &mut keys[..m]);
+        &keys[..m]
     }
 }

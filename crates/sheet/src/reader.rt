@@ -5,7 +5,7 @@ ghost use Rattle.polygon.specs.Polygon.{◌—◌, Diagonal};
 ghost use Rattle.codec.specs.Numbers.{get16};
 ghost use Rattle.keys.specs.Keys.{code_of};
 ghost use Rattle.sheet.specs.Sheet.{read_sheet, sheet_length, pairs, bit0, bit1, bit2, bit3, more};
-ghost use Rattle.sheet.specs.Held.{reading_of, HeadOf, HeadSays, KeyIs, pair_at, BendsRead, CodeFits, CodesAllowed};
+ghost use Rattle.sheet.specs.Held.{reading_of, KeysSay, HeadOf, HeadSays, KeyIs, pair_at, BendsRead, CodeFits, CodesAllowed};
 
 use crate::Head;
 use crate::part::Part;
@@ -13,7 +13,7 @@ use codec::{Refusal, get16};
 use keys::bend::{bend, code_in, code_of};
 use keys::cross::crosses;
 use keys::sort::order;
-use keys::{CORNERS, DIAGONALS, key};
+use keys::{CORNERS, key};
 
 // Whether bit 1 of the map stands exactly when there are more than 3 corners.
 fn agrees(map: u8, n: usize) -> bool
@@ -161,18 +161,23 @@ fn allowed(h: Head, bends: &[u32]) -> bool
 }
 
 // The tests of the pairs and the angles of a sheet whose head was read. The angles are looked at before they move, and tested last.
-fn read_rest(sheet: &[u8], h: Head) -> Result<Part, Refusal>
-    requires { HeadOf sheet.now h }
-    ensures { reading_of result ≡ read_sheet sheet.now }
+fn read_rest<'t>(
+    sheet: &[u8],
+    h: Head,
+    bends: &'t mut [u32],
+    keys: &mut [u32],
+) -> Result<Part<'t>, Refusal>
+    requires head { HeadOf sheet.now h }
+    requires sizes { (1021 ≤ length bends.old) × (1021 ≤ length keys.old) }
+    ensures part { reading_of result ≡ read_sheet sheet.now }
+    ensures keys { KeysSay result keys.new }
 {
     let n = h.n;
     let m = n - 3;
-    let mut bends = [0u32; DIAGONALS];
-    if !read_bends(sheet, n, h.angled, &mut bends) {
+    if !read_bends(sheet, n, h.angled, bends) {
         return Err(Refusal::NoDiagonal);
     }
     let fits = allowed(h, &bends[..m]);
-    let mut keys = [0u32; DIAGONALS];
     if !order(&mut bends[..m], &mut keys[..m]) {
         return Err(Refusal::RepeatedPair);
     }
@@ -185,10 +190,16 @@ fn read_rest(sheet: &[u8], h: Head) -> Result<Part, Refusal>
     Ok(Part::new(h, bends))
 }
 
-// Reads a sheet: the part that it holds, or a refusal.
-pub fn read_sheet(sheet: &[u8]) -> Result<Part, Refusal>
-    ensures { reading_of result ≡ read_sheet sheet.now }
+// Reads a sheet: the part that it holds, its bends in one table lent and their keys in another, or a refusal.
+pub fn read_sheet<'t>(
+    sheet: &[u8],
+    bends: &'t mut [u32],
+    keys: &mut [u32],
+) -> Result<Part<'t>, Refusal>
+    requires { (1021 ≤ length bends.old) × (1021 ≤ length keys.old) }
+    ensures part { reading_of result ≡ read_sheet sheet.now }
+    ensures keys { KeysSay result keys.new }
 {
     let h = read_head(sheet)?;
-    read_rest(sheet, h)
+    read_rest(sheet, h, bends, keys)
 }

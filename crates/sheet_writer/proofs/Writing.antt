@@ -56,7 +56,7 @@ pub size_by : {p : Polygon} → Valid p → (b : Bool) → has_angles p.angles �
 size_by V b e = rw e at (size_is V)
 
 -- bit 3 of the map byte hangs on whether there are angles, and not on which
-map_of : (n : ℕ) (a : Angles) → map_byte n (angles_by (has_angles a) []) ≡ map_byte n a
+pub map_of : (n : ℕ) (a : Angles) → map_byte n (angles_by (has_angles a) []) ≡ map_byte n a
 unfolding map_byte
 map_of n none = refl
 map_of n (each vs) = refl

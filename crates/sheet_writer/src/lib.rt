@@ -13,7 +13,7 @@ ghost use Rattle.sheet.specs.Held.{normal_length};
 
 use codec::{Refusal, put16};
 use keys::bend::{angle_in, key_in};
-use keys::{high, low};
+use keys::{DIAGONALS, high, low};
 use sheet::Head;
 use sheet::part::Part;
 use sheet::reader::read_sheet;
@@ -102,6 +102,8 @@ pub fn write_sheet(part: &Part, out: &mut [u8]) -> Result<usize, Refusal>
 pub fn normalize(sheet: &[u8], out: &mut [u8]) -> Result<usize, Refusal>
     ensures { answered result out.new ≡ written (ordered sheet.now) out.old }
 {
-    let part = read_sheet(sheet)?;
+    let mut bends = [0u32; DIAGONALS];
+    let mut keys = [0u32; DIAGONALS];
+    let part = read_sheet(sheet, &mut bends, &mut keys)?;
     write_sheet(&part, out)
 }

@@ -2,7 +2,7 @@
 -- The choices of Best.antt are decided here, once: each step of the induction is told how the walk goes on (Roles.antt), and that the hung pieces do with the levels under the umbrella.
 -- Rests on Cases.antt, on the inequalities between the six values, and on the levels of the plan computed.
 use mathlib.Core.Path.{◌≡◌, refl}
-use mathlib.Core.Bool.{Bool, true, false, not}
+use mathlib.Core.Bool.{Bool, true, false, not, false≢true}
 use Prim.Native.Nat.{ℕ, suc, ◌≤◌}
 use native.Mathlib.Decide.{dec_le}
 use native.Mathlib.Omega.{arith}
@@ -12,7 +12,7 @@ use Rattle.umbrella.specs.Values.{ud, handle, fan_a, fan_b, partial_a, partial_b
 use Rattle.umbrella.specs.Best.{Over, Node, two, umbrella, left_at, right_at, stem_at, under, best, best_left, best_right, gate_left, gate_right, best_stem}
 use Rattle.umbrella.specs.declared.roles.Role.{Role}
 use Rattle.umbrella.specs.declared.roles.Role.TheVariants as role
-use Rattle.umbrella.specs.Roles.{goes_left, stem_step, step_at, step_of}
+use Rattle.umbrella.specs.Roles.{is_hung, goes_left, stem_step, step_at, step_of}
 use Rattle.umbrella.proofs.Lattice.{by_first, by_second}
 use Rattle.umbrella.proofs.Inequalities.{inequalities}
 use Rattle.umbrella.proofs.Theorems.{computed_has}
@@ -22,6 +22,14 @@ use Rattle.umbrella.proofs.Cases.{left_hung, left_entered, right_hung, right_ent
 abbrev pub stem : Bool → Role
 stem true = role.FromRight
 stem false = role.FromLeft
+
+-- no other role is that of a hung piece
+pub only_hung : (p : Role) → is_hung p ≡ true → p ≡ role.Hung
+only_hung role.Hung h = refl
+only_hung role.LeftRim h = absurd (false≢true h)
+only_hung role.RightRim h = absurd (false≢true h)
+only_hung role.FromLeft h = absurd (false≢true h)
+only_hung role.FromRight h = absurd (false≢true h)
 
 -- the walk goes on from the triangle of the piece node a b, whose role is p, to roles x and y; along a stem, to the left if g
 abbrev Beyond : Role → ℕ → Tree → Tree → Role → Role → Bool → Type 0

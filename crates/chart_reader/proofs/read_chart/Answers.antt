@@ -1,8 +1,10 @@
 -- Read, then written.
-use Rattle.std.proofs.Common.{ap, ◌∙◌}
+use Rattle.std.proofs.Common.{◌∙◌}
+use Rattle.std.specs.Prelude.{Ok, Err}
 use Rattle.std.proofs.lemmas.Result.{err_from_is_err_and}
 use Rattle.codec.specs.Answer.{written}
 use Rattle.sheet.specs.Sheet.{Reading, outcome}
+use Rattle.sheet.proofs.Hand.{read_is}
 use Rattle.chart_reader.specs.Reader.{chart_read}
 use Rattle.chart_reader.proofs.read_chart.Goals as goal
 
@@ -10,8 +12,8 @@ pub returns-in_err-part : goal.returns-in_err-part
 unfolding chart_read outcome written
 returns-in_err-part c =
     let p = err_from_is_err_and c.from_residual.result c.from_residual.ensures.1 in
-    rw (p.1, p.2) (ap (λ (q : Reading). written (outcome q) c.args.out.now) c.in_err-part.ensures)
+    rw (p.1, p.2) (read_is (Err c.in_err-part.field-0.0) (λ (q : Reading). written (outcome q) c.args.out.now) c.in_err-part.ensures)
 
 pub returns : goal.returns
 unfolding chart_read outcome
-returns c = c.write_sheet.ensures ∙ ap (λ (q : Reading). written (outcome q) c.args.out.now) c.in_ok-part.ensures
+returns c = c.write_sheet.ensures ∙ read_is (Ok c.in_ok-part.part) (λ (q : Reading). written (outcome q) c.args.out.now) c.in_ok-part.ensures

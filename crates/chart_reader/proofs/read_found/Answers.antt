@@ -12,6 +12,7 @@ use Rattle.nearest.specs.BarRule.{BarRule}
 use Rattle.chart_reader.specs.Rules.{StrokeRule, edges_in}
 use Rattle.chart_reader.specs.Held.{StrokesFound}
 use Rattle.sheet.specs.Sheet.{held}
+use Rattle.sheet.proofs.Hand.{flat_count}
 use Rattle.chart_reader.proofs.Verdict.{by_15, by_16, by_17, read_by}
 use Rattle.chart_reader.proofs.Found.{Edged, edges_found, no_part, part_valid, part_read}
 use Rattle.chart_reader.proofs.read_found.Goals.{Else-not-strokes_keep}
@@ -54,7 +55,8 @@ returns-then-not-part c =
 pub flat-requires : goal.flat-requires
 flat-requires c =
     let E = found (goal.at.flat-requires c).Else-not-strokes_keep in
-    part_valid E (c.gaps_keep.ensures.yes c.if-not-gaps_keep.false) _ (c.part.ensures.yes c.if-not-part.false)
+    let V = part_valid E (c.gaps_keep.ensures.yes c.if-not-gaps_keep.false) _ (c.part.ensures.yes c.if-not-part.false) in
+    record { part = V; room = omega (arith, flat_count _ _ V, V.most, c.requires.room) }
 
 pub returns : goal.returns
 returns c =

@@ -11,4 +11,4 @@ returns c =
     let a = c.args in
     let corners = c.head-n.ensures.corners in
     (c.write_part.ensures _ c.fill.ensures).answer
-    ∙ ap (λ (ch : Chart). written (unless_stopped (limit_of a.limit) a.room ch) a.out.now) (chart_held a.part.now corners (rw corners c.keys-keys.ensures))
+    ∙ ap (λ (ch : Chart). written (unless_stopped (limit_of a.limit) a.room ch) a.out.now) (chart_held a.part.now corners c.requires)

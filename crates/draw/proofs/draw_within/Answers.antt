@@ -1,9 +1,11 @@
 -- By what was read and what was drawn, by the laws of Answers.antt.
-use mathlib.Core.Path.{◌≡◌, ap, ◌∙◌}
+use mathlib.Core.Path.{◌≡◌, ◌∙◌}
+use Rattle.std.specs.Prelude.{Ok, Err}
 use mathlib.Core.List.{List, map}
 use Rattle.std.proofs.lemmas.Result.{err_from_is_err_and}
 use Rattle.codec.specs.TwoOutputs.{written_both}
 use Rattle.sheet.specs.Sheet.{Reading, held, read_sheet}
+use Rattle.sheet.proofs.Hand.{read_is}
 use Rattle.chart.specs.declared.Bar.{Bar}
 use Rattle.chart.specs.Decode.{bar_of}
 use Rattle.draw.specs.Label.{charted_both_within}
@@ -15,13 +17,13 @@ use Rattle.draw.proofs.draw_within.Goals as goal
 -- what is drawn of the part is drawn of the sheet
 whole : (c : After-draw_part) (bars : List Bar) → written_both (charted_both_within (limit_of c.args.limit) (held c.in_ok-part.part)) c.args.out.now (map bar_of bars)
     ≡ written_both (charted_both_within (limit_of c.args.limit) (read_sheet c.args.sheet.now)) c.args.out.now (map bar_of bars)
-whole c bars = ap (λ (q : Reading). written_both (charted_both_within (limit_of c.args.limit) q) c.args.out.now (map bar_of bars)) c.in_ok-part.ensures
+whole c bars = read_is (Ok c.in_ok-part.part) (λ (q : Reading). written_both (charted_both_within (limit_of c.args.limit) q) c.args.out.now (map bar_of bars)) c.in_ok-part.ensures.part
 
 pub returns-in_err-part-clause-answer : goal.returns-in_err-part-clause-answer
 unfolding charted_both_within written_both
 returns-in_err-part-clause-answer c =
     let p = err_from_is_err_and c.from_residual.result c.from_residual.ensures.1 in
-    λ bars l. rw (p.1, p.2) (ap (λ (q : Reading). written_both (charted_both_within (limit_of c.args.limit) q) c.args.out.now (map bar_of bars)) c.in_err-part.ensures)
+    λ bars l. rw (p.1, p.2) (read_is (Err c.in_err-part.field-0.0) (λ (q : Reading). written_both (charted_both_within (limit_of c.args.limit) q) c.args.out.now (map bar_of bars)) c.in_err-part.ensures.part)
 
 pub returns-in_err-size-clause-answer : goal.returns-in_err-size-clause-answer
 returns-in_err-size-clause-answer c =

@@ -14,14 +14,14 @@ use Rattle.chart_reader.proofs.Passing.{first_before, gap_put}
 use Rattle.chart_reader.proofs.gaps.put_gap.Goals as goal
 
 pub seek-i-requires : goal.seek-i-requires
-seek-i-requires c = ends_climb _ _ c.requires.bars.1.order
+seek-i-requires c = ends_climb _ _ c.requires.bars.1.1.order
 
 pub bounds-gaps-i : goal.bounds-gaps-i
 bounds-gaps-i c =
     let a = c.args in
     let C = chart_in a.strokes.now.chart.now in
     let under = first_before C a.s (none_is (sym c.is_some.ensures ∙ c.if-is_some.false)) c.stroke_ends.ensures in
-    omega (arith, c.requires.bars.0, end_found C a.strokes.now.n (firsts a.spans.now) (lasts a.spans.now) _ c.requires.bars.1 a.s.a c.requires.stroke.0.low (omega (arith, under, c.address.ensures)) c.seek-i.ensures)
+    omega (arith, c.requires.bars.0, end_found C a.strokes.now.n (firsts a.spans.now) (lasts a.spans.now) _ c.requires.bars.1.1 a.s.a c.requires.stroke.0.low (omega (arith, under, c.address.ensures)) c.seek-i.ensures)
 
 pub returns-clause-some : goal.returns-clause-some
 returns-clause-some c = λ h.

@@ -24,7 +24,7 @@ strokes chart at k = stroke_at chart (get_or at k 0)
 pub loop-place-init : goal.loop-place-init
 loop-place-init c =
     let t = c.args.spans.now in
-    let O = c.requires.bars in
+    let O = c.requires.bars.1 in
     let size = lasts_length c.args.gaps.now ∙ c.requires.none.0 in
     (refl, gaps_none (chart_in c.args.strokes.now.chart.now) (strokes c.args.strokes.now.chart.now c.args.strokes.now.at.now) (firsts t) (lasts t) O.order (lasts c.args.gaps.now) (omega (arith, size, O.order.size, O.count)) (λ i h. c.requires.none.1 i (omega (arith, O.order.size, O.count))), λ h k l. absurd (omega arith))
 
@@ -57,7 +57,7 @@ loop-place-preserved c =
         | else-put_gap w ↦ ap firsts (put.none w.if-put_gap.false).0 ∙ c.loop-place.invariant.0
       ],
       elim c.if-put_gap.branch [
-        | then-put_gap w ↦ gap_next C c.args.strokes.now.n (firsts c.args.spans.now) (lasts c.args.spans.now) _ c.requires.bars rules.0 c.args.strokes.now.found.count (strokes s at) i (lasts c.loop-place.gaps) gaps (stroke_of c.stroke_at.result) is fit named (subst (Gapped C) (sym is) (strokes_at s c.args.strokes.now.n at c.args.strokes.now.found (gapped C rules.0 rules.1) i c.loop-place-test.true)) _ (put.some w.if-put_gap.true).1
+        | then-put_gap w ↦ gap_next C c.args.strokes.now.n (firsts c.args.spans.now) (lasts c.args.spans.now) _ c.requires.bars.1 rules.0 c.args.strokes.now.found.count (strokes s at) i (lasts c.loop-place.gaps) gaps (stroke_of c.stroke_at.result) is fit named (subst (Gapped C) (sym is) (strokes_at s c.args.strokes.now.n at c.args.strokes.now.found (gapped C rules.0 rules.1) i c.loop-place-test.true)) _ (put.some w.if-put_gap.true).1
         | else-put_gap w ↦ subst (GapsIn C (strokes s at) (i + 1) (firsts c.args.spans.now) (lasts c.args.spans.now)) (sym (ap lasts (put.none w.if-put_gap.false).0)) (gaps_same C (strokes s at) (firsts c.args.spans.now) (lasts c.args.spans.now) i (lasts c.loop-place.gaps) gaps (subst (λ (t : Stroke). (d : Cell) → InGap C t d → ⊥) is (put.none w.if-put_gap.false).1))
       ],
       elim c.if-put_gap.branch [

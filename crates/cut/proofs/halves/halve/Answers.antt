@@ -18,12 +18,12 @@ hand : (c : After-bends-bends) → Whole c.args.part.now c.head-h.result c.bends
 hand c = in_whole c.head-h.ensures.valid c.head-h.ensures.corners c.head-h.ensures.angles c.bends-bends.ensures.part c.bends-bends.ensures.all
 
 diagonal : (c : After-bends-bends) → Diagonal c.args.part.now.n (c.args.a — c.args.b)
-diagonal c = all_mem c.head-h.ensures.valid.triangulated.diagonals c.requires
+diagonal c = all_mem c.head-h.ensures.valid.triangulated.diagonals c.requires.part
 
 -- the bends without the cut's
 out : (c : After-remove-left) → Whole c.args.part.now c.head-h.result c.bends-bends.result.now
     → Without c.head-h.result c.bends-bends.result.now (c.args.a — c.args.b) (take c.remove-left.result c.remove-left.new.out)
-out c H = taken_out H (c.args.a — c.args.b) (rw H.same at c.requires) c.key.ensures c.remove-left.ensures.0
+out c H = taken_out H (c.args.a — c.args.b) (rw H.same at c.requires.part) c.key.ensures c.remove-left.ensures.0
 
 -- of these the rest's, where there are as many others as were counted
 rest : (c : After-split-i) → c.remove-left.result ≡ length (take c.remove-left.result c.remove-left.new.out)

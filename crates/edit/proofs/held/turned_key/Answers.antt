@@ -2,7 +2,7 @@
 use mathlib.Core.Path.{◌≡◌}
 use Prim.Native.Nat.{ℕ, ◌+◌}
 use mathlib.Core.List.{[], ◌∷◌}
-use Rattle.std.proofs.Common.{Some, false, replicate, get_or, arith}
+use Rattle.std.proofs.Common.{Some, replicate, get_or, arith}
 use Rattle.std.proofs.lemmas.List.{get_or-replicate, get_or_past, length-replicate}
 use Rattle.polygon.specs.Polygon.{◌—◌}
 use Rattle.keys.specs.Keys.{edges_of}
@@ -12,7 +12,7 @@ use Rattle.edit.proofs.Turning.{first_found, second_found}
 use Rattle.edit.proofs.held.turned_key.Goals.{After-first_common, After-first_common-2}
 use Rattle.edit.proofs.held.turned_key.Goals as goal
 
-unmarked : (n x : ℕ) → get_or (replicate n false) x false ≡ false
+unmarked : (n x : ℕ) → get_or (replicate {A = ℕ} n 0) x 0 ≡ 0
 unmarked n x = grind (arith, get_or-replicate, get_or_past, length-replicate)
 
 first : (c : After-first_common) → (x y : ℕ) → common c.args.n (edges_of c.args.keys.now) (c.args.a — c.args.b) ≡ x ∷ (y ∷ []) → c.first_common.result ≡ Some x

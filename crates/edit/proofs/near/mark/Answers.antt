@@ -2,8 +2,7 @@ use native.Mathlib.Omega.{arith}
 use lib.ListN.{length-set}
 use Rattle.lists.proofs.Places.{map_next}
 use Rattle.keys.specs.Keys.{edge_of}
-use Rattle.edit.proofs.Marking.{near_begin, near_end, near_away}
-use Rattle.edit.proofs.near.mark.Goals.{in-Some, in_default}
+use Rattle.edit.proofs.Marking.{near_begin, near_marked, neighbour_joined}
 use Rattle.edit.proofs.near.mark.Goals as goal
 
 pub loop-key-init : goal.loop-key-init
@@ -15,9 +14,9 @@ loop-key-init c = (
 
 pub loop-key-preserved : goal.loop-key-preserved
 loop-key-preserved c = (
-  omega (arith, c.loop-key.invariant.0),
-  rw (map_next edge_of c.args.keys.now c.loop-key.key-index 0 c.loop-key-test.true) (elim c.match-other_end.branch [
-    | in-Some w ↦ rw w.near-is (near_end c.args.n c.args.c _ _ c.loop-key.near c.loop-key.invariant.1 (omega (arith, c.loop-key.invariant.0, c.requires.sizes.1)) w.in-Some.x (rw w.in-Some.is at c.other_end.ensures))
-    | in_default w ↦ rw w.near-is (near_away c.args.n c.args.c _ _ c.loop-key.near c.loop-key.invariant.1 (rw w.in_default.is at c.other_end.ensures))
-  ]),
+  simp (length-set) c.loop-key.invariant.0,
+  rw (map_next edge_of c.args.keys.now c.loop-key.key-index 0 c.loop-key-test.true, c.unwrap_or.ensures)
+      (near_marked c.args.n c.args.c _ _ c.loop-key.near c.loop-key.invariant.1 (omega (arith, c.loop-key.invariant.0, c.requires.sizes.1)) c.neighbours-a.result.0
+      (rw c.neighbours-a.ensures.0 (neighbour_joined c.args.n c.args.c _ c.requires.sizes.0 c.requires.sizes.2 (rw c.neighbours-a.ensures.0 at c.neighbours-a.ensures.1)))
+      c.other_end.result c.other_end.ensures),
 )

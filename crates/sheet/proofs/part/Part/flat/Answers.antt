@@ -10,13 +10,13 @@ use Rattle.sheet.proofs.part.Part.flat.Goals.{After-flat_bends}
 use Rattle.sheet.proofs.part.Part.flat.Goals as goal
 
 front : (c : After-flat_bends) → take (c.args.n - 3) c.flat_bends.new.bends ≡ map flat_bend c.args.keys.now
-front c = let e : c.args.n - 3 ≡ length c.args.keys.now = omega (arith, flat_count c.args.n c.args.keys.now c.requires) in rw e c.flat_bends.ensures
+front c = let e : c.args.n - 3 ≡ length c.args.keys.now = omega (arith, flat_count c.args.n c.args.keys.now c.requires.part) in rw e c.flat_bends.ensures
 
 pub flat_bends-requires : goal.flat_bends-requires
-flat_bends-requires c = (omega (arith, flat_count c.args.n c.args.keys.now c.requires, c.requires.most), flat_small c.args.n c.args.keys.now c.requires)
+flat_bends-requires c = (c.requires.room, flat_small c.args.n c.args.keys.now c.requires.part)
 
 pub new-requires : goal.new-requires
-new-requires c = rw (flat_same c.args.n c.args.keys.now _ (front (goal.at.new-requires c).After-flat_bends)) c.requires
+new-requires c = rw (flat_same c.args.n c.args.keys.now _ (front (goal.at.new-requires c).After-flat_bends)) c.requires.part
 
 pub returns : goal.returns
 returns c = c.new.ensures ∙ flat_same c.args.n c.args.keys.now _ (front (goal.at.returns c).After-flat_bends)
