@@ -56,16 +56,15 @@ fn raise(bends: &[u32], by: usize, out: &mut [u32])
     }
 }
 
-// The bends of the second half under their new numbers, and the seam's, in order at the front of `out`.
-fn lay(g: Head, second: &[u32], side: usize, out: &mut [u32])
+// The bends of the second half under their new numbers, and the seam's, in order at the front of `out`; `spare` is overwritten.
+fn lay(g: Head, second: &[u32], side: usize, spare: &mut [u32], out: &mut [u32])
     requires part { Valid (whole g second.now) }
-    requires sizes { (side + g.n ≤ 1024) × (g.n ≤ 1023) × (1021 ≤ length out.old) }
+    requires sizes { (side + g.n ≤ 1024) × (g.n ≤ 1023) × (1021 ≤ length out.old) × (1021 ≤ length spare.old) }
     ensures { take (g.n - 2) out.new ≡ sort_keys (laid_bends side g.n second.now) }
 {
-    let mut laid = [0u32; DIAGONALS];
-    raise(second, side, &mut laid);
+    raise(second, side, spare);
     let seam = [bend(key(side, side + g.n - 1), FLAT)];
-    merge(&seam, &laid[..second.len()], out);
+    merge(&seam, &spare[..second.len()], out);
 }
 
 // The bends of both halves under their new numbers, and the seam's, in order at the front of `out`.
@@ -75,7 +74,7 @@ fn sew(h: Head, first: &[u32], g: Head, second: &[u32], side: usize, out: &mut [
     ensures { take (h.n + g.n - 5) out.new ≡ sort_keys (glued_bends side g.n first.now second.now) }
 {
     let mut laid = [0u32; DIAGONALS];
-    lay(g, second, side, &mut laid);
+    lay(g, second, side, out, &mut laid);
     let mut moved = [0u32; DIAGONALS];
     renumber(first, Shift::Up(side, g.n - 2), &mut moved);
     merge(&moved[..first.len()], &laid[..g.n - 2], out);
